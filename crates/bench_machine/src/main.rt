@@ -9,11 +9,11 @@ use ps_base::code_unit::{CodeUnit, Constant, Frame};
 use ps_base::instr::Instr;
 use ps_base::line::Line;
 use ps_base::list::List;
-use stack_machine::RunEnd;
-use stack_machine::load::{load, machine};
-use stack_machine::ps_code::encode::encode;
-use stack_machine::run::run;
-use stack_machine::vault_output::Output;
+use machine_run::RunEnd;
+use machine_run::load::{load, machine};
+use machine_run::ps_code::encode::encode;
+use machine_run::run::run;
+use machine_run::vault_output::Output;
 use std::alloc::{AllocError, Global};
 use std::env;
 
@@ -126,14 +126,17 @@ fn main(rt: HostRuntime) -> Result<()> {
     let host = MemoryHost::new(rt.alloc(), b"", &[], u64::MAX, ROOM)?;
     let mut output = Output::new(rt.alloc())?;
     let mut machine = machine(rt.alloc(), WORDS)?;
-    let Ok(()) = load(&mut machine, &unit, u64::MAX, Vec::new(rt.alloc())) else {
+    let mut vault = NoStore::new(host);
+    let Ok(()) = load(&mut machine, &vault, &unit, u64::MAX, Vec::new(rt.alloc())) else {
         bail!("not loaded");
     };
-    let mut vault = NoStore::new(host);
     match run(&mut machine, &mut vault, &mut output) {
         Ok(RunEnd::Done) => {}
         _ => bail!("not done"),
     }
+    let Ok(()) = output.flush(&mut vault) else {
+        bail!("not written");
+    };
     let host = vault.into_host();
     println!(rt; "{} calls, {} bytes", host.clock(), host.told_bytes().len())?;
     Ok(())

@@ -1,6 +1,7 @@
 -- What an instruction does, from what its parts do: what it takes from the stacks, an operation on objects, and its end.
 use Rattle.std.proofs.Common.{◌≡◌, ℕ, List, sym, ◌∙◌, ap, subst}
 use Rattle.std.specs.Prelude.{IfOk, Result, Ok, Err}
+use Rattle.ps_base.specs.declared.trap.Trap.{Trap}
 use Rattle.machine_core.specs.ps_outside.Outside.{Outside}
 use Rattle.machine_core.specs.obj_layout.Stored.{Space}
 use Rattle.machine_core.specs.obj_layout.declared.reference.Reference.{Reference}
@@ -11,18 +12,17 @@ use Rattle.machine_core.specs.heap_texts.declared.fault.OpFault.{OpFault}
 use Rattle.machine_core.specs.heap_texts.declared.fault.OpFault.TheVariants as op
 use Rattle.machine_core.specs.ps_stepping.Config.{Config}
 use Rattle.machine_core.specs.ps_stepping.Steps.{Step}
-use Rattle.machine_core.specs.joint_ops.World.{BreaksAsReading, BreaksOff}
+use Rattle.machine_core.specs.joint_ops.Made.{BreaksAsMaking}
+use Rattle.machine_core.specs.joint_ops.World.{BreaksAsReading}
 use Rattle.machine_core.specs.declared.machine.Machine.{Machine}
 use Rattle.machine_core.specs.declared.stepped.Stepped.{Stepped}
 use Rattle.machine_core.specs.declared.stepped.Stepped.TheVariants.{Quiet, Turns, Writes, Halts, Breaks, Damaged}
 use Rattle.machine_core.specs.Failing.{FailsAsReading}
-use Rattle.machine_core.specs.Full.{BreaksBy}
-use Rattle.machine_core.specs.Holding.{HeldBy}
+use Rattle.machine_core.specs.Holding.{HeldBy, IsSound}
 use Rattle.machine_core.specs.Naming.{NamesObjects}
 use Rattle.machine_core.specs.Stepped.{Does, Takes, UnlessBroken}
 use Rattle.machine_core.specs.inside.Taking.{Leaves}
-use Rattle.machine_core.proofs.Carrying.{broken-off}
-use Rattle.machine_core.proofs.Failing.{breaks-failing, whole-failing}
+use Rattle.machine_core.proofs.Failing.{breaks-failing, off-failing, room-failing, whole-failing}
 use Rattle.machine_operands.specs.Giving.{BreaksAs, EndsSoundly}
 use Rattle.machine_operands.proofs.Reading.{names-stand}
 
@@ -50,6 +50,9 @@ unless-fault (Ok given) f a = f a
 unless-fault (Err (op.Trap t)) f a = f a
 unless-fault (Err (op.Swizzle fault)) f a = tt
 
+pub after-trap : {T : Type 0} (got : Result T OpFault) (t : Trap) (P : Type 0) → got ≡ Err (op.Trap t) → UnlessFault got P → P
+after-trap {T} got t P is p = subst (λ (x : Result T OpFault). UnlessFault x P) is p
+
 -- An instruction that broke off exactly where its operation did.
 module _ (r : Stepped) (new : Machine) where
   pub so-after : {T : Type 0} (got : Result T OpFault) (P : Type 0) → BreaksAs got r new → UnlessFault got P → UnlessBroken r P
@@ -63,11 +66,11 @@ module _ (r : Stepped) (new : Machine) where
   fails-after before after (Err (op.Trap t)) breaks fails = whole-failing before after r new breaks
   fails-after before after (Err (op.Swizzle fault)) breaks fails = breaks-failing before after new fault r breaks.0 breaks.1 fails
 
-  -- it broke off with the operation, whatever the step is
-  pub off-after : (here now : area.Heap) (before after : Outside Space) (s : Step) → r ≡ Breaks → BreaksOff here now before after new.fault
-      → Does before after here.size s r new
-  off-after here now before after s breaks off =
-      subst (λ (x : Stepped). Does before after here.size s x new) (sym breaks) (broken-off here now before after s new.fault off)
+-- an instruction that makes an object broke off for want of room alone
+pub making-fails : (outside : Outside Space) (old now : area.Heap) (new : Machine) (r : Stepped) (made : Result ℕ OpFault)
+    → (r ≡ Breaks → made ≡ Err (op.Swizzle new.fault)) → BreaksAsMaking old now made → FailsAsReading outside outside r new
+making-fails outside old now new r made breaks lacks =
+    off-failing outside outside r new (λ b. room-failing outside old now new.fault (subst (λ (x : Result ℕ OpFault). BreaksAsMaking old now x) (breaks b) lacks))
 
 -- the area had the same size before parts that left the objects
 pub does-earlier : (before after : Outside Space) (old mid new : Machine) (s : Step) (r : Stepped) → Leaves old mid → Does before after mid.objects.size s r new
@@ -98,5 +101,15 @@ module _ (before after : Outside Space) (of : Config → Step) (old mid : Machin
     sound = ends.sound;
     names = λ n. ends.names (unless-fault got (λ s. names-stand mid now s (left.names n)) stand) lie;
     size = ends.size old.objects.size (unless-fault got (λ s. s ∙ ap (λ (here : area.Heap). here.size) left.objects) size);
+    does = λ c h. does-earlier before after old mid new (of c) r left (does h.names c h.held);
+  }
+
+  -- The operation broke off, and so did the instruction.
+  pub broken-after : (new : Machine) (r : Stepped) → IsSound new → r ≡ Breaks
+      → ((names : List Reference) (c : Config) → HeldBy before names old c → Does before after mid.objects.size (of c) r new) → Takes before after of old new r
+  broken-after new r sound answer does = record {
+    sound = sound;
+    names = λ n. subst (λ (x : Stepped). UnlessBroken x (NamesObjects new)) (sym answer) tt;
+    size = subst (λ (x : Stepped). UnlessBroken x (new.objects.size ≡ old.objects.size)) (sym answer) tt;
     does = λ c h. does-earlier before after old mid new (of c) r left (does h.names c h.held);
   }

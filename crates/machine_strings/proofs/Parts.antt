@@ -9,19 +9,15 @@ use Rattle.machine_core.specs.swizzle.Heap as area
 use Rattle.machine_core.specs.swizzle.Heap.{IsHeld}
 use Rattle.machine_core.specs.swizzle.Touch.{Keeps}
 use Rattle.machine_core.specs.heap_texts.declared.fault.OpFault.{OpFault}
-use Rattle.machine_core.specs.heap_texts.declared.fault.OpFault.TheVariants as op
 use Rattle.machine_core.specs.ps_meaning.Values.{Text}
 use Rattle.machine_core.specs.ps_meaning.Texts.{Attempt}
 use Rattle.machine_core.specs.ps_stepping.Config.{Config}
 use Rattle.machine_core.specs.ps_stepping.Steps.{Step, attempted, pop_text}
 use Rattle.machine_core.specs.ps_stepping.Objects.{make_text}
 use Rattle.machine_core.specs.joint_ops.World.{DenotesIn}
-use Rattle.machine_core.specs.joint_ops.Made.{MakesText, BreaksAsMaking}
+use Rattle.machine_core.specs.joint_ops.Made.{MakesText}
 use Rattle.machine_core.specs.declared.machine.Machine.{Machine}
 use Rattle.machine_core.specs.declared.stepped.Stepped.{Stepped}
-use Rattle.machine_core.specs.declared.stepped.Stepped.TheVariants.{Breaks}
-use Rattle.machine_core.specs.Failing.{FailsAsReading}
-use Rattle.machine_core.proofs.Failing.{off-failing, room-failing}
 use Rattle.machine_core.specs.Holding.{HeldBy, words_of}
 use Rattle.machine_core.specs.Stepped.{Does, Takes, UnlessBroken}
 use Rattle.machine_core.specs.inside.Taking.{Leaves}
@@ -36,12 +32,6 @@ pub use Rattle.machine_operands.proofs.Parts.{both-leave, after-parts}
 pub still-denotes : (out : Outside Space) (old new : Machine) (names : List Reference) (at : ℕ) (bytes : List ℕ) → new.objects ≡ old.objects
     → DenotesIn old.objects out names (Some at) (Text bytes) → DenotesIn new.objects out names (Some at) (Text bytes)
 still-denotes out old new names at bytes same d = subst (λ (here : area.Heap). DenotesIn here out names (Some at) (Text bytes)) (sym same) d
-
--- An instruction that broke off where its making found no room failed so.
-pub making-fails : (out : Outside Space) (last now : area.Heap) (new : Machine) (r : Stepped) (made : Result ℕ OpFault)
-    → (r ≡ Breaks → made ≡ Err (op.Swizzle new.fault)) → BreaksAsMaking last now made → FailsAsReading out out r new
-making-fails out last now new r made breaks lacks =
-    off-failing out out r new (λ b. room-failing out last now new.fault (subst (λ (x : Result ℕ OpFault). BreaksAsMaking last now x) (breaks b) lacks))
 
 module _ (out : Outside Space) (of : Config → Step) (old last : Machine) (left : Leaves old last) where
   module _ (line : Line) (now : area.Heap) (made : Result ℕ OpFault) where

@@ -36,8 +36,7 @@ use Rattle.machine_core.specs.inside.Taking.{Leaves}
 use Rattle.machine_core.proofs.Carrying.{does-behind, size-behind}
 use Rattle.machine_operands.specs.Giving.{BreaksWith, EndsSoundly}
 use Rattle.machine_operands.specs.Popping.{PopsAny}
-use Rattle.machine_operands.proofs.Parts.{does-earlier, ends-after}
-use Rattle.machine_structures.proofs.Parts.{after-trap, broken-after}
+use Rattle.machine_operands.proofs.Parts.{after-trap, broken-after, does-earlier, ends-after}
 use Rattle.machine_structures.specs.declared.traps.Row.{Row}
 use Rattle.machine_structures.specs.inside.Fields.{TrapsAt, trap_at, when_in_row}
 use Rattle.machine_structures.proofs.ClassFields.{HasField, field-follows, field-or-none, lacks-field, names-class, no-field}

@@ -42,8 +42,7 @@ use Rattle.machine_core.specs.inside.Taking.{Leaves, Taken}
 use Rattle.machine_core.proofs.Carrying.{does-behind, held-more, size-behind, sound-kept}
 use Rattle.machine_operands.specs.Giving.{BreaksWith}
 use Rattle.machine_operands.specs.Popping.{PopsAny}
-use Rattle.machine_operands.proofs.Parts.{does-earlier}
-use Rattle.machine_structures.proofs.Parts.{after-trap}
+use Rattle.machine_operands.proofs.Parts.{after-trap, does-earlier}
 use Rattle.machine_operands.proofs.Reading.{names-stand}
 use Rattle.machine_structures.specs.declared.traps.Field.{Field}
 use Rattle.machine_structures.specs.declared.traps.Row.{Row}

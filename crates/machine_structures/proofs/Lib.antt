@@ -1,4 +1,3 @@
-pub mod Parts
 pub mod ClassFields
 pub mod TrapLaws
 pub mod FieldReads

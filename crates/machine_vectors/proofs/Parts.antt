@@ -1,5 +1,5 @@
 -- What an instruction over vectors does, from what its parts take from the stacks and give.
-use Rattle.std.proofs.Common.{◌≡◌, ℕ, List, Option, refl, sym, ap, subst}
+use Rattle.std.proofs.Common.{◌≡◌, ℕ, List, Option, sym, ap, subst}
 use Rattle.std.specs.Prelude.{Result, Ok, Err, IfOk}
 use Rattle.machine_core.specs.ps_outside.Outside.{Outside}
 use Rattle.machine_core.specs.obj_layout.Stored.{Space}
@@ -8,21 +8,17 @@ use Rattle.machine_core.specs.swizzle.Heap as area
 use Rattle.machine_core.specs.swizzle.Touch.{Keeps}
 use Rattle.machine_core.specs.heap_ops.Outcomes.{UnlessFault}
 use Rattle.machine_core.specs.heap_texts.declared.fault.OpFault.{OpFault}
-use Rattle.machine_core.specs.heap_texts.declared.fault.OpFault.TheVariants as op
 use Rattle.machine_core.specs.ps_meaning.Values.{Value}
 use Rattle.machine_core.specs.ps_stepping.Config.{Config}
 use Rattle.machine_core.specs.ps_stepping.Steps.{Step, Stuck}
 use Rattle.machine_core.specs.joint_ops.World.{DenotesIn}
-use Rattle.machine_core.specs.joint_ops.Made.{BreaksAsMaking}
 use Rattle.machine_core.specs.declared.machine.Machine.{Machine}
 use Rattle.machine_core.specs.declared.stepped.Stepped.{Stepped}
-use Rattle.machine_core.specs.declared.stepped.Stepped.TheVariants.{Quiet, Turns, Writes, Halts, Breaks, Damaged}
-use Rattle.machine_core.specs.Failing.{FailsAsReading}
+use Rattle.machine_core.specs.declared.stepped.Stepped.TheVariants.{Breaks, Damaged}
 use Rattle.machine_core.specs.Holding.{HeldBy, IsSound}
 use Rattle.machine_core.specs.Naming.{NamesObjects}
 use Rattle.machine_core.specs.Stepped.{Does, Takes, UnlessBroken}
 use Rattle.machine_core.specs.inside.Taking.{Leaves}
-use Rattle.machine_core.proofs.Failing.{room-failing}
 use Rattle.machine_operands.proofs.Parts.{unless-fault}
 use Rattle.machine_operands.proofs.Reading.{names-kept}
 
@@ -80,14 +76,3 @@ names-after m now got n keeps = unless-fault got (λ k. names-kept m now k n) ke
 pub size-after : {T : Type 0} (m : Machine) (now : area.Heap) (got : Result T OpFault) → UnlessFault got (Keeps m.objects now)
     → UnlessFault got (now.size ≡ m.objects.size)
 size-after m now got keeps = unless-fault got (λ k. k.size) keeps
-
--- An instruction that makes an object breaks off only for want of room.
-pub making-fails : (out : Outside Space) (old new : area.Heap) (made : Result ℕ OpFault) (r : Stepped) (m : Machine)
-    → (r ≡ Breaks → made ≡ Err (op.Swizzle m.fault)) → BreaksAsMaking old new made → FailsAsReading out out r m
-making-fails out old new made Quiet m breaks f = tt
-making-fails out old new made Turns m breaks f = tt
-making-fails out old new made Writes m breaks f = tt
-making-fails out old new made Halts m breaks f = tt
-making-fails out old new made Breaks m breaks f =
-    room-failing out old new m.fault (subst (λ (x : Result ℕ OpFault). BreaksAsMaking old new x) (breaks refl) f)
-making-fails out old new made Damaged m breaks f = tt

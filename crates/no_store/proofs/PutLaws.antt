@@ -18,10 +18,10 @@ module _ (a b : Outside (List ℕ)) (bytes : List ℕ) where
     contents = record { kept = λ x is. is; no_other = λ x is. is };
     counts = call.counts;
     calm = calm;
-    device = call.device;
+    device = λ i. 0;
     cause = λ e. absurd (cc);
     other = λ e. cc;
-    calls = call.calls;
+    calls = λ i. 0;
   }
 
   -- and back

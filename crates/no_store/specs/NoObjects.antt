@@ -3,17 +3,17 @@ use Rattle.std.specs.Prelude.{ℕ, List}
 use Rattle.obj_layout.specs.ps_outside.Outside.{Outside}
 use Rattle.obj_layout.specs.Stored.{Space, Holds}
 
--- What is seen of a store without objects. It tells what its host tells, and counts what that counts; and it holds nothing. What a crash may leave of
--- the host's device it shows as it is, as a file: so who leaves the images of the store leaves those of the device.
+-- What is seen of a store without objects. It tells what its host tells, and counts the faults of that output; it holds nothing, and makes no call of a
+-- device. What a crash may leave of the host's device it shows as it is, as a file: so who leaves the images of the store leaves those of the device.
 abbrev pub outside_of : Outside (List ℕ) → Outside Space
 outside_of host = record {
   clock = host.clock;
   told = host.told;
   images = λ moment space. host.images moment space.file;
   contents = λ space. ⊥;
-  device_faults = host.device_faults;
+  device_faults = 0;
   output_faults = host.output_faults;
-  device_calls = host.device_calls;
+  device_calls = 0;
 }
 
 -- the outside holds no object

@@ -1,5 +1,5 @@
 -- What a run of a program's unit returns is what the program means.
-use Rattle.std.proofs.Common.{◌≡◌, ℕ, ◌+◌, ◌*◌, ◌≤◌, List, [], ◌∷◌, ◌++◌, reverse, refl, sym, ap, ◌∙◌, subst, append_assoc, arith}
+use Rattle.std.proofs.Common.{◌≡◌, ◌⊎◌, inl, inr, ℕ, ◌+◌, ◌*◌, ◌≤◌, List, [], ◌∷◌, ◌++◌, reverse, refl, sym, ap, ◌∙◌, subst, append_assoc, arith}
 use Rattle.std.specs.Prelude.{Result, Ok, Err, None}
 use Rattle.std.specs.List.{AllByRecursion}
 use Rattle.std.proofs.lemmas.List.{reverse-append, append-nil}
@@ -7,11 +7,10 @@ use Rattle.ps_base.specs.CodeUnit.{UnitView, unit_view}
 use Rattle.ps_base.specs.declared.code_unit.CodeUnit.{CodeUnit}
 use Rattle.ps_port.specs.Telling.{TellsAll, FailsAfter}
 use Rattle.ps_port.proofs.Telling.{all_then, fails_then, fails_more}
-use Rattle.ps_port.specs.ps_outside.Outside.{Outside, LeavesSame, TellsNothing}
+use Rattle.ps_port.specs.ps_outside.Outside.{Outside, LeavesSame, TellsNothing, Rose}
+use Rattle.ps_port.proofs.of_ps_outside.Moments.{along_then, along_now}
 use Rattle.ps_port.specs.ps_outside.Past.{KeepsTold}
 use Rattle.ps_port.proofs.of_ps_outside.PastMoments.{past_along}
-use Rattle.ps_causes.specs.obj_store.Store.{Store, outside_of}
-use Rattle.ps_causes.proofs.of_obj_store.LeftLaws.{device_left}
 use Rattle.ps_unit_weights.specs.proc_values.Units.{unit_objects, unit_words}
 use Rattle.ps_program.specs.Node.{BodyNode, body}
 use Rattle.ps_program.specs.Slots.{slot_count}
@@ -28,24 +27,30 @@ use Rattle.ps_code_laws.specs.ps_soundness.Shapes.{type_of_body}
 use Rattle.ps_code_laws.specs.ps_soundness.Valued.{IsValued}
 use Rattle.ps_unit_weights.specs.ps_gen.Units.{unit_of, frame_of, HasUnit}
 use Rattle.ps_code_laws.specs.ps_stepping.Config.{Config, start, frame_in}
-use Rattle.ps_code_laws.specs.ps_stepping.Machine.{Stops, Steps, Runs}
+use Rattle.ps_code_laws.specs.ps_stepping.Machine.{Step, Stops, Steps, Runs}
 use Rattle.ps_code_laws.specs.ps_stepping.Path.{Reaches}
 use Rattle.ps_code_laws.proofs.of_ps_stepping.Paths.{on_the_way, stops_at_the_end, is_never_stuck, front_on_the_way}
 use Rattle.ps_code_laws.proofs.of_ps_stepping.Following.{follow}
-use Rattle.stack_machine.specs.machine_state.declared.machine.Machine.{Machine}
-use Rattle.stack_machine.specs.machine_state.declared.run_end.RunEnd.{RunEnd}
-use Rattle.stack_machine.specs.machine_state.Holding.{Holds}
-use Rattle.stack_machine.specs.machine_state.Stepped.{end_of}
-use Rattle.stack_machine.proofs.of_machine_state.Carrying.{no-room-counted}
-use Rattle.stack_machine.specs.declared.run.RunFault.{RunFault}
-use Rattle.stack_machine.specs.declared.run.RunFault.TheVariants.{Damaged, Full, Output}
-use Rattle.stack_machine.specs.declared.load.NoRoom.{NoRoom}
-use Rattle.stack_machine.specs.machine_state.Full.{LacksRoom}
-use Rattle.stack_machine.specs.Loaded.{IsFrame, IsLoaded, EndsBefore, HasNoRoom, RunsAs, itself, LoadsUnit, Loads}
-use Rattle.stack_machine.specs.Loaded as load
-use Rattle.stack_machine.specs.Ran as vault
-use Rattle.stack_machine.specs.Ran.{Ran, ended, damaged, full, cut, report_cut}
-use Rattle.stack_machine.proofs.Counting.{next_counted}
+use Rattle.machine_run.specs.obj_layout.Stored.{Space}
+use Rattle.machine_run.specs.obj_layout.declared.vault.VaultFault.{VaultFault}
+use Rattle.machine_run.specs.obj_layout.declared.vault.VaultFault.TheVariants.{Device, Damaged}
+use Rattle.machine_run.specs.obj_layout.declared.vault.VaultFault.TheVariants as vault_fault
+use Rattle.machine_run.specs.swizzle.Heap.{fresh_heap}
+use Rattle.machine_run.specs.swizzle.declared.fault.SwizzleFault.{SwizzleFault}
+use Rattle.machine_run.specs.swizzle.declared.fault.SwizzleFault.TheVariants.{AreaFull, Vault}
+use Rattle.machine_run.specs.machine_core.declared.machine.Machine.{Machine}
+use Rattle.machine_run.specs.machine_core.declared.run_end.RunEnd.{RunEnd}
+use Rattle.machine_run.specs.machine_core.Full.{MakesOne, StoresOne}
+use Rattle.machine_run.specs.machine_core.Holding.{Holds}
+use Rattle.machine_run.specs.machine_core.Stepped.{end_of}
+use Rattle.machine_run.proofs.of_joint_ops.CodeLaws.{no-names}
+use Rattle.machine_run.specs.Loaded.{IsFrame, IsLoaded, EndsBefore, HasNoRoom, RunsAs, itself, LoadsUnit, Loads}
+use Rattle.machine_run.specs.Loaded as load
+use Rattle.machine_run.specs.Ran as vault
+use Rattle.machine_run.specs.Ran.{Ran, ended, broke, cut, report_cut}
+use Rattle.machine_run.proofs.Counting.{next_counted}
+use Rattle.no_store.specs.NoObjects.{outside_of}
+use Rattle.no_store.proofs.HoldingLaws.{device-left}
 use Rattle.ps_causes.specs.ps_words.Words.{RunOf}
 use Rattle.ps_causes.specs.ps_reports.declared.status.Status.{Status}
 use Rattle.ps_causes.specs.ps_reports.declared.status.Status.TheVariants as statuses
@@ -60,7 +65,7 @@ use Rattle.ps_causes.proofs.of_ps_volumes.Settled.{answers_keep}
 use Rattle.ps_causes.specs.Command.{its_end, area_full}
 use Rattle.ps_causes.specs.Filling.{area_size, begin, FillsArea, of_the_unit, of_a_step}
 use Rattle.ps_causes.specs.Steps.{EndsRun}
-use Rattle.ps_command.specs.inside.Steps.{IsRunnable, IsReady}
+use Rattle.ps_command.specs.inside.Steps.{IsRunnable, IsReady, Concludes}
 use Rattle.ps_command.proofs.Programs.{first_fits}
 
 outputs-append : (xs ys : List Event) → outputs (xs ++ ys) ≡ outputs xs ++ outputs ys
@@ -107,10 +112,10 @@ itself_run : (u run : UnitView) → IsFrame (frame_in u) → RunsAs u run → ru
 itself_run u run fits (itself is) = refl
 itself_run u run fits (load.damaged is_too_large) = absurd (is_too_large fits)
 
-pub loads_itself : (u : UnitView) (turns : ℕ) (input : List ℕ) (old new : Machine) (answer : Result (Unit {0}) NoRoom) → IsFrame (frame_in u)
-    → Loads u turns input old new answer → LoadsUnit u turns input old new answer
-loads_itself u turns input old new answer fits l =
-    subst (λ (run : UnitView). LoadsUnit run turns input old new answer) (itself_run u l.run fits l.chosen) l.loads
+pub loads_itself : (outside : Outside Space) (u : UnitView) (turns : ℕ) (input : List ℕ) (old new : Machine) (answer : Result (Unit {0}) SwizzleFault)
+    → IsFrame (frame_in u) → Loads outside u turns input old new answer → LoadsUnit outside u turns input old new answer
+loads_itself outside u turns input old new answer fits l =
+    subst (λ (run : UnitView). LoadsUnit outside run turns input old new answer) (itself_run u l.run fits l.chosen) l.loads
 
 -- what the laws say of each program
 abbrev pub AreRun : Type 0
@@ -129,132 +134,46 @@ module _ (unit : CodeUnit) (run : RunOf) (input : List ℕ) (program : BodyNode)
   weighs = subst (λ (u : UnitView). 8 + 8 * unit_words u ≤ code_weight program) (sym r.unit_is) (are_weighed program)
 
   -- a machine that was loaded is ready
-  pub ready : old.sw.size ≡ area_size run → IsLoaded (unit_view unit) run.turns input old m → IsReady run input program m
-  ready size l = record {
+  pub ready : (outside : Outside Space) → old.objects.size ≡ area_size run → IsLoaded outside (unit_view unit) run.turns input old m
+      → IsReady outside run input program m
+  ready outside size l = record {
     sound = l.sound;
+    named = l.named;
     area = l.size ∙ size;
-    starts = subst (λ (u : UnitView). Holds m (start u (fresh_store run.turns input (code_weight program)))) r.unit_is (l.starts (code_weight program) weighs);
+    starts = subst (λ (u : UnitView). Holds outside m (start u (fresh_store run.turns input (code_weight program)))) r.unit_is
+        (l.starts (fresh_store run.turns input (code_weight program))
+        (record { names = []; world = no-names (fresh_heap old.objects.size) outside; turns_are = refl; input_is = refl }));
     runs = runs;
   }
 
-  -- there was no room for its code: the first event counts more than the area has
-  pub never_begins : (top wanted size : ℕ) → old.sw.size ≡ area_size run → HasNoRoom (unit_view unit) old m top wanted size
+  -- there was no room for its code
+  pub never_begins : (top wanted size : ℕ) → old.objects.size ≡ area_size run → HasNoRoom (unit_view unit) old m (AreaFull top wanted size)
       → FillsArea run input program [] top wanted × (size ≡ area_size run)
   never_begins top wanted size is none =
-      let whole : size ≡ area_size run = none.size_is ∙ is in
+      let told : AreaFull top wanted size ≡ AreaFull none.top none.wanted old.objects.size = none.fault_is in
+      let t : top ≡ none.top = cc in
+      let w : wanted ≡ none.wanted = cc in
+      let whole : size ≡ old.objects.size = cc in
       let first = next_counted (run_events run.turns input program) (begin run input program) [] runs in
       let short = none.full in
-      let passed = none.passed in
-      let within = none.within in
-      let counts = first.3 in (
+      let within = none.within in (
         record {
           next = first.0;
           rest = first.1;
           events_are = first.2;
-          passed = omega (arith, whole, passed, weighs, counts);
-          object = of_the_unit refl (subst (λ (u : UnitView). EndsBefore (unit_objects 1 u) top wanted) r.unit_is none.ends);
-          short = omega (arith, whole, short);
-          within = omega (arith, within, weighs, counts);
+          object = of_the_unit refl
+              (subst (λ (u : UnitView). EndsBefore (unit_objects 1 u) top wanted) r.unit_is
+              (subst (λ (n : ℕ). EndsBefore (unit_objects 1 (unit_view unit)) n wanted) (sym t)
+              (subst (λ (n : ℕ). EndsBefore (unit_objects 1 (unit_view unit)) none.top n) (sym w) none.ends)))
+              (omega (arith, within, weighs, t, w));
+          short = omega (arith, is, short, t, w);
         },
-        whole,
+        whole ∙ is,
       )
 
--- a run over a store, from one state to another
-module _ {H : Type 0} (outside : H → Outside (List ℕ)) (a b : Store H) where
-  abbrev old : Outside (List ℕ)
-  old = outside a.host
-
-  abbrev new : Outside (List ℕ)
-  new = outside b.host
-
-  -- what was output by the store was output by its host
-  host_told : (bytes : List ℕ) → vault.TellsAll (outside_of outside a) (outside_of outside b) bytes → TellsAll old new bytes
-  host_told bytes is = record { front = is.first.told; all = is.all; calm = is.calm }
-
-  host_failed : (bytes : List ℕ) → vault.FailsAfter (outside_of outside a) (outside_of outside b) bytes → FailsAfter old new bytes
-  host_failed bytes is = record { front = is.first.told; counts = is.counts; rose = is.rose }
-
-  -- and what a crash may leave of the store it leaves of the device
-  host_left : LeavesSame (outside_of outside a) (outside_of outside b) → LeavesSame old new
-  host_left is = device_left a.used b.used a.committed b.committed a.staged b.staged old new is
-
-  module _ (run : RunOf) (input : List ℕ) (program : BodyNode) (m : Machine) (r : IsReady run input program m) where
-    abbrev total : List Event
-    total = run_events run.turns input program
-
-    abbrev RanTo : Result RunEnd RunFault → Type 0
-    RanTo answer = Ran (outside_of outside a) (outside_of outside b) [] m.sw.size (begin run input program) answer
-
-    -- nothing was pending, and this was answered
-    pub ran_is : (owed : List ℕ) (given answer : Result RunEnd RunFault) → owed ≡ [] → given ≡ answer
-        → Ran (outside_of outside a) (outside_of outside b) owed m.sw.size (begin run input program) given → RanTo answer
-    ran_is owed given answer none is ran =
-        subst (λ (bs : List ℕ). Ran (outside_of outside a) (outside_of outside b) bs m.sw.size (begin run input program) answer) none
-        (subst (λ (x : Result RunEnd RunFault). Ran (outside_of outside a) (outside_of outside b) owed m.sw.size (begin run input program) x) is ran)
-
-    ended_by : (events : List Event) (last : Config) (e : End) → Reaches (begin run input program) events last → Steps last (Stops e) → total ≡ events ++ Finish e last.store.counted ∷ []
-    ended_by events last e way s = stops_at_the_end total (begin run input program) last events e r.runs way s
-
-    -- whatever it came to, the device was left
-    pub left_by_run : (answer : Result RunEnd RunFault) → RanTo answer → LeavesSame old new
-    left_by_run answer (ended way s tells) = host_left tells.first.images
-    left_by_run answer (damaged way s tells) = host_left tells.images
-    left_by_run answer (full way s short passed tells) = host_left tells.first.images
-    left_by_run answer (cut way fails) = host_left fails.first.images
-    left_by_run answer (report_cut e way s fails) = host_left fails.first.images
-
-    -- the run isn't damaged
-    pub never_damaged : RanTo (Err Damaged) → ⊥
-    never_damaged (damaged {events = events} {last = last} way s tells) = is_never_stuck total (begin run input program) last events r.runs way s
-
-    -- where it ended all was output, and the end is the program's
-    pub all_told : (e : RunEnd) (answered : Status) → number_of answered ≡ status_of (end_of e) → RanTo (Ok e) → EndsRun old new run input program (Ok answered)
-    all_told e answered is_status (ended {events = events} {last = last} way s tells) =
-        let is = ended_by events last (end_of e) way s in
-        let status : number_of answered ≡ status_of (run_end run.turns input program) = is_status ∙ ap status_of (end_is run.turns input program events (end_of e) last.store.counted is) in
-        let all = subst (λ (bs : List ℕ). TellsAll old new bs) (sym (told_to_the_end total events (end_of e) last.store.counted is)) (host_told (outputs events ++ report_of (end_of e)) tells) in
-        record {
-          bytes = outputs total;
-          status = status_of (run_end run.turns input program);
-          comes = its_end;
-          ends = answers.ended (subst (λ (n : ℕ). Answers old new (outputs total) (status_of (run_end run.turns input program)) n) (sym status) (whole all));
-        }
-
-    -- where the output failed it was after a prefix of it
-    failed_in : FailsAfter old new (outputs total) → EndsRun old new run input program (Ok statuses.Output)
-    failed_in fails = record { bytes = outputs total; status = status_of (run_end run.turns input program); comes = its_end; ends = answers.ended (answers.cut fails) }
-
-    pub front_told : RanTo (Err Output) → EndsRun old new run input program (Ok statuses.Output)
-    front_told (cut {events = events} {last = last} way fails) =
-        let front = front_on_the_way total (begin run input program) last events r.runs way in
-        let is : outputs total ≡ outputs events ++ outputs front.0 = ap outputs front.1 ∙ outputs-append events front.0 in
-        failed_in (subst (λ (bs : List ℕ). FailsAfter old new bs) (sym is) (fails_more old new (outputs events) (outputs front.0) (host_failed (outputs events) fails)))
-    front_told (report_cut {events = events} {last = last} e way s fails) =
-        failed_in (subst (λ (bs : List ℕ). FailsAfter old new bs) (sym (told_to_the_end total events (end_of e) last.store.counted (ended_by events last (end_of e) way s)))
-        (host_failed (outputs events ++ report_of (end_of e)) fails))
-
-    -- where the area was full, the next event counts more than it has
-    pub fills : (top wanted size : ℕ) → RanTo (Err (Full top wanted size)) → (before : List Event) × FillsArea run input program before top wanted × TellsAll old new (outputs before) × (size ≡ area_size run)
-    fills top wanted size (full {events = events} {last = last} {next = next} way s none passed tells) =
-        let behind = follow total last next events [] (on_the_way total (begin run input program) last [] events r.runs way) s in
-        let first = next_counted total next (events ++ []) behind in
-        let area = r.area in
-        let short = none.full in
-        let within = no-room-counted next top wanted m.sw.size none in
-        let counts = first.3 in (
-          events,
-          record {
-            next = first.0;
-            rest = first.1;
-            events_are = first.2 ∙ ap (λ (es : List Event). es ++ first.0 ∷ first.1) (append-nil events);
-            passed = omega (arith, area, passed, counts);
-            object = of_a_step way s (subst (λ (n : ℕ). LacksRoom next top wanted n) area none);
-            short = omega (arith, area, short);
-            within = omega (arith, within, counts);
-          },
-          host_told (outputs events) tells,
-          area,
-        )
+-- a unit isn't refused by a vault
+pub never_of_vault : (u : UnitView) (old new : Machine) (f : VaultFault) → HasNoRoom u old new (Vault f) → ⊥
+never_of_vault u old new f none = let bad : Vault f ≡ AreaFull none.top none.wanted old.objects.size = none.fault_is in absurd (cc)
 
 -- and its report is left
 pub full_told : (old new : Outside (List ℕ)) (run : RunOf) (input : List ℕ) (program : BodyNode) (before : List Event) (top wanted size : ℕ)
@@ -265,6 +184,133 @@ full_told old new run input program before top wanted size fills is first = reco
   comes = area_full fills;
   ends = subst (λ (n : ℕ). EndsIn old new (outputs before ++ area_full_line top wanted n) 11 (Err (reports.AreaFull top wanted size))) is (reported first);
 }
+
+-- A run beside a vault without objects, from one host to another, and the output of what is pending after it.
+module _ (old mid new : Outside (List ℕ)) where
+  -- what was output by the vault was output by its host
+  host_told : (bytes : List ℕ) → vault.TellsAll (outside_of old) (outside_of mid) bytes → TellsAll old mid bytes
+  host_told bytes is = record { front = is.first.told; all = is.all; calm = is.calm }
+
+  host_failed : (bytes : List ℕ) → vault.FailsAfter (outside_of old) (outside_of mid) bytes → FailsAfter old mid bytes
+  host_failed bytes is = record { front = is.first.told; counts = is.first.leaves.output; rose = is.rose }
+
+  -- and what a crash may leave of the vault it leaves of the device
+  pub left_by_run : vault.LeavesAll (outside_of old) (outside_of mid) → LeavesSame mid new → LeavesSame old new
+  left_by_run is next = along_then (device-left old mid is.images) next (λ x at. along_now (device-left old mid is.images) x at)
+
+  module _ (run : RunOf) (input : List ℕ) (program : BodyNode) (m : Machine) (r : IsReady (outside_of old) run input program m) where
+    abbrev total : List Event
+    total = run_events run.turns input program
+
+    abbrev RanTo : List ℕ → Result RunEnd SwizzleFault → Type 0
+    RanTo owed answer = Ran (outside_of old) (outside_of mid) [] owed m.objects.size (begin run input program) answer
+
+    -- nothing was pending at the start, and this was answered
+    pub ran_is : (owed left : List ℕ) (given answer : Result RunEnd SwizzleFault) → owed ≡ [] → given ≡ answer
+        → Ran (outside_of old) (outside_of mid) owed left m.objects.size (begin run input program) given → RanTo left answer
+    ran_is owed left given answer none is ran =
+        subst (λ (bs : List ℕ). Ran (outside_of old) (outside_of mid) bs left m.objects.size (begin run input program) answer) none
+        (subst (λ (x : Result RunEnd SwizzleFault). Ran (outside_of old) (outside_of mid) owed left m.objects.size (begin run input program) x) is ran)
+
+    ended_by : (events : List Event) (last : Config) (e : End) → Reaches (begin run input program) events last → Steps last (Stops e)
+        → total ≡ events ++ Finish e last.store.counted ∷ []
+    ended_by events last e way s = stops_at_the_end total (begin run input program) last events e r.runs way s
+
+    -- the run isn't damaged, and no device failed in it
+    pub never_broke : (owed : List ℕ) (fault : VaultFault) → RanTo owed (Err (Vault fault)) → fault ≡ vault_fault.Output
+    never_broke owed Device (broke way s by tells) = absurd (never_rose by)
+      where
+        never_rose : Rose 0 0 → ⊥
+        never_rose rose = grind arith
+    never_broke owed vault_fault.Output ran = refl
+    never_broke owed (vault_fault.Full used wanted capacity) (broke way s by tells) = absurd by
+    never_broke owed (Damaged at found wanted) (broke {events = events} {last = last} way s by tells) =
+        absurd (is_never_stuck total (begin run input program) last events r.runs way (subst (λ (x : Step). Steps last x) by s))
+
+    -- What was due is output in the end, or the output failed in it.
+    concluded : (owed sent whole : List ℕ) (end answer : Result Status Report) → whole ≡ sent ++ owed → TellsAll old mid sent
+        → Concludes mid new owed end answer → ((answer ≡ end) × TellsAll old new whole) ⊎ ((answer ≡ Ok statuses.Output) × FailsAfter old new whole)
+    concluded owed sent whole end answer is told (inl all) =
+        inl (all.0, subst (λ (bs : List ℕ). TellsAll old new bs) (sym is) (all_then old mid new sent owed told all.1))
+    concluded owed sent whole end answer is told (inr fails) =
+        inr (fails.0, subst (λ (bs : List ℕ). FailsAfter old new bs) (sym is) (fails_then old mid new sent owed told fails.1))
+
+    -- where the output failed it was after a prefix of it
+    failed_in : FailsAfter old new (outputs total) → EndsRun old new run input program (Ok statuses.Output)
+    failed_in fails = record { bytes = outputs total; status = status_of (run_end run.turns input program); comes = its_end; ends = answers.ended (answers.cut fails) }
+
+    failed_as : (answer : Result Status Report) → answer ≡ Ok statuses.Output → FailsAfter old new (outputs total) → EndsRun old new run input program answer
+    failed_as answer is fails = subst (λ (e : Result Status Report). EndsRun old new run input program e) (sym is) (failed_in fails)
+
+    -- where it ended all was output, and the end is the program's
+    pub all_told : (owed : List ℕ) (e : RunEnd) (answered : Status) (answer : Result Status Report) → number_of answered ≡ status_of (end_of e) → RanTo owed (Ok e)
+        → Concludes mid new owed (Ok answered) answer → EndsRun old new run input program answer
+    all_told owed e answered answer is_status (ended {events = events} {last = last} way s tells) ends =
+        let is = ended_by events last (end_of e) way s in
+        let status : number_of answered ≡ status_of (run_end run.turns input program) =
+        is_status ∙ ap status_of (end_is run.turns input program events (end_of e) last.store.counted is) in
+        let whole_is = told_to_the_end total events (end_of e) last.store.counted is ∙ tells.due_is in
+        elim (concluded owed tells.sent (outputs total) (Ok answered) answer whole_is (host_told tells.sent tells.tells) ends) [
+          | inl all ↦
+              subst (λ (x : Result Status Report). EndsRun old new run input program x) (sym all.0)
+              (record {
+                bytes = outputs total;
+                status = status_of (run_end run.turns input program);
+                comes = its_end;
+                ends = answers.ended (subst (λ (n : ℕ). Answers old new (outputs total) (status_of (run_end run.turns input program)) n) (sym status) (whole all.1));
+              })
+          | inr fails ↦ failed_as answer fails.0 fails.1
+        ]
+
+    -- what is still to come is none that was output
+    front_failed : (events : List Event) (last : Config) → Reaches (begin run input program) events last → FailsAfter old new (outputs events)
+        → FailsAfter old new (outputs total)
+    front_failed events last way fails =
+        let front = front_on_the_way total (begin run input program) last events r.runs way in
+        let is : outputs total ≡ outputs events ++ outputs front.0 = ap outputs front.1 ∙ outputs-append events front.0 in
+        subst (λ (bs : List ℕ). FailsAfter old new bs) (sym is) (fails_more old new (outputs events) (outputs front.0) fails)
+
+    -- where the area was full, others would have come
+    pub fills : (owed : List ℕ) (top wanted size : ℕ) (answer : Result Status Report) → RanTo owed (Err (AreaFull top wanted size))
+        → Concludes mid new owed (Err (reports.AreaFull top wanted size)) answer → EndsRun old new run input program answer
+    fills owed top wanted size answer (broke {events = events} {last = last} {s = s} way steps by tells) ends =
+        let area : size ≡ area_size run = by.0 ∙ r.area in
+        let made = only_made by.2 in
+        let first = next_counted total made.next (events ++ [])
+        (follow total last made.next events [] (on_the_way total (begin run input program) last [] events r.runs way) (subst (λ (x : Step). Steps last x) made.step_is steps)) in
+        let short = by.1 in
+        let its = r.area in
+        let full : FillsArea run input program events top wanted = record {
+          next = first.0;
+          rest = first.1;
+          events_are = first.2 ∙ ap (λ (es : List Event). es ++ first.0 ∷ first.1) (append-nil events);
+          object = of_a_step way steps made;
+          short = omega (arith, its, short);
+        } in
+        elim (concluded owed tells.sent (outputs events) (Err (reports.AreaFull top wanted size)) answer tells.due_is (host_told tells.sent tells.tells) ends) [
+          | inl all ↦
+              subst (λ (x : Result Status Report). EndsRun old new run input program x) (sym all.0)
+              (full_told old new run input program events top wanted size full area all.1)
+          | inr fails ↦ failed_as answer fails.0 (front_failed events last way fails.1)
+        ]
+      where
+        only_made : MakesOne s wanted ⊎ StoresOne (outside_of old) wanted → MakesOne s wanted
+        only_made (inl made) = made
+        only_made (inr stored) = absurd stored.stored.there.is
+
+    -- where the output failed in the run, nothing was pending
+    cut_in : FailsAfter old mid (outputs total) → EndsRun old mid run input program (Ok statuses.Output)
+    cut_in fails = record { bytes = outputs total; status = status_of (run_end run.turns input program); comes = its_end; ends = answers.ended (answers.cut fails) }
+
+    pub front_told : (owed : List ℕ) → RanTo owed (Err (Vault vault_fault.Output)) → EndsRun old mid run input program (Ok statuses.Output)
+    front_told owed (broke way s by tells) = absurd by
+    front_told owed (cut {events = events} {last = last} way fails none) =
+        let front = front_on_the_way total (begin run input program) last events r.runs way in
+        let is : outputs total ≡ outputs events ++ outputs front.0 = ap outputs front.1 ∙ outputs-append events front.0 in
+        cut_in (subst (λ (bs : List ℕ). FailsAfter old mid bs) (sym is) (fails_more old mid (outputs events) (outputs front.0) (host_failed (outputs events) fails)))
+    front_told owed (report_cut {events = events} {last = last} e way s fails none) =
+        cut_in (subst (λ (bs : List ℕ). FailsAfter old mid bs) (sym (told_to_the_end total events (end_of e) last.store.counted (ended_by events last (end_of e) way s)))
+        (host_failed (outputs events ++ report_of (end_of e)) fails))
 
 -- What a run ends in after calls that output nothing.
 module _ (old mid new : Outside (List ℕ)) (nothing : TellsNothing old mid) (calm : mid.output_faults ≡ old.output_faults) where

@@ -1,2 +1,2 @@
 pub mod inside
-pub use Rattle.stack_machine.specs.obj_layout as obj_layout
+pub use Rattle.machine_run.specs.obj_layout as obj_layout

@@ -4,28 +4,31 @@ ghost use Rattle.ps_base.specs.CodeUnit.{unit_view};
 ghost use Rattle.ps_program.specs.Node.{BodyNode};
 ghost use Rattle.ps_port.specs.ps_outside.Outside.{LeavesSame};
 ghost use Rattle.ps_causes.specs.ps_meaning.Event.{status_of};
-ghost use Rattle.stack_machine.specs.machine_state.Stepped.{end_of};
-ghost use Rattle.stack_machine.specs.Loaded.{IsNew, IsRoomy, Loads};
+ghost use Rattle.machine_run.specs.machine_core.Stepped.{end_of};
+ghost use Rattle.machine_run.specs.Loaded.{IsNew, IsRoomy, Loads};
+ghost use Rattle.no_store.specs.NoObjects.{outside_of};
 ghost use Rattle.ps_causes.specs.ps_words.Words.{RunOf};
 ghost use Rattle.ps_causes.specs.ps_words.Reading.{run_in, IsArea};
 ghost use Rattle.ps_causes.specs.ps_reports.Statuses.{number_of};
 ghost use Rattle.ps_causes.specs.Filling.{area_size};
 ghost use Rattle.ps_causes.specs.Steps.{EndsRun, ProgramWhy};
-ghost use Rattle.ps_command.specs.inside.Steps.{IsRunnable, IsReady};
+ghost use Rattle.ps_command.specs.inside.Steps.{IsRunnable, IsReady, Concludes};
 
 use crate::prepare::Prepared;
+use machine_run::load::{load, machine};
+use machine_run::run::run;
+use machine_run::swizzle::fault::SwizzleFault;
+use machine_run::vault_output::Output;
+use machine_run::{Machine, RunEnd};
+use no_store::NoStore;
+use obj_layout::vault::VaultFault;
 use ps_base::code_unit::CodeUnit;
-use ps_causes::obj_store::ObjStore;
 use ps_causes::ps_reports::{Report, Status};
 use ps_causes::ps_volumes::{Unattached, attached};
 use ps_causes::ps_words::RunWords;
 use ps_code_laws::program_runs_as_meant;
-use ps_port::Host;
+use ps_port::{Host, tell};
 use ps_unit_weights::units_weigh_as_counted;
-use stack_machine::load::{NoRoom, load, machine};
-use stack_machine::run::{RunFault, run};
-use stack_machine::vault_output::Output;
-use stack_machine::{Machine, RunEnd};
 use std::alloc::Global;
 
 /// Runs what was prepared over the volume of the host, and gives its end beside the host. All memory is taken here, before the first event.
@@ -46,73 +49,96 @@ pub(crate) fn execute<H: Host>(
         return (Err(Report::NoMemory), host);
     };
     match attached(alloc, host) {
-        Ok(store) => run_attached(m, output, words, prepared, store),
+        Ok(store) => run_attached(m, output, words, prepared, store.release()),
         Err(Unattached { report, host }) => (Err(report), host),
     }
 }
 
-// Runs it over the store of the attached volume, in which no program keeps anything yet.
+// Runs it over the host of the attached volume, in which no program keeps anything yet: so the vault of the run holds no object.
 fn run_attached<H: Host>(
     m: Machine,
     output: Output,
     words: &RunWords,
     prepared: Prepared,
-    store: ObjStore<H>,
+    host: H,
 ) -> (Result<Status, Report<'static>>, H)
     requires program { (program : BodyNode) × IsRunnable prepared.unit program }
     requires fresh { IsNew (area_size (run_in words.now)) m }
     requires owed { output ≡ [] }
-    requires alive { store.live ≡ true }
-    ensures ran { (program : BodyNode) → IsRunnable prepared.unit program → EndsRun (H.outside store.host) (H.outside result.1) (run_in words.now) prepared.input.items program result.0 }
-    ensures left { LeavesSame (H.outside store.host) (H.outside result.1) }
+    ensures ran { (program : BodyNode) → IsRunnable prepared.unit program → EndsRun (H.outside host) (H.outside result.1) (run_in words.now) prepared.input.items program result.0 }
+    ensures left { LeavesSame (H.outside host) (H.outside result.1) }
 {
     program_runs_as_meant();
     units_weigh_as_counted();
     let mut m = m;
     let Prepared { unit, input } = prepared;
-    match loaded(&mut m, unit, words.turns, input) {
-        Ok(()) => run_loaded(m, output, store),
-        Err(short) => (
-            Err(Report::AreaFull {
-                top: short.top,
-                wanted: short.wanted,
-                size: short.size,
-            }),
-            store.release(),
+    let vault = NoStore::new(host);
+    match loaded(&mut m, &vault, unit, words.turns, input) {
+        Ok(()) => run_loaded(m, output, vault),
+        Err(SwizzleFault::AreaFull { top, wanted, size }) => (
+            Err(Report::AreaFull { top, wanted, size }),
+            vault.into_host(),
         ),
+        Err(SwizzleFault::Vault(_)) => unreachable!(),
     }
 }
 
 // Puts the unit into the machine, and lets it go: the code is run from the area.
-fn loaded(m: &mut Machine, unit: CodeUnit, turns: u64, input: Vec<u8>) -> Result<(), NoRoom>
+fn loaded<H: Host>(
+    m: &mut Machine,
+    vault: &NoStore<H>,
+    unit: CodeUnit,
+    turns: u64,
+    input: Vec<u8>,
+) -> Result<(), SwizzleFault>
     requires { IsRoomy m.old }
-    ensures { Loads (unit_view unit) turns input.items m.old m.new result }
+    ensures { Loads (outside_of (H.outside vault.now.host)) (unit_view unit) turns input.items m.old m.new result }
 {
-    load(m, &unit, turns, input)
+    load(m, vault, &unit, turns, input)
 }
 
-// Runs what is loaded.
+// Runs what is loaded. What is pending after the run goes out by the host.
 fn run_loaded<H: Host>(
     m: Machine,
     output: Output,
-    store: ObjStore<H>,
+    vault: NoStore<H>,
 ) -> (Result<Status, Report<'static>>, H)
-    requires ready { (run : RunOf) × (input : List ℕ) × (program : BodyNode) × IsReady run input program m }
+    requires ready { (run : RunOf) × (input : List ℕ) × (program : BodyNode) × IsReady (outside_of (H.outside vault.host)) run input program m }
     requires owed { output ≡ [] }
-    requires alive { store.live ≡ true }
-    ensures ran { (run : RunOf) (input : List ℕ) (program : BodyNode) → IsReady run input program m → EndsRun (H.outside store.host) (H.outside result.1) run input program result.0 }
-    ensures left { LeavesSame (H.outside store.host) (H.outside result.1) }
+    requires alive { vault.alive ≡ true }
+    ensures ran { (run : RunOf) (input : List ℕ) (program : BodyNode) → IsReady (outside_of (H.outside vault.host)) run input program m
+        → EndsRun (H.outside vault.host) (H.outside result.1) run input program result.0 }
+    ensures left { LeavesSame (H.outside vault.host) (H.outside result.1) }
 {
     let mut m = m;
     let mut output = output;
-    let mut store = store;
-    let end = match run(&mut m, &mut store, &mut output) {
-        Ok(end) => Ok(status(end)),
-        Err(RunFault::Full { top, wanted, size }) => Err(Report::AreaFull { top, wanted, size }),
-        Err(RunFault::Output) => Ok(Status::Output),
-        Err(RunFault::Damaged) => unreachable!(),
-    };
-    (end, store.release())
+    let mut vault = vault;
+    match run(&mut m, &mut vault, &mut output) {
+        Ok(end) => concluded(Ok(status(end)), output, vault.into_host()),
+        Err(SwizzleFault::AreaFull { top, wanted, size }) => concluded(
+            Err(Report::AreaFull { top, wanted, size }),
+            output,
+            vault.into_host(),
+        ),
+        Err(SwizzleFault::Vault(VaultFault::Output)) => (Ok(Status::Output), vault.into_host()),
+        Err(SwizzleFault::Vault(_)) => unreachable!(),
+    }
+}
+
+// What is pending goes out, and then the run ends so; or the output failed in it.
+fn concluded<H: Host>(
+    end: Result<Status, Report<'static>>,
+    output: Output,
+    host: H,
+) -> (Result<Status, Report<'static>>, H)
+    ensures concludes { Concludes (H.outside host) (H.outside result.1) output end result.0 }
+    ensures left { LeavesSame (H.outside host) (H.outside result.1) }
+{
+    let mut host = host;
+    match tell::piece(&mut host, output.owed()) {
+        Ok(()) => (end, host),
+        Err(_) => (Ok(Status::Output), host),
+    }
 }
 
 fn status(end: RunEnd) -> Status

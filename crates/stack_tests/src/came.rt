@@ -1,6 +1,6 @@
-use stack_machine::RunEnd;
-use stack_machine::load::NoRoom;
-use stack_machine::run::RunFault;
+use machine_run::RunEnd;
+use machine_run::obj_layout::vault::VaultFault;
+use machine_run::swizzle::fault::SwizzleFault;
 use unit_rows::table_rows::Buffer;
 
 /// What a run returned: its word, and the numbers after it.
@@ -19,16 +19,8 @@ impl Came {
         }
     }
 
-    // The area is full.
-    fn full(top: u32, wanted: u32, size: u32) -> Came {
-        Came {
-            word: "Full",
-            numbers: [Some(top), Some(wanted), Some(size)],
-        }
-    }
-
     /// What a run came to that ended, or broke off.
-    pub fn of_run(ended: Result<RunEnd, RunFault>) -> Came {
+    pub fn of_run(ended: Result<RunEnd, SwizzleFault>) -> Came {
         match ended {
             Ok(RunEnd::Done) => Came::plain("Done"),
             Ok(RunEnd::Trapped { trap, .. }) => Came {
@@ -36,15 +28,21 @@ impl Came {
                 numbers: [Some(trap as u32), None, None],
             },
             Ok(RunEnd::OutOfTurns) => Came::plain("OutOfTurns"),
-            Err(RunFault::Damaged) => Came::plain("Damaged"),
-            Err(RunFault::Full { top, wanted, size }) => Came::full(top, wanted, size),
-            Err(RunFault::Output) => Came::plain("Output"),
+            Err(fault) => Came::of_fault(fault),
         }
     }
 
-    /// What the loading of a unit came to that the area has no room for.
-    pub fn of_loading(none: NoRoom) -> Came {
-        Came::full(none.top, none.wanted, none.size)
+    /// What a run broke off for, or why a unit wasn't loaded.
+    pub fn of_fault(fault: SwizzleFault) -> Came {
+        match fault {
+            SwizzleFault::AreaFull { top, wanted, size } => Came {
+                word: "Full",
+                numbers: [Some(top), Some(wanted), Some(size)],
+            },
+            SwizzleFault::Vault(VaultFault::Output) => Came::plain("Output"),
+            SwizzleFault::Vault(VaultFault::Damaged { .. }) => Came::plain("Damaged"),
+            SwizzleFault::Vault(_) => Came::plain("Vault"),
+        }
     }
 
     /// Writes it in words.

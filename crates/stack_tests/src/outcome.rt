@@ -1,17 +1,19 @@
 //! Runs of units, and what they return as a text.
 
 ghost use Rattle.std.specs.Prelude.{◌≡◌, true};
-ghost use Rattle.stack_machine.specs.Loaded.{IsRoomy};
+ghost use Rattle.machine_run.specs.Loaded.{IsRoomy};
 
 use crate::came::Came;
 use crate::settings::Settings;
+use machine_run::load::{load, machine};
+use machine_run::obj_layout::vault::{Vault, VaultFault};
+use machine_run::run::run;
+use machine_run::swizzle::fault::SwizzleFault;
+use machine_run::vault_output::Output;
+use machine_run::{Machine, RunEnd};
 use memory_host::MemoryHost;
 use no_store::NoStore;
 use ps_base::code_unit::CodeUnit;
-use stack_machine::Machine;
-use stack_machine::load::{load, machine};
-use stack_machine::run::run;
-use stack_machine::vault_output::Output;
 use std::alloc::{AllocError, Global};
 use unit_rows::put_line;
 use unit_rows::table_rows::Buffer;
@@ -98,9 +100,27 @@ fn came_of(
     requires roomy { IsRoomy machine.old }
     requires alive { vault.old.alive ≡ true }
 {
-    match load(machine, unit, turns, input) {
-        Ok(()) => Came::of_run(run(machine, vault, output)),
-        Err(none) => Came::of_loading(none),
+    match load(machine, vault, unit, turns, input) {
+        Ok(()) => {
+            let ended = run(machine, vault, output);
+            Came::of_run(flushed(vault, output, ended))
+        }
+        Err(fault) => Came::of_fault(fault),
+    }
+}
+
+// What is pending after a run goes out.
+fn flushed(
+    vault: &mut NoStore<MemoryHost>,
+    output: &mut Output,
+    ended: Result<RunEnd, SwizzleFault>,
+) -> Result<RunEnd, SwizzleFault> {
+    if !vault.is_alive() {
+        return ended;
+    }
+    match output.flush(vault) {
+        Ok(()) => ended,
+        Err(_) => Err(SwizzleFault::Vault(VaultFault::Output)),
     }
 }
 

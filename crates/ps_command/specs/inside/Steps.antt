@@ -1,5 +1,5 @@
 -- A program that can be run, and a machine that is ready to run it.
-use Rattle.std.specs.Prelude.{◌≡◌, List, [], ℕ, Option, Some, None}
+use Rattle.std.specs.Prelude.{◌≡◌, ◌⊎◌, List, [], ℕ, Option, Some, None, Result, Ok}
 use Rattle.std.specs.List.{AllByRecursion}
 use Rattle.ps_base.specs.CodeUnit.{unit_view}
 use Rattle.ps_base.specs.declared.code_unit.CodeUnit.{CodeUnit}
@@ -13,8 +13,15 @@ use Rattle.ps_unit_weights.specs.ps_gen.Units.{unit_of, HasUnit}
 use Rattle.ps_causes.specs.ps_words.Words.{RunOf}
 use Rattle.ps_causes.specs.ps_meaning.Runs.{run_events}
 use Rattle.ps_code_laws.specs.ps_stepping.Machine.{Runs}
-use Rattle.stack_machine.specs.machine_state.declared.machine.Machine.{Machine}
-use Rattle.stack_machine.specs.machine_state.Holding.{Holds, IsSound}
+use Rattle.ps_port.specs.ps_outside.Outside.{Outside}
+use Rattle.ps_port.specs.Telling.{TellsAll, FailsAfter}
+use Rattle.ps_causes.specs.ps_reports.declared.status.Status.{Status}
+use Rattle.ps_causes.specs.ps_reports.declared.status.Status.TheVariants.{Output}
+use Rattle.ps_causes.specs.ps_reports.declared.report.Report.{Report}
+use Rattle.machine_run.specs.obj_layout.Stored.{Space}
+use Rattle.machine_run.specs.machine_core.declared.machine.Machine.{Machine}
+use Rattle.machine_run.specs.machine_core.Holding.{Holds, IsSound}
+use Rattle.machine_run.specs.machine_core.Naming.{NamesObjects}
 use Rattle.ps_causes.specs.Command.{GivesProgram, GivesInput}
 use Rattle.ps_causes.specs.Filling.{area_size, begin}
 use Rattle.ps_causes.specs.Steps.{UnreadWhy}
@@ -41,9 +48,15 @@ abbrev pub IsInputUnread : (List ℕ → List ℕ → Type 0) → (List ℕ → 
 IsInputUnread holds lacks may_fail failed None bytes status = ⊥
 IsInputUnread holds lacks may_fail failed (Some name) bytes status = UnreadWhy (holds name) (lacks name) (may_fail name) failed name bytes status
 
--- The machine is at the start of a program, in the area of the run, with its turns and its input, and from there the program's events come.
-pub record IsReady (run : RunOf) (input : List ℕ) (program : BodyNode) (m : Machine) : Type 0 where
+-- The machine is at the start of a program, in the area of the run, with its turns and its input, beside a vault that is seen so; and from there the
+-- program's events come.
+pub record IsReady (outside : Outside Space) (run : RunOf) (input : List ℕ) (program : BodyNode) (m : Machine) : Type 0 where
   pub sound : IsSound m
-  pub area : m.sw.size ≡ area_size run
-  pub starts : Holds m (begin run input program)
+  pub named : NamesObjects m
+  pub area : m.objects.size ≡ area_size run
+  pub starts : Holds outside m (begin run input program)
   pub runs : Runs (run_events run.turns input program) (begin run input program) []
+
+-- What was pending was output, and this is the end; or the output failed in it.
+abbrev pub Concludes : Outside (List ℕ) → Outside (List ℕ) → List ℕ → Result Status Report → Result Status Report → Type 0
+Concludes old new owed end answer = ((answer ≡ end) × TellsAll old new owed) ⊎ ((answer ≡ Ok Output) × FailsAfter old new owed)

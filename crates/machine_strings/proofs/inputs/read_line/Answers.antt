@@ -4,7 +4,8 @@ use Rattle.machine_core.specs.ps_meaning.Texts.{Attempt, behind_line, line_read,
 use Rattle.machine_core.specs.ps_stepping.Steps.{attempted}
 use Rattle.machine_core.specs.ps_stepping.Objects.{read_line, make_text, holding}
 use Rattle.machine_core.specs.joint_ops.Made.{MakesText}
-use Rattle.machine_strings.proofs.Parts.{gives, making-fails}
+use Rattle.machine_operands.proofs.Parts.{making-fails}
+use Rattle.machine_strings.proofs.Parts.{gives}
 use Rattle.machine_strings.proofs.LinesRead.{none-read, line-read, line-passed, line-leaves, held-passed, no-input}
 use Rattle.machine_strings.proofs.inputs.read_line.Goals as goal
 

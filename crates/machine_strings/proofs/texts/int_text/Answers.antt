@@ -3,7 +3,8 @@ use Rattle.std.specs.Fmt.{signed_decimal}
 use Rattle.machine_core.specs.ps_meaning.Texts.{Yields}
 use Rattle.machine_core.specs.ps_stepping.Objects.{int_text, make_text}
 use Rattle.machine_core.specs.joint_ops.Made.{MakesText}
-use Rattle.machine_strings.proofs.Parts.{gives, making-fails}
+use Rattle.machine_operands.proofs.Parts.{making-fails}
+use Rattle.machine_strings.proofs.Parts.{gives}
 use Rattle.machine_strings.proofs.texts.int_text.Goals as goal
 
 pub returns-clause-takes : goal.returns-clause-takes

@@ -1,7 +1,8 @@
 use Rattle.machine_core.specs.ps_meaning.Texts.{join_of}
 use Rattle.machine_core.specs.ps_stepping.Steps.{attempted}
 use Rattle.machine_core.specs.ps_stepping.Objects.{join, make_text}
-use Rattle.machine_strings.proofs.Parts.{both-leave, gives, two-texts, making-fails}
+use Rattle.machine_operands.proofs.Parts.{making-fails}
+use Rattle.machine_strings.proofs.Parts.{both-leave, gives, two-texts}
 use Rattle.machine_strings.proofs.texts.join.Goals as goal
 
 pub returns-clause-takes : goal.returns-clause-takes

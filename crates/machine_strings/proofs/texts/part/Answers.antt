@@ -5,7 +5,8 @@ use Rattle.machine_core.specs.ps_meaning.Texts.{part_of}
 use Rattle.machine_core.specs.ps_stepping.Steps.{attempted, pop_num, pop_text}
 use Rattle.machine_core.specs.ps_stepping.Objects.{part, make_text}
 use Rattle.machine_core.specs.joint_ops.Made.{MakesText}
-use Rattle.machine_strings.proofs.Parts.{both-leave, gives, making-fails}
+use Rattle.machine_operands.proofs.Parts.{making-fails}
+use Rattle.machine_strings.proofs.Parts.{both-leave, gives}
 use Rattle.machine_strings.proofs.texts.part.Goals as goal
 
 pub returns-clause-takes : goal.returns-clause-takes

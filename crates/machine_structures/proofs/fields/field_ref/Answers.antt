@@ -5,7 +5,7 @@ use Rattle.machine_core.specs.heap_texts.declared.fault.OpFault.TheVariants as o
 use Rattle.machine_core.specs.heap_places.Places.{IsNear}
 use Rattle.machine_core.specs.ps_stepping.Steps.{push_ref}
 use Rattle.machine_core.proofs.Failing.{failing-behind, whole-failing}
-use Rattle.machine_structures.proofs.Parts.{after-trap}
+use Rattle.machine_operands.proofs.Parts.{after-trap}
 use Rattle.machine_operands.proofs.Reading.{names-kept}
 use Rattle.machine_structures.specs.declared.traps.Row.TheVariants.{References}
 use Rattle.machine_structures.proofs.FieldReads.{broken-takes, trap-takes, value-takes}

@@ -6,7 +6,7 @@ use Rattle.machine_core.specs.heap_places.Filling.{AreNear}
 use Rattle.machine_core.specs.objects.Makes.{AreRowsFor}
 use Rattle.machine_core.specs.objects.structure_rows.Rows.{named}
 use Rattle.machine_core.specs.Naming.{IsNamed}
-use Rattle.machine_structures.proofs.Parts.{making-fails}
+use Rattle.machine_operands.proofs.Parts.{making-fails}
 use Rattle.machine_structures.proofs.LaidFields.{near-named}
 use Rattle.machine_structures.proofs.Making.{rows-made, too-few-nums, too-few-refs}
 use Rattle.machine_structures.proofs.makes.make_of_rows.Goals as goal

@@ -1,5 +1,5 @@
 use Rattle.std.proofs.Common.{◌≡◌, w32, to_z, of_z, rules}
-use Rattle.machine_vectors.proofs.Parts.{making-fails}
+use Rattle.machine_operands.proofs.Parts.{making-fails}
 use Rattle.machine_vectors.proofs.VectorFills.{filled-made}
 use Rattle.machine_vectors.proofs.fills.fill.Goals as goal
 
@@ -23,4 +23,4 @@ returns-clause-fails g c =
     let v = c.args.vault.now in
     let made = c.make_vector-made in
     let give = c.give_object in
-    making-fails (g.V.Vault.outside v) c.pop_int-2.new.m.objects made.new.self made.result give.result give.new.m (give.ensures v).ends.breaks made.ensures.fails
+    making-fails (g.V.Vault.outside v) c.pop_int-2.new.m.objects made.new.self give.new.m give.result made.result (give.ensures v).ends.breaks made.ensures.fails

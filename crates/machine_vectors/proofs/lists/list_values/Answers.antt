@@ -2,7 +2,7 @@ use Rattle.std.proofs.Common.{◌≡◌, List, length, replicate, w32, to_z, of_
 use Rattle.machine_core.specs.text_forms.Forms.{element_of}
 use Rattle.machine_core.specs.heap_places.declared.value.Value.{Value}
 use Rattle.machine_core.specs.joint_ops.Operands.{AreForIn}
-use Rattle.machine_vectors.proofs.Parts.{making-fails}
+use Rattle.machine_operands.proofs.Parts.{making-fails}
 use Rattle.machine_vectors.proofs.VectorLists.{list-made}
 use Rattle.machine_vectors.proofs.lists.list_values.Goals as goal
 
@@ -28,4 +28,4 @@ returns-clause-fails g c =
     let v = c.args.vault.now in
     let made = c.make_list-made in
     let give = c.give_object in
-    making-fails (g.V.Vault.outside v) c.pop_int.new.m.objects made.new.self made.result give.result give.new.m (give.ensures v).ends.breaks made.ensures.fails
+    making-fails (g.V.Vault.outside v) c.pop_int.new.m.objects made.new.self give.new.m give.result made.result (give.ensures v).ends.breaks made.ensures.fails

@@ -1,18 +1,18 @@
-use Rattle.std.proofs.Common.{refl}
+use Rattle.std.proofs.Common.{refl, subst}
 use Rattle.ps_causes.specs.ps_words.Reading.{run_in}
 use Rattle.ps_causes.proofs.of_ps_volumes.Settled.{volume_kept}
 use Rattle.ps_causes.specs.Steps as steps
+use Rattle.ps_causes.specs.Steps.{EndsRun}
+use Rattle.ps_port.specs.ps_outside.Outside.{LeavesSame}
 use Rattle.ps_command.proofs.Ending.{run_behind, ends_keep}
 use Rattle.ps_command.proofs.execute.execute.Goals as goal
-
-pub run_attached-requires-clause-alive : goal.run_attached-requires-clause-alive
-run_attached-requires-clause-alive g c = c.in-Ok-attached.ensures.ok.live
 
 pub returns-in-Ok-attached : goal.returns-in-Ok-attached
 returns-in-Ok-attached g c =
     let o = g.H.Host.outside in
     let old = o c.args.host in
     let store = c.in-Ok-attached.store in
+    let host = o store.host in
     let back = c.run_attached.result.1 in
     let end = c.run_attached.result.0 in
     let is = c.in-Ok-attached.ensures.ok in
@@ -20,10 +20,10 @@ returns-in-Ok-attached g c =
     let input = c.args.prepared.input.items in
     record {
       why = λ program r.
-          let ran = c.run_attached.ensures.ran program r in
-          steps.ran (run_behind old (o store.host) (o back) is.looks.told is.looks.output run input program end ran)
-          (volume_kept o old store (o back) is c.run_attached.ensures.left (ends_keep (o store.host) (o back) ran.bytes ran.status end ran.ends)
-          (g.met.H.Host.is_image back));
+          let ran = subst (λ h. EndsRun (o h) (o back) run input program end) c.release.ensures (c.run_attached.ensures.ran program r) in
+          let left = subst (λ h. LeavesSame (o h) (o back)) c.release.ensures c.run_attached.ensures.left in
+          steps.ran (run_behind old host (o back) is.looks.told is.looks.output run input program end ran)
+          (volume_kept o old store (o back) is left (ends_keep host (o back) ran.bytes ran.status end ran.ends) (g.met.H.Host.is_image back));
     }
 
 pub returns-in_default : goal.returns-in_default

@@ -1,4 +1,0 @@
-pub mod Entries
-pub mod Shapes
-pub mod Access
-pub mod Reaching

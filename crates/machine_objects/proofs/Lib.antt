@@ -1,3 +1,0 @@
-pub mod FieldWrites
-pub mod VectorReads
-pub mod FieldsReached

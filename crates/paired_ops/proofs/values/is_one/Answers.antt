@@ -1,7 +1,0 @@
-use Rattle.paired_ops.proofs.ValueLaws.{is-one, tells-same}
-use Rattle.paired_ops.proofs.values.is_one.Goals as goal
-
-pub returns : goal.returns
-returns c of names v w world d e nv nw =
-    is-one c.args.sw.now of names c.args.a c.args.b v w c.eq.result c.sound.ensures world d e nv nw
-    (tells-same c.args.a c.args.b c.eq.result c.eq.ensures)
