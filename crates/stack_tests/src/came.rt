@@ -7,7 +7,7 @@ use unit_rows::table_rows::Buffer;
 #[derive(Clone, Copy)]
 pub struct Came {
     word: &'static str,
-    numbers: [Option<u32>; 3],
+    numbers: [Option<u64>; 3],
 }
 
 impl Came {
@@ -25,7 +25,7 @@ impl Came {
             Ok(RunEnd::Done) => Came::plain("Done"),
             Ok(RunEnd::Trapped { trap, .. }) => Came {
                 word: "Trapped",
-                numbers: [Some(trap as u32), None, None],
+                numbers: [Some(u64::from(trap as u32)), None, None],
             },
             Ok(RunEnd::OutOfTurns) => Came::plain("OutOfTurns"),
             Err(fault) => Came::of_fault(fault),
@@ -37,11 +37,36 @@ impl Came {
         match fault {
             SwizzleFault::AreaFull { top, wanted, size } => Came {
                 word: "Full",
-                numbers: [Some(top), Some(wanted), Some(size)],
+                numbers: [
+                    Some(u64::from(top)),
+                    Some(u64::from(wanted)),
+                    Some(u64::from(size)),
+                ],
             },
-            SwizzleFault::Vault(VaultFault::Output) => Came::plain("Output"),
-            SwizzleFault::Vault(VaultFault::Damaged { .. }) => Came::plain("Damaged"),
-            SwizzleFault::Vault(_) => Came::plain("Vault"),
+            SwizzleFault::Vault(fault) => Came::of_vault(fault),
+        }
+    }
+
+    // The same of a fault of the vault. Of an object that has a PID it has the damage's numbers.
+    fn of_vault(fault: VaultFault) -> Came {
+        match fault {
+            VaultFault::Output => Came::plain("Output"),
+            VaultFault::Device => Came::plain("Device"),
+            VaultFault::Full { .. } => Came::plain("VaultFull"),
+            VaultFault::Damaged { at: 0, .. } => Came::plain("Damaged"),
+            VaultFault::Damaged { at, found, wanted } => Came {
+                word: "Damaged",
+                numbers: [Some(at), Some(found), Some(wanted)],
+            },
+        }
+    }
+
+    /// Its letter, where a call of a store or an output was to fail: `d` for the device, `o` for the output, and `?` for all else.
+    pub fn letter(self) -> &'static str {
+        match self.word {
+            "Device" => "d",
+            "Output" => "o",
+            _ => "?",
         }
     }
 
@@ -51,7 +76,7 @@ impl Came {
         for number in self.numbers {
             if let Some(number) = number {
                 out.put(" ");
-                out.number(u64::from(number));
+                out.number(number);
             }
         }
     }

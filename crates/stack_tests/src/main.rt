@@ -12,17 +12,22 @@
 //!   once for each of these calls, with that call failing: it must come to `Output` after the half of that call's bytes, by no further call. And once
 //!   more, with the call after the last one failing: it must come to what the row says, by exactly these calls.
 //!
-//! A row of the last two kinds may set settings in its head for itself. After its second field may stand, each in a field of its own, bodies, and
+//! - `store`: the objects of a store, for the rows after it.
+//! - `fetches`: a program beside the store, as `run` has it; between the two lines of its second field stands one with a letter for each call of the store,
+//!   what the run returns where that call fails: `d` for the device, and `o` for the output.
+//!
+//! A row of the kinds that are run may set settings in its head for itself. After its second field may stand, each in a field of its own, bodies, and
 //! `input LINE`: the input of a run. Where there is none, it is empty.
 //!
 //! A setting is a word `NAME=NUMBER`: the turns that the program has are `turns` (0 where nothing is said), the words of the area `words` (8192), the
-//! program's locals `nums` and `refs` (0), the call of the host that fails `failing`, from 0 on (none), and the bytes that are left of its code `cut`
-//! (all).
+//! program's locals `nums` and `refs` (0), the call of the host that fails `failing`, from 0 on (none), the bytes that are left of its code `cut`
+//! (all), and the object of the store that is its scope `scope`, from 1 on: with it the program is run beside the store (none).
 //!
 //! The file `instructions.rows` has the table of the instructions, as `docs/formats.md` lists them. In these tables each instruction that has a line has
 //! line 7.
 //!
-//! A run comes to `Done`, `Trapped TRAP`, `OutOfTurns`, `Damaged`, `Full TOP WANTED SIZE` or `Output` (it failed).
+//! A run comes to `Done`, `Trapped TRAP`, `OutOfTurns`, `Damaged`, `Full TOP WANTED SIZE`, `Device` (it failed) or `Output` (it failed). Of a
+//! damaged object that has a PID it is `Damaged PID FOUND WANTED`.
 #![tactic(auto)]
 
 mod calls;
@@ -32,6 +37,7 @@ mod program;
 mod rows;
 mod setting;
 mod settings;
+mod stored;
 
 use crate::rows::compare_rows;
 use unit_rows::table_rows::Tables;
@@ -41,7 +47,7 @@ use unit_rows::table_rows::anyhow::{Context, Result};
 const INSTRUCTIONS: &str = "instructions.rows";
 
 /// The files of the tables.
-const TABLES: [&str; 15] = [
+const TABLES: [&str; 16] = [
     "values.rows",
     "loops.rows",
     "writes.rows",
@@ -57,6 +63,7 @@ const TABLES: [&str; 15] = [
     "hostile_bytes.rows",
     "procedures.rows",
     "kept_names.rows",
+    "stored.rows",
 ];
 
 fn main(rt: HostRuntime) -> Result<()> {

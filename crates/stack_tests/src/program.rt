@@ -1,11 +1,12 @@
 use crate::calls::{put_calls_found, put_calls_wanted};
 use crate::outcome::{put_run, put_told};
 use crate::settings::Settings;
+use crate::stored::Stored;
 use ps_base::code_unit::CodeUnit;
 use unit_rows::row_words::number_of;
 use unit_rows::table_rows::anyhow::Result;
 use unit_rows::table_rows::{Buffer, Row};
-use unit_rows::{RowKind, Table, bytes_of, line_at, unit_of, word_at};
+use unit_rows::{RowKind, Store, Table, bytes_of, line_at, unit_of, word_at};
 
 /// What the field of an input begins with.
 const INPUT: &[u8] = b"input ";
@@ -17,16 +18,24 @@ pub struct Program<'a> {
     pub settings: Settings,
     kind: RowKind,
     pub row: &'a Row,
+    store: &'a Store,
 }
 
 impl<'a> Program<'a> {
-    /// The program of a row of this kind.
-    pub fn new(table: Table<'a>, settings: Settings, kind: RowKind, row: &'a Row) -> Program<'a> {
+    /// The program of a row of this kind, and the store that it may run beside.
+    pub fn new(
+        table: Table<'a>,
+        settings: Settings,
+        kind: RowKind,
+        row: &'a Row,
+        store: &'a Store,
+    ) -> Program<'a> {
         Program {
             table,
             settings,
             kind,
             row,
+            store,
         }
     }
 
@@ -35,6 +44,12 @@ impl<'a> Program<'a> {
         let field = self.row.field(1);
         match self.kind {
             RowKind::Calls => put_calls_wanted(out, field),
+            RowKind::Fetches => {
+                out.bytes(line_at(field, 0));
+                out.put("\n");
+                out.bytes(line_at(field, 1));
+                put_line_told(out, None, line_at(field, 2));
+            }
             _ => self.put_run_wanted(out, field),
         }
     }
@@ -68,11 +83,30 @@ impl<'a> Program<'a> {
         }
     }
 
-    // Writes what is found of its unit, which is run once.
+    // Writes what is found of its unit, which is run with its input.
     fn put_run_found(self, out: &mut Buffer, unit: &CodeUnit) {
         match bytes_of(out.alloc(), self.input()) {
-            Ok(input) => put_run(out, self.settings, unit, &input, self.settings.failing),
+            Ok(input) => match self.settings.scope {
+                Some(scope) => self.put_stored(out, unit, &input, scope),
+                None => put_run(out, self.settings, unit, &input, self.settings.failing),
+            },
             Err(_) => out.fail(),
+        }
+    }
+
+    // The same beside the store, in the scope that is the object of this place.
+    fn put_stored(self, out: &mut Buffer, unit: &CodeUnit, input: &[u8], scope: u64) {
+        let stored = Stored {
+            unit,
+            input,
+            settings: self.settings,
+            store: self.store,
+            // where the store has no such object, there is none of this PID
+            scope: self.store.pid(scope).unwrap_or(u64::MAX),
+        };
+        match self.kind {
+            RowKind::Fetches => stored.put_fetches(out),
+            _ => stored.put_run(out),
         }
     }
 

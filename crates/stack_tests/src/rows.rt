@@ -2,7 +2,7 @@ use crate::program::Program;
 use crate::settings::{PLAIN, Settings};
 use unit_rows::table_rows::anyhow::{Context, Result};
 use unit_rows::table_rows::{Buffer, Row, Tables};
-use unit_rows::{RowKind, Table};
+use unit_rows::{RowKind, Store, Table, store_of};
 
 /// Compares each row of a file with what is found of it.
 pub fn compare_rows(tables: &mut Tables, instructions: &[u8], file: &str) -> Result<()> {
@@ -15,6 +15,7 @@ fn compare_all(tables: &mut Tables, instructions: &[u8], file: &str, rows: &[Row
     let mut names: &[u8] = &[];
     let mut constants: &[u8] = &[];
     let mut given = PLAIN;
+    let mut store = Store::new(tables.alloc);
     for row in rows {
         match kind_of(file, row)? {
             RowKind::Names => names = row.field(0),
@@ -22,9 +23,13 @@ fn compare_all(tables: &mut Tables, instructions: &[u8], file: &str, rows: &[Row
                 constants = row.field(0);
                 given = settings_of(PLAIN, file, row)?;
             }
+            RowKind::Store => {
+                let table = Table::new(instructions, names, constants);
+                store = store_of(tables.alloc, table.lexicon, row.field(0))?;
+            }
             kind => {
                 let table = Table::new(instructions, names, constants);
-                compare_row(tables, file, Program::new(table, given, kind, row))?;
+                compare_row(tables, file, Program::new(table, given, kind, row, &store))?;
             }
         }
     }

@@ -7,6 +7,7 @@ pub enum Setting {
     Refs,
     Failing,
     Cut,
+    Scope,
 }
 
 impl Setting {
@@ -19,6 +20,7 @@ impl Setting {
             b"refs" => Some(Setting::Refs),
             b"failing" => Some(Setting::Failing),
             b"cut" => Some(Setting::Cut),
+            b"scope" => Some(Setting::Scope),
             _ => None,
         }
     }

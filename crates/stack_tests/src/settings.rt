@@ -17,6 +17,8 @@ pub struct Settings {
     pub failing: Option<u64>,
     /// How many bytes of its code the program has, where it has as many.
     pub cut: usize,
+    /// The object of the store that is the scope of the program, from 1 on. With none it runs without a store.
+    pub scope: Option<u64>,
 }
 
 /// Those that hold where nothing else is given.
@@ -27,6 +29,7 @@ pub const PLAIN: Settings = Settings {
     refs: 0,
     failing: None,
     cut: usize::MAX,
+    scope: None,
 };
 
 impl Settings {
@@ -63,6 +66,7 @@ impl Settings {
             Setting::Refs => self.refs = u16::try_from(number).ok()?,
             Setting::Failing => self.failing = Some(number),
             Setting::Cut => self.cut = usize::try_from(number).ok()?,
+            Setting::Scope => self.scope = Some(number),
         }
         Some(())
     }

@@ -1,6 +1,6 @@
 //! The assembler: from the words of a code to its bytes, by the table of the instructions alone.
 
-use crate::label::Label;
+use crate::label::{Label, place_of};
 use crate::lexicon::Lexicon;
 use crate::words::word_at;
 use anyhow::{Error, Result, anyhow};
@@ -155,18 +155,8 @@ impl<'a> Assembled<'a> {
 fn put_places<'a>(code: &mut [u8], labels: &[Label<'a>], wanted: &[Label<'a>]) -> Option<&'a [u8]> {
     for label in wanted {
         match place_of(label.name, labels) {
-            Some(place) => put_place(code, label.place, place),
+            Some(place) => put_place(code, label.place, place as u32),
             None => return Some(label.name),
-        }
-    }
-    None
-}
-
-// The place of a label.
-fn place_of(name: &[u8], labels: &[Label<'_>]) -> Option<u32> {
-    for label in labels {
-        if label.name == name {
-            return u32::try_from(label.place).ok();
         }
     }
     None

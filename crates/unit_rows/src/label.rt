@@ -4,3 +4,13 @@ pub struct Label<'a> {
     pub name: &'a [u8],
     pub place: usize,
 }
+
+/// The place of a name among these.
+pub fn place_of(name: &[u8], labels: &[Label<'_>]) -> Option<usize> {
+    for label in labels {
+        if label.name == name {
+            return Some(label.place);
+        }
+    }
+    None
+}

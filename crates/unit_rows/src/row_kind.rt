@@ -11,6 +11,10 @@ pub enum RowKind {
     Run,
     /// A program, which is run with each of its calls of the host failing.
     Calls,
+    /// It says what a store holds for the rows after it.
+    Store,
+    /// A program, which is run beside the store with each of its calls of the store failing.
+    Fetches,
 }
 
 impl RowKind {
@@ -21,6 +25,8 @@ impl RowKind {
             b"given" => Some(RowKind::Given),
             b"run" => Some(RowKind::Run),
             b"calls" => Some(RowKind::Calls),
+            b"store" => Some(RowKind::Store),
+            b"fetches" => Some(RowKind::Fetches),
             _ => None,
         }
     }
