@@ -284,8 +284,27 @@ fn peek_number(sw: &Swizzle, known: &KnownVectors, vector: u32, at: i32) -> Opti
     };
     match found.form {
         Form::Reference => None,
-        _ => Some(low_half(sw.num_behind(vector, 1, 2 + found.place))),
+        form => match number_in(form, sw.num_behind(vector, 1, 2 + found.place)) {
+            Some(number) => Some(number),
+            None => None,
+        },
     }
+}
+
+// The number that is stored as a word of this form; None where the word is none of the form.
+#[inline(always)]
+fn number_in(form: Form, word: u64) -> Option<i32>
+    ensures int { IfSome result (λ number. (z : ℤ) → int_in word ≡ Some z → number ≡ z) }
+    ensures flag { IfSome result (λ number. (b : Bool) → flag_in word ≡ Some b → number ≡ number_of b) }
+{
+    let is_one = match form {
+        Form::Flag => word <= 1,
+        _ => int_of_word(word).is_some(),
+    };
+    if is_one {
+        return Some(low_half(word));
+    }
+    None
 }
 
 // The number that the low half of a word is.
