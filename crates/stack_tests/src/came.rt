@@ -61,11 +61,10 @@ impl Came {
         }
     }
 
-    /// Its letter, where a call of a store or an output was to fail: `d` for the device, `o` for the output, and `?` for all else.
+    /// Its letter, where a call of a store was to fail: `d` for the device, and `?` for all else.
     pub fn letter(self) -> &'static str {
         match self.word {
             "Device" => "d",
-            "Output" => "o",
             _ => "?",
         }
     }

@@ -14,7 +14,7 @@
 //!
 //! - `store`: the objects of a store, for the rows after it.
 //! - `fetches`: a program beside the store, as `run` has it; between the two lines of its second field stands one with a letter for each call of the store,
-//!   what the run returns where that call fails: `d` for the device, and `o` for the output.
+//!   `d` where the run comes to `Device` with that call failing, and else `?`.
 //!
 //! A row of the kinds that are run may set settings in its head for itself. After its second field may stand, each in a field of its own, bodies, and
 //! `input LINE`: the input of a run. Where there is none, it is empty.
