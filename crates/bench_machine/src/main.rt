@@ -2,6 +2,11 @@
 #![tactic(auto)]
 
 use anyhow::{Context, Result, bail};
+use machine_run::RunEnd;
+use machine_run::load::{load, machine};
+use machine_run::ps_code::encode::encode;
+use machine_run::run::run;
+use machine_run::vault_output::Output;
 use memory_host::MemoryHost;
 use no_store::NoStore;
 use ps_base::bytes::Bytes;
@@ -9,11 +14,6 @@ use ps_base::code_unit::{CodeUnit, Constant, Frame};
 use ps_base::instr::Instr;
 use ps_base::line::Line;
 use ps_base::list::List;
-use machine_run::RunEnd;
-use machine_run::load::{load, machine};
-use machine_run::ps_code::encode::encode;
-use machine_run::run::run;
-use machine_run::vault_output::Output;
 use std::alloc::{AllocError, Global};
 use std::env;
 

@@ -16,12 +16,12 @@ ghost use Rattle.ps_command.specs.inside.Steps.{IsRunnable, IsReady, Concludes};
 
 use crate::prepare::Prepared;
 use machine_run::load::{load, machine};
+use machine_run::obj_layout::vault::VaultFault;
 use machine_run::run::run;
 use machine_run::swizzle::fault::SwizzleFault;
 use machine_run::vault_output::Output;
 use machine_run::{Machine, RunEnd};
 use no_store::NoStore;
-use obj_layout::vault::VaultFault;
 use ps_base::code_unit::CodeUnit;
 use ps_causes::ps_reports::{Report, Status};
 use ps_causes::ps_volumes::{Unattached, attached};

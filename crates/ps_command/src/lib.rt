@@ -11,5 +11,5 @@ mod prepare;
 mod source_fault;
 
 pub use command::psalgol;
-pub use ps_causes::obj_store;
 pub use machine_run::obj_layout;
+pub use ps_causes::obj_store;
