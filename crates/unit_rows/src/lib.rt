@@ -33,6 +33,7 @@ mod text_form;
 mod unit;
 mod words;
 
+pub use assembler::assemble;
 pub use lexicon::Lexicon;
 pub use row_kind::RowKind;
 pub use row_words;
