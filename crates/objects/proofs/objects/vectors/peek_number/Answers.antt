@@ -19,11 +19,11 @@ num_behind-requires c =
       below = number-below c.args.sw.now c.args.vector _ c.in-Some.found.form c.in-Some.found.place c.sound.ensures (c.in-Some.ensures c.args.sw.now c.requires) row;
     }
 
-pub returns-in_default-form-in-Some : goal.returns-in_default-form-in-Some
-returns-in_default-form-in-Some c =
-    let x = c.in-Some-2.number in
+pub returns-in-Some-number_in : goal.returns-in-Some-number_in
+returns-in-Some-number_in c =
+    let x = c.in-Some-number_in.number in
     let same : to_z w32 (of_z w32 x) ≡ x = search rules in
     subst (HasNumber c.args.sw.now c.args.vector c.args.at) (sym same)
     (subst (λ (at : ℤ). HasNumber c.args.sw.now c.args.vector at x) (to_z-of_z w32 c.args.at c.ranges.at)
     (number-there c.args.sw.now c.args.vector _ x c.in-Some.found.form c.in-Some.found.place c.num_behind.result (c.in-Some.ensures c.args.sw.now c.requires)
-    (other-form c.in-Some.found.form c.in_default-form.not-Reference) c.num_behind.ensures c.in-Some-2.ensures.int c.in-Some-2.ensures.flag))
+    (other-form c.in-Some.found.form c.in_default-form.not-Reference) c.num_behind.ensures c.in-Some-number_in.ensures.int c.in-Some-number_in.ensures.flag))
