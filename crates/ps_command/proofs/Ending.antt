@@ -171,9 +171,10 @@ module _ (unit : CodeUnit) (run : RunOf) (input : List ℕ) (program : BodyNode)
         whole ∙ is,
       )
 
--- a unit isn't refused by a vault
-pub never_of_vault : (u : UnitView) (old new : Machine) (f : VaultFault) → HasNoRoom u old new (Vault f) → ⊥
-never_of_vault u old new f none = let bad : Vault f ≡ AreaFull none.top none.wanted old.objects.size = none.fault_is in absurd (cc)
+-- the fault of a unit that wasn't loaded
+pub has_no_room : (u : UnitView) (old new : Machine) (fault : SwizzleFault) → HasNoRoom u old new fault
+    → (top : ℕ) × (wanted : ℕ) × (size : ℕ) × (fault ≡ AreaFull top wanted size)
+has_no_room u old new fault none = (none.top, none.wanted, old.objects.size, none.fault_is)
 
 -- and its report is left
 pub full_told : (old new : Outside (List ℕ)) (run : RunOf) (input : List ℕ) (program : BodyNode) (before : List Event) (top wanted size : ℕ)
@@ -217,7 +218,7 @@ module _ (old mid new : Outside (List ℕ)) where
     ended_by events last e way s = stops_at_the_end total (begin run input program) last events e r.runs way s
 
     -- the run isn't damaged, and no device failed in it
-    pub never_broke : (owed : List ℕ) (fault : VaultFault) → RanTo owed (Err (Vault fault)) → fault ≡ vault_fault.Output
+    never_broke : (owed : List ℕ) (fault : VaultFault) → RanTo owed (Err (Vault fault)) → fault ≡ vault_fault.Output
     never_broke owed Device (broke way s by tells) = absurd (never_rose by)
       where
         never_rose : Rose 0 0 → ⊥
@@ -227,12 +228,18 @@ module _ (old mid new : Outside (List ℕ)) where
     never_broke owed (Damaged at found wanted) (broke {events = events} {last = last} way s by tells) =
         absurd (is_never_stuck total (begin run input program) last events r.runs way (subst (λ (x : Step). Steps last x) by s))
 
+    -- so the area is full, where the output didn't fail
+    pub only_full : (owed : List ℕ) (fault : SwizzleFault) → RanTo owed (Err fault) → (fault ≡ Vault vault_fault.Output → ⊥)
+        → (top : ℕ) × (wanted : ℕ) × (size : ℕ) × (fault ≡ AreaFull top wanted size)
+    only_full owed (AreaFull top wanted size) ran isnt = (top, wanted, size, refl)
+    only_full owed (Vault fault) ran isnt = absurd (isnt (ap Vault (never_broke owed fault ran)))
+
     -- What was due is output in the end, or the output failed in it.
-    concluded : (owed sent whole : List ℕ) (end answer : Result Status Report) → whole ≡ sent ++ owed → TellsAll old mid sent
-        → Concludes mid new owed end answer → ((answer ≡ end) × TellsAll old new whole) ⊎ ((answer ≡ Ok statuses.Output) × FailsAfter old new whole)
-    concluded owed sent whole end answer is told (inl all) =
+    concluded : (owed sent due : List ℕ) (end answer : Result Status Report) → due ≡ sent ++ owed → TellsAll old mid sent
+        → Concludes mid new owed end answer → ((answer ≡ end) × TellsAll old new due) ⊎ ((answer ≡ Ok statuses.Output) × FailsAfter old new due)
+    concluded owed sent due end answer is told (inl all) =
         inl (all.0, subst (λ (bs : List ℕ). TellsAll old new bs) (sym is) (all_then old mid new sent owed told all.1))
-    concluded owed sent whole end answer is told (inr fails) =
+    concluded owed sent due end answer is told (inr fails) =
         inr (fails.0, subst (λ (bs : List ℕ). FailsAfter old new bs) (sym is) (fails_then old mid new sent owed told fails.1))
 
     -- where the output failed it was after a prefix of it

@@ -1,14 +1,17 @@
 //! A run over the volume of a host.
-ghost use Rattle.std.specs.Prelude.{◌≡◌, ◌*◌, [], List, ℕ, true};
+ghost use Rattle.std.specs.Prelude.{◌≡◌, ◌≢◌, ◌*◌, [], List, ℕ, true, false};
 ghost use Rattle.ps_base.specs.CodeUnit.{unit_view};
 ghost use Rattle.ps_program.specs.Node.{BodyNode};
 ghost use Rattle.ps_port.specs.ps_outside.Outside.{LeavesSame};
 ghost use Rattle.ps_causes.specs.ps_meaning.Event.{status_of};
+ghost use Rattle.machine_run.specs.obj_layout.declared.vault.VaultFault.TheVariants.{Output};
+ghost use Rattle.machine_run.specs.swizzle.declared.fault.SwizzleFault.TheVariants.{AreaFull, Vault};
 ghost use Rattle.machine_run.specs.machine_core.Stepped.{end_of};
 ghost use Rattle.machine_run.specs.Loaded.{IsNew, IsRoomy, Loads};
 ghost use Rattle.no_store.specs.NoObjects.{outside_of};
 ghost use Rattle.ps_causes.specs.ps_words.Words.{RunOf};
 ghost use Rattle.ps_causes.specs.ps_words.Reading.{run_in, IsArea};
+ghost use Rattle.ps_causes.specs.ps_reports.declared.report.Report.TheVariants as reports;
 ghost use Rattle.ps_causes.specs.ps_reports.Statuses.{number_of};
 ghost use Rattle.ps_causes.specs.Filling.{area_size};
 ghost use Rattle.ps_causes.specs.Steps.{EndsRun, ProgramWhy};
@@ -75,11 +78,7 @@ fn run_attached<H: Host>(
     let vault = NoStore::new(host);
     match loaded(&mut m, &vault, unit, words.turns, input) {
         Ok(()) => run_loaded(m, output, vault),
-        Err(SwizzleFault::AreaFull { top, wanted, size }) => (
-            Err(Report::AreaFull { top, wanted, size }),
-            vault.into_host(),
-        ),
-        Err(SwizzleFault::Vault(_)) => unreachable!(),
+        Err(fault) => (Err(no_room(fault)), vault.into_host()),
     }
 }
 
@@ -115,13 +114,31 @@ fn run_loaded<H: Host>(
     let mut vault = vault;
     match run(&mut m, &mut vault, &mut output) {
         Ok(end) => concluded(Ok(status(end)), output, vault.into_host()),
-        Err(SwizzleFault::AreaFull { top, wanted, size }) => concluded(
-            Err(Report::AreaFull { top, wanted, size }),
-            output,
-            vault.into_host(),
-        ),
-        Err(SwizzleFault::Vault(VaultFault::Output)) => (Ok(Status::Output), vault.into_host()),
-        Err(SwizzleFault::Vault(_)) => unreachable!(),
+        Err(fault) => {
+            if is_output(fault) {
+                return (Ok(Status::Output), vault.into_host());
+            }
+            concluded(Err(no_room(fault)), output, vault.into_host())
+        }
+    }
+}
+
+// Whether the output failed.
+fn is_output(fault: SwizzleFault) -> bool
+    ensures output { result ≡ true → fault ≡ Vault Output }
+    ensures other { result ≡ false → fault ≢ Vault Output }
+{
+    matches!(fault, SwizzleFault::Vault(VaultFault::Output))
+}
+
+// The report of a full area.
+fn no_room(fault: SwizzleFault) -> Report<'static>
+    requires { (top : ℕ) × (wanted : ℕ) × (size : ℕ) × (fault ≡ AreaFull top wanted size) }
+    ensures { (top wanted size : ℕ) → fault ≡ AreaFull top wanted size → result ≡ reports.AreaFull top wanted size }
+{
+    match fault {
+        SwizzleFault::AreaFull { top, wanted, size } => Report::AreaFull { top, wanted, size },
+        SwizzleFault::Vault(_) => unreachable!(),
     }
 }
 
@@ -131,7 +148,7 @@ fn concluded<H: Host>(
     output: Output,
     host: H,
 ) -> (Result<Status, Report<'static>>, H)
-    ensures concludes { Concludes (H.outside host) (H.outside result.1) output end result.0 }
+    ensures concludes { Concludes (H.outside host) (H.outside result.1) output end.entry result.0 }
     ensures left { LeavesSame (H.outside host) (H.outside result.1) }
 {
     let mut host = host;
