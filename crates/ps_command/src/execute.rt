@@ -4,7 +4,7 @@ ghost use Rattle.ps_base.specs.CodeUnit.{unit_view};
 ghost use Rattle.ps_program.specs.Node.{BodyNode};
 ghost use Rattle.ps_port.specs.ps_outside.Outside.{LeavesSame};
 ghost use Rattle.ps_causes.specs.ps_meaning.Event.{status_of};
-ghost use Rattle.machine_run.specs.obj_layout.declared.vault.VaultFault.TheVariants.{Output};
+ghost use Rattle.machine_run.specs.obj_layout.declared.vault.VaultFault.TheVariants as vault_fault;
 ghost use Rattle.machine_run.specs.swizzle.declared.fault.SwizzleFault.TheVariants.{AreaFull, Vault};
 ghost use Rattle.machine_run.specs.machine_core.Stepped.{end_of};
 ghost use Rattle.machine_run.specs.Loaded.{IsNew, IsRoomy, Loads};
@@ -125,8 +125,8 @@ fn run_loaded<H: Host>(
 
 // Whether the output failed.
 fn is_output(fault: SwizzleFault) -> bool
-    ensures output { result ≡ true → fault ≡ Vault Output }
-    ensures other { result ≡ false → fault ≢ Vault Output }
+    ensures output { result ≡ true → fault ≡ Vault vault_fault.Output }
+    ensures other { result ≡ false → fault ≢ Vault vault_fault.Output }
 {
     matches!(fault, SwizzleFault::Vault(VaultFault::Output))
 }

@@ -51,8 +51,8 @@ no_room-requires g c =
     has_no_room u old c.loaded.new.m c.in-Err.fault
     (subst (λ a. LoadsUnit out u c.args.words.now.turns c.args.prepared.input.items old c.loaded.new.m a) c.in-Err.is loads)
 
-pub returns-in-Err-clause-ran : goal.returns-in-Err-clause-ran
-returns-in-Err-clause-ran g c program r =
+pub returns-clause-ran : goal.returns-clause-ran
+returns-clause-ran g c program r =
     let o = g.H.Host.outside in
     let run = run_in c.args.words.now in
     let unit = c.args.prepared.unit in
@@ -76,8 +76,8 @@ returns-in-Ok-clause-left g c =
     let o = g.H.Host.outside in
     subst (λ h. LeavesSame (o h) (o c.run_loaded.result.1)) c.new-vault.ensures.host c.run_loaded.ensures.left
 
-pub returns-in-Err-clause-left : goal.returns-in-Err-clause-left
-returns-in-Err-clause-left g c =
+pub returns-clause-left : goal.returns-clause-left
+returns-clause-left g c =
     let o = g.H.Host.outside in
     let start = o c.args.host in
     subst (λ h. LeavesSame start (o h)) (sym (c.into_host.ensures ∙ c.new-vault.ensures.host)) (along_none start.clock start.images)

@@ -36,7 +36,7 @@ no_room-requires g c =
     let r = c.requires.ready.3 in
     let ran = ran_is old mid mid run input program c.args.m r c.args.output c.run.new.output c.run.result (Err c.in-Err.fault) c.requires.owed
     c.in-Err.is (c.run.ensures.ran (begin run input program) r.starts) in
-    only_full old mid mid run input program c.args.m r c.run.new.output c.in-Err.fault ran (c.is_output.ensures.other c.is_output.is)
+    only_full old mid mid run input program c.args.m r c.run.new.output c.in-Err.fault ran (c.is_output.ensures.other c.if-is_output.false)
 
 pub returns-clause-ran : goal.returns-clause-ran
 returns-clause-ran g c run input program r =
@@ -47,19 +47,19 @@ returns-clause-ran g c run input program r =
     let owed = c.run.new.output in
     let ran = ran_is old mid new run input program c.args.m r c.args.output owed c.run.result (Err c.in-Err.fault) c.requires.owed
     c.in-Err.is (c.run.ensures.ran (begin run input program) r.starts) in
-    let is = only_full old mid new run input program c.args.m r owed c.in-Err.fault ran (c.is_output.ensures.other c.is_output.is) in
+    let is = only_full old mid new run input program c.args.m r owed c.in-Err.fault ran (c.is_output.ensures.other c.if-is_output.false) in
     let full = subst (λ f. Ran (outside_of old) (outside_of mid) [] owed c.args.m.objects.size (begin run input program) (Err f)) is.3 ran in
     let ends = subst (λ h. Concludes (o h) new owed (Err c.no_room.result) c.concluded-in-Err.result.0) c.into_host-in-Err.ensures c.concluded-in-Err.ensures.concludes in
     fills old mid new run input program c.args.m r owed is.0 is.1 is.2 c.concluded-in-Err.result.0 full
     (subst (λ e. Concludes mid new owed (Err e) c.concluded-in-Err.result.0) (c.no_room.ensures is.0 is.1 is.2 is.3) ends)
 
-pub returns-in-Err-clause-ran : goal.returns-in-Err-clause-ran
-returns-in-Err-clause-ran g c run input program r =
+pub returns-then-is_output-clause-ran : goal.returns-then-is_output-clause-ran
+returns-then-is_output-clause-ran g c run input program r =
     let o = g.H.Host.outside in
     let old = o c.args.vault.host in
     let mid = o c.run.new.vault.host in
     let ran = ran_is old mid mid run input program c.args.m r c.args.output c.run.new.output c.run.result (Err (Vault Output)) c.requires.owed
-    (c.in-Err.is ∙ ap Err (c.is_output.ensures.output c.is_output.is)) (c.run.ensures.ran (begin run input program) r.starts) in
+    (c.in-Err.is ∙ ap Err (c.is_output.ensures.output c.if-is_output.true)) (c.run.ensures.ran (begin run input program) r.starts) in
     subst (λ h. EndsRun old (o h) run input program (Ok statuses.Output)) (sym c.into_host.ensures)
     (front_told old mid mid run input program c.args.m r c.run.new.output ran)
 
@@ -75,8 +75,8 @@ returns-clause-left g c =
     left_by_run (o c.args.vault.host) (o c.run.new.vault.host) (o c.concluded-in-Err.result.1) c.run.ensures.leaves
     (subst (λ h. LeavesSame (o h) (o c.concluded-in-Err.result.1)) c.into_host-in-Err.ensures c.concluded-in-Err.ensures.left)
 
-pub returns-in-Err-clause-left : goal.returns-in-Err-clause-left
-returns-in-Err-clause-left g c =
+pub returns-then-is_output-clause-left : goal.returns-then-is_output-clause-left
+returns-then-is_output-clause-left g c =
     let o = g.H.Host.outside in
     let old = o c.args.vault.host in
     let mid = o c.run.new.vault.host in
