@@ -60,7 +60,7 @@ returns-then-is_output-clause-ran g c run input program r =
     let mid = o c.run.new.vault.host in
     let ran = ran_is old mid mid run input program c.args.m r c.args.output c.run.new.output c.run.result (Err (Vault Output)) c.requires.owed
     (c.in-Err.is ∙ ap Err (c.is_output.ensures.output c.if-is_output.true)) (c.run.ensures.ran (begin run input program) r.starts) in
-    subst (λ h. EndsRun old (o h) run input program (Ok statuses.Output)) (sym c.into_host.ensures)
+    subst (λ h. EndsRun old (o h) run input program (Ok statuses.Output)) (sym c.into_host-then-is_output.ensures)
     (front_told old mid mid run input program c.args.m r c.run.new.output ran)
 
 pub returns-in-Ok-clause-left : goal.returns-in-Ok-clause-left
@@ -80,5 +80,5 @@ returns-then-is_output-clause-left g c =
     let o = g.H.Host.outside in
     let old = o c.args.vault.host in
     let mid = o c.run.new.vault.host in
-    subst (λ h. LeavesSame old (o h)) (sym c.into_host.ensures)
+    subst (λ h. LeavesSame old (o h)) (sym c.into_host-then-is_output.ensures)
     (left_by_run old mid mid c.run.ensures.leaves (along_none mid.clock mid.images))
