@@ -154,10 +154,13 @@ impl<'a> Assembled<'a> {
 // Puts the places of the labels where they are wanted. Answers the name that is no label.
 fn put_places<'a>(code: &mut [u8], labels: &[Label<'a>], wanted: &[Label<'a>]) -> Option<&'a [u8]> {
     for label in wanted {
-        match place_of(label.name, labels) {
-            Some(place) => put_place(code, label.place, place as u32),
-            None => return Some(label.name),
-        }
+        let Some(place) = place_of(label.name, labels) else {
+            return Some(label.name);
+        };
+        let Ok(place) = u32::try_from(place) else {
+            return Some(label.name);
+        };
+        put_place(code, label.place, place);
     }
     None
 }

@@ -173,12 +173,14 @@ impl<'a> Laid<'a> {
     }
 
     fn put_reference(&mut self, word: &'a [u8]) -> Option<()> {
-        match (word, number_of(word)) {
-            (b"nil", _) => self.put_word(0),
-            (_, Some(pid)) => self.put_word(PID.checked_add(pid)?),
-            _ => {
+        if let Some(pid) = number_of(word) {
+            return self.put_word(PID.checked_add(pid)?);
+        }
+        match word {
+            b"nil" => self.put_word(0),
+            name => {
                 let place = self.words.len();
-                self.wanted.push(Label { name: word, place }).ok()?;
+                self.wanted.push(Label { name, place }).ok()?;
                 self.put_word(0)
             }
         }
