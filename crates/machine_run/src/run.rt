@@ -54,10 +54,20 @@ fn advance<V: Vault>(m: &mut Machine, vault: &mut V, output: &mut Output) -> Adv
         Stepped::Halts => Advanced::Ended,
         Stepped::Breaks => Advanced::Broke,
         Stepped::Damaged => {
-            m.fault = code_damage(m, own);
+            blame_code(m, own);
             Advanced::Broke
         }
     }
+}
+
+// The machine's fault is that the code that runs is damaged at this offset. It stands apart so that a step clears no memory for it.
+#[inline(never)]
+fn blame_code(m: &mut Machine, at: u32)
+    requires { NamesObjects m.old }
+    ensures fault { BlamesCode m.old at m.new.fault }
+    ensures rest { m.new ≡ record m.old { fault = m.new.fault } }
+{
+    m.fault = code_damage(m, at);
 }
 
 // The code that runs is damaged at this offset: the fault has its PID, which is 0 where it has none, the offset, and how many bytes the code has.

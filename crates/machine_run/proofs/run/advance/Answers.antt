@@ -1,6 +1,8 @@
 -- What a step returns.
 use Rattle.std.proofs.Common.{subst, sym}
+use Rattle.machine_core.specs.declared.machine.Machine.{Machine}
 use Rattle.machine_run.specs.declared.run.Advanced.{Advanced}
+use Rattle.machine_run.specs.declared.run.Advanced.TheVariants.{Broke}
 use Rattle.machine_run.specs.inside.Advancing.{Advances}
 use Rattle.machine_run.proofs.Between.{item-written, advance_quiet, advance_turned, advance_wrote, advance_halts, advance_breaks, advance_damaged}
 use Rattle.machine_run.proofs.run.advance.Goals as goal
@@ -44,5 +46,8 @@ returns-in-Breaks-clause-advances g c =
 pub returns-in-Damaged-clause-advances : goal.returns-in-Damaged-clause-advances
 returns-in-Damaged-clause-advances g c =
     let outside = g.V.Vault.outside in
-    advance_damaged (outside c.args.vault.now) (outside c.step.new.vault) c.args.output.now c.args.m.now c.step.new.m c.in-Damaged.ensures.leaves
-    c.args.m.now.at c.code_damage-m.result c.code_damage-m.ensures c.in-Damaged.ensures.takes
+    let old = outside c.args.vault.now in
+    let new = outside c.step.new.vault in
+    let output = c.args.output.now in
+    subst (λ (m : Machine). Advances old new output output c.args.m.now m Broke) (sym c.blame_code.ensures.rest)
+    (advance_damaged old new output c.args.m.now c.step.new.m c.in-Damaged.ensures.leaves c.args.m.now.at c.blame_code.new.m.fault c.blame_code.ensures.fault c.in-Damaged.ensures.takes)
