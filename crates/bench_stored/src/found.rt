@@ -25,7 +25,7 @@ pub fn sum_found(alloc: Global, texts: u32, passes: u32) -> Result<u64> {
     for _ in 0..passes {
         let mut place = 0u64;
         for _ in 0..texts {
-            place = (place + 7_919) % u64::from(texts);
+            place = place.wrapping_add(7_919) % u64::from(texts);
             match sw.touch_pid(&mut vault, 1 + SIZE * place) {
                 Ok(at) => sum = sum.wrapping_add(u64::from(at)),
                 Err(_) => bail!("not found"),

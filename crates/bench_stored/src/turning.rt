@@ -1,21 +1,16 @@
 //! Loops over one object.
-ghost use Rattle.std.specs.Prelude.{◌≡◌, true, IfOk, OnOk};
-ghost use Rattle.machine_run.specs.machine_core.Holding.{IsSound};
-ghost use Rattle.machine_run.specs.machine_core.Naming.{NamesObjects};
-
 use crate::object::{CLASS, INSTRUCTIONS, NAMES, NEXT, Object, Origin, STORE, VECTOR};
 use anyhow::{Result, bail};
+use machine_run::RunEnd;
 use machine_run::load::{load, machine};
 use machine_run::run::run;
-use machine_run::swizzle::fault::SwizzleFault;
 use machine_run::vault_output::Output;
-use machine_run::{Machine, RunEnd};
-use memory_vault::memory::MemoryVault;
 use ps_base::bytes::Bytes;
 use ps_base::code_unit::{CodeUnit, Constant, Frame};
 use ps_base::list::List;
-use std::alloc::{AllocError, Global};
-use unit_rows::{Lexicon, Store, assemble, store_of};
+use std::alloc::Global;
+use stored_scopes::{enter, vault_of};
+use unit_rows::{Lexicon, assemble, store_of};
 
 // The words of the area, and those that the vault has room for.
 const WORDS: u32 = 8_192;
@@ -32,49 +27,22 @@ const LEXICON: Lexicon<'static> = Lexicon {
 pub fn told(alloc: Global, object: Object, origin: Origin, turns: u32) -> Result<Vec<u8>> {
     let unit = unit_of(alloc, object, origin, turns)?;
     let store = store_of(alloc, LEXICON, STORE)?;
-    let mut vault = vault_of(alloc, &store)?;
+    let mut vault = vault_of(alloc, &store.words)?;
     let mut output = Output::new(alloc)?;
     let mut machine = machine(alloc, WORDS)?;
     let Ok(()) = load(&mut machine, &vault, &unit, u64::MAX, Vec::new(alloc)) else {
         bail!("not loaded");
     };
-    let Ok(()) = enter(&mut machine, &mut vault, origin) else {
-        bail!("no scope");
-    };
+    if let Origin::Stored = origin {
+        let Ok(()) = enter(&mut machine, &mut vault, SCOPE) else {
+            bail!("no scope");
+        };
+    }
     match run(&mut machine, &mut vault, &mut output) {
         Ok(RunEnd::Done) => {}
         _ => bail!("not done"),
     }
     Ok(Vec::from_slice(alloc, output.owed())?)
-}
-
-// The stored scope becomes the machine's, where the objects are stored.
-fn enter(machine: &mut Machine, vault: &mut MemoryVault, origin: Origin) -> Result<(), SwizzleFault>
-    requires sound { IsSound machine.old }
-    requires names { NamesObjects machine.old }
-    requires alive { vault.old.alive ≡ true }
-    ensures sound { OnOk result (IsSound machine.new) }
-    ensures names { OnOk result (NamesObjects machine.new) }
-    ensures alive { OnOk result (vault.new.alive ≡ true) }
-{
-    match origin {
-        Origin::Stored => {
-            machine.scope = machine.objects.fetch(vault, 1)?;
-            Ok(())
-        }
-        Origin::New => Ok(()),
-    }
-}
-
-// The vault that holds a store.
-fn vault_of(alloc: Global, store: &Store) -> Result<MemoryVault, AllocError>
-    ensures { IfOk result (λ vault. vault.alive ≡ true) }
-{
-    let words = store.words.as_slice();
-    if words.is_empty() || words.len() as u64 > ROOM {
-        return MemoryVault::new(alloc, ROOM);
-    }
-    MemoryVault::of_words(alloc, words, 0, ROOM)
 }
 
 // The unit of a loop of so many turns.

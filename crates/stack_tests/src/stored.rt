@@ -1,8 +1,6 @@
 //! Runs of units beside a store, in a scope that it holds, and what they return as a text.
 
-ghost use Rattle.std.specs.Prelude.{◌≡◌, true, IfOk, OnOk};
-ghost use Rattle.machine_run.specs.machine_core.Holding.{IsSound};
-ghost use Rattle.machine_run.specs.machine_core.Naming.{NamesObjects};
+ghost use Rattle.std.specs.Prelude.{◌≡◌, true};
 ghost use Rattle.machine_run.specs.Loaded.{IsRoomy};
 
 use crate::came::Came;
@@ -11,19 +9,13 @@ use crate::settings::Settings;
 use machine_run::Machine;
 use machine_run::load::{load, machine};
 use machine_run::run::run;
-use machine_run::swizzle::fault::SwizzleFault;
 use machine_run::vault_output::Output;
 use memory_vault::memory::MemoryVault;
 use ps_base::code_unit::CodeUnit;
 use std::alloc::{AllocError, Global};
+use stored_scopes::{enter, vault_of};
 use unit_rows::Store;
 use unit_rows::table_rows::Buffer;
-
-// The words, and the bytes of output, that the store of a test has room for.
-const ROOM: u64 = 1 << 20;
-
-// The greatest PID.
-const MOST_PID: u64 = (1 << 63) - 1;
 
 /// A unit with its input, and the scope of a store that it is run in.
 #[derive(Clone, Copy)]
@@ -81,7 +73,7 @@ impl Stored<'_> {
 
     // What it returns, over a new machine, where this call of the store fails and each after it.
     fn outcome(self, alloc: Global, failing: Option<u64>) -> Result<Outcome, AllocError> {
-        let mut vault = vault_of(alloc, self.store)?;
+        let mut vault = vault_of(alloc, &self.store.words)?;
         if let Some(call) = failing {
             vault.fail_from(call);
         }
@@ -109,33 +101,9 @@ impl Stored<'_> {
         if let Err(fault) = load(machine, vault, self.unit, self.settings.turns, input) {
             return Came::of_fault(fault);
         }
-        match entered(machine, vault, self.scope) {
+        match enter(machine, vault, self.scope) {
             Ok(()) => Came::of_run(run(machine, vault, output)),
             Err(fault) => Came::of_fault(fault),
         }
     }
-}
-
-// The vault that holds a store.
-fn vault_of(alloc: Global, store: &Store) -> Result<MemoryVault, AllocError>
-    ensures { IfOk result (λ vault. vault.alive ≡ true) }
-{
-    let words = store.words.as_slice();
-    if words.is_empty() || words.len() as u64 > ROOM {
-        return MemoryVault::new(alloc, ROOM);
-    }
-    MemoryVault::of_words(alloc, words, 0, ROOM)
-}
-
-// The scope of this PID becomes the machine's.
-fn entered(machine: &mut Machine, vault: &mut MemoryVault, scope: u64) -> Result<(), SwizzleFault>
-    requires sound { IsSound machine.old }
-    requires names { NamesObjects machine.old }
-    requires alive { vault.old.alive ≡ true }
-    ensures sound { OnOk result (IsSound machine.new) }
-    ensures names { OnOk result (NamesObjects machine.new) }
-    ensures alive { OnOk result (vault.new.alive ≡ true) }
-{
-    machine.scope = machine.objects.fetch(vault, scope.clamp(1, MOST_PID))?;
-    Ok(())
 }
