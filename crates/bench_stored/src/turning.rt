@@ -12,10 +12,11 @@ use std::alloc::Global;
 use stored_scopes::{enter, vault_of};
 use unit_rows::{Lexicon, assemble, store_of};
 
-// The words of the area, and those that the vault has room for.
+// The words of the area.
 const WORDS: u32 = 8_192;
 
-const ROOM: u64 = 65_536;
+// The PID of the scope.
+const SCOPE: u64 = 1;
 
 // The instructions of the loops, without other names.
 const LEXICON: Lexicon<'static> = Lexicon {
