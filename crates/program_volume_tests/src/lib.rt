@@ -6,6 +6,6 @@ mod commands;
 #[cfg(test)]
 mod files;
 #[cfg(test)]
-mod making;
+mod kept;
 #[cfg(test)]
-mod objects;
+mod making;

@@ -1,6 +1,6 @@
 use Rattle.std.proofs.Common.{refl, arith}
 use Rattle.command_answers.specs.obj_layout.declared.kind.Kind.TheVariants.{Text}
-use Rattle.program_volume_tests.proofs.objects.text.Goals as goal
+use Rattle.program_volume_tests.proofs.kept.text.Goals as goal
 
 pub returns : goal.returns
 returns c = record {
