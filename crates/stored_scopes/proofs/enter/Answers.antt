@@ -2,7 +2,7 @@ use Rattle.std.proofs.Common.{ℕ, zero, suc}
 use Rattle.machine_run.specs.swizzle.Heap as area
 use Rattle.machine_run.specs.swizzle.Heap.{IsHeld}
 use Rattle.machine_run.specs.machine_core.Naming.{IsNamed}
-use Rattle.machine_run.proofs.of_machine_operands.Reading.{names-kept}
+use Rattle.machine_operands.proofs.Reading.{names-kept}
 use Rattle.stored_scopes.proofs.enter.Goals as goal
 
 -- the word of an object of the area names it
