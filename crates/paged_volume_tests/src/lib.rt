@@ -7,3 +7,7 @@ mod attaching;
 mod files;
 #[cfg(test)]
 mod forged;
+#[cfg(test)]
+mod making;
+#[cfg(test)]
+mod volumes;
