@@ -22,14 +22,11 @@ pub fn sum_found(alloc: Global, texts: u32, passes: u32) -> Result<u64> {
     let mut vault = vault_of(alloc, texts)?;
     let mut sw = Swizzle::new(alloc, 8 * texts + 8)?;
     let mut sum = 0u64;
-    for _ in 0..passes {
-        let mut place = 0u64;
-        for _ in 0..texts {
-            place = place.wrapping_add(7_919) % u64::from(texts);
-            match sw.touch_pid(&mut vault, 1 + SIZE * place) {
-                Ok(at) => sum = sum.wrapping_add(u64::from(at)),
-                Err(_) => bail!("not found"),
-            }
+    for step in 0..u64::from(texts).saturating_mul(u64::from(passes)) {
+        let place = step.wrapping_mul(7_919) % u64::from(texts);
+        match sw.touch_pid(&mut vault, 1 + SIZE * place) {
+            Ok(at) => sum = sum.wrapping_add(u64::from(at)),
+            Err(_) => bail!("not found"),
         }
     }
     Ok(sum)
