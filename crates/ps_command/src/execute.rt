@@ -3,7 +3,7 @@ ghost use Rattle.std.specs.Prelude.{◌≡◌, ◌*◌, [], List, ℕ, true};
 ghost use Rattle.ps_base.specs.CodeUnit.{unit_view};
 ghost use Rattle.ps_program.specs.Node.{BodyNode};
 ghost use Rattle.ps_port.specs.ps_outside.Outside.{LeavesSame};
-ghost use Rattle.ps_causes.specs.ps_meaning.Event.{status_of};
+ghost use Rattle.ps_causes.specs.ps_heap.Ends.{status_of};
 ghost use Rattle.machine_run.specs.machine_core.Stepped.{end_of};
 ghost use Rattle.machine_run.specs.Loaded.{IsNew, IsRoomy, Loads};
 ghost use Rattle.no_store.specs.NoObjects.{outside_of};

@@ -8,13 +8,14 @@ use Rattle.ps_typing.specs.ps_program.declared.place.Place.{Place}
 use Rattle.ps_typing.specs.ps_program.declared.place.Place.TheVariants.{Plain, Kept}
 use Rattle.ps_typing.specs.ps_program.Node.{BodyNode}
 use Rattle.ps_typing.specs.Placing.{is_number}
-use Rattle.ps_meaning.specs.Values.{Value, Num, Text, Procedure, Nothing, as_written}
-use Rattle.ps_meaning.specs.Operators.{Answer, Gives, Traps}
-use Rattle.ps_meaning.specs.Texts.{Attempt, Yields, Fails}
-use Rattle.ps_meaning.specs.Objects.{Heap, Object, with_new, new_number}
-use Rattle.ps_meaning.specs.Scopes.{new_scope, scope_out, name_in, with_name}
-use Rattle.ps_meaning.specs.Weights.{own_weight, text_weight, closure_weight}
-use Rattle.ps_meaning.specs.Event.{End, Trapped, OutOfTurns, Event, Out, Turn}
+use Rattle.ps_heap.specs.Values.{Value, Num, Text, Procedure, Nothing, as_written}
+use Rattle.ps_heap.specs.Operators.{Answer, Gives, Traps}
+use Rattle.ps_heap.specs.Texts.{Attempt, Yields, Fails}
+use Rattle.ps_heap.specs.Objects.{Heap, Object, with_new, new_number}
+use Rattle.ps_heap.specs.Scopes.{new_scope, scope_out, name_in, with_name}
+use Rattle.ps_heap.specs.Weights.{own_weight, text_weight, closure_weight}
+use Rattle.ps_heap.specs.Ends.{End, Trapped, OutOfTurns}
+use Rattle.ps_meaning.specs.Event.{Event, Out, Turn}
 
 -- The locals of a body, ints and bools in one row and all else in the other, and the scope that a clause stands in.
 pub record Frame : Type 0 where
