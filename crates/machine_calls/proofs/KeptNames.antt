@@ -16,8 +16,8 @@ use Rattle.machine_core.specs.heap_places.Places.{IsNear}
 use Rattle.machine_core.specs.heap_places.declared.value.Value as code
 use Rattle.machine_core.specs.heap_places.declared.value.Value.TheVariants as held
 use Rattle.machine_core.specs.ps_heap.Objects.{Heap, Object, Structure, Elements, Scope, Keyed}
-use Rattle.machine_core.specs.ps_heap.Scopes.{scope_at, scope_out}
-use Rattle.machine_core.specs.ps_meaning.Meaning.{on_heap, kept_name, with_kept_name}
+use Rattle.machine_core.specs.ps_heap.Scopes.{scope_at, scope_out, kept_name, with_kept_name}
+use Rattle.machine_core.specs.ps_meaning.Meaning.{on_heap}
 use Rattle.machine_core.specs.ps_heap.Values.{Value, Num, Flag, word_of, number_of}
 use Rattle.machine_core.specs.ps_heap.Values as value
 use Rattle.machine_core.specs.ps_stepping.Config.{Config}

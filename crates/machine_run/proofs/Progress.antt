@@ -17,10 +17,10 @@ use Rattle.machine_core.specs.ps_heap.Operators.{Answer, Gives, Traps, is_same, 
 use Rattle.machine_core.specs.ps_meaning.Event.{Event, count_of}
 use Rattle.machine_core.specs.ps_heap.Values.{Value, Num, as_written, as_compiled, word_of, number_of, is_one, flag_text}
 use Rattle.machine_core.specs.ps_heap.Values as value
-use Rattle.machine_core.specs.ps_meaning.Meaning.{is_width, in_places, some_out, with_turns, on_heap, and_object, and_text, and_closure, on_input, kept_name, with_kept_name}
+use Rattle.machine_core.specs.ps_heap.Scopes.{kept_name, with_kept_name, new_scope, scope_at, scope_out}
+use Rattle.machine_core.specs.ps_meaning.Meaning.{is_width, in_places, some_out, with_turns, on_heap, and_object, and_text, and_closure, on_input}
 use Rattle.machine_core.specs.ps_heap.Texts.{Attempt, Yields, Fails, join_of, part_of, line_read, behind_line, is_at_end}
 use Rattle.machine_core.specs.ps_heap.Objects.{Heap, Object, Structure, Elements, Scope as ScopeOf, Keyed, new_number, is_class, field_of, with_field, vector_of, filled_vector, with_element, low_of, high_of, element_of as element_at}
-use Rattle.machine_core.specs.ps_heap.Scopes.{new_scope, scope_at, scope_out}
 use Rattle.machine_core.specs.ps_meaning.Evaluation.{most_calls, goes_on, kept_as, kept_elements, text_relation, object_relation}
 use Rattle.machine_core.specs.text_forms.declared.forms.Form.{Form}
 use Rattle.machine_core.specs.text_forms.declared.forms.Form.TheVariants as form

@@ -13,9 +13,9 @@ use Rattle.ps_stepping.specs.text_forms.Forms.{forms_of, form_in, element_of}
 use Rattle.ps_stepping.specs.ps_heap.Texts.{Attempt, Yields, Fails}
 use Rattle.ps_stepping.specs.ps_heap.Values.{Value, Num, Flag, Nil, Pointer, Vector, Procedure, Nothing, word_of, is_one, flag_of}
 use Rattle.ps_stepping.specs.ps_heap.Objects.{Heap, Object, Structure, Elements, Scope, Keyed, object_at, with_object, with_new, new_number, value_at, kept_as, is_of, is_class, fields_in, field_of, with_field, place_of, is_vector, is_made, vector_of, count_from, filled_vector, low_in, elements_in, type_in, vector_in, found_at, put_at, with_element, low_of, high_of, is_one_object, element_of as element_at}
-use Rattle.ps_stepping.specs.ps_heap.Scopes.{first_value, new_scope, scope_at, parent_in, names_in, scope_out, name_in, with_name_in, with_name}
+use Rattle.ps_stepping.specs.ps_heap.Scopes.{first_value, new_scope, scope_at, parent_in, names_in, scope_out, name_in, with_name_in, with_name, kept_name, with_kept_name}
 use Rattle.ps_stepping.specs.ps_heap.Weights.{own_weight}
-use Rattle.ps_stepping.specs.ps_meaning.Meaning.{Store, and_object, kept_name, with_kept_name}
+use Rattle.ps_stepping.specs.ps_meaning.Meaning.{Store, and_object}
 use Rattle.ps_stepping.specs.ps_meaning.Evaluation.{kept_elements, kept_all, object_relation}
 use Rattle.ps_code_laws.specs.Compiled.{compiled, compiled_all, compiled_object, compiled_heap, compiled_store}
 

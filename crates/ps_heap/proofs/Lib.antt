@@ -1,3 +1,4 @@
+mod ScopeRows
 mod TextRows
 mod Scenes
 mod TableRows

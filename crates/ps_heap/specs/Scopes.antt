@@ -47,3 +47,10 @@ with_name_in heap id _ position v = heap
 unfoldable pub with_name : Heap → Option ℕ → ℕ → Value → Heap
 with_name heap None position v = heap
 with_name heap (Some id) position v = with_name_in heap id (object_at heap id) position v
+
+-- the name at a position of the scope so many levels out from a scope: its value, and the heap where it has another one
+abbrev pub kept_name : Heap → Option ℕ → ℕ → ℕ → Value
+kept_name heap scope up position = name_in heap (scope_out heap scope up) position
+
+abbrev pub with_kept_name : Heap → Option ℕ → ℕ → ℕ → Value → Heap
+with_kept_name heap scope up position v = with_name heap (scope_out heap scope up) position v

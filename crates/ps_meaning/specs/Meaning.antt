@@ -12,7 +12,7 @@ use Rattle.ps_heap.specs.Values.{Value, Num, Text, Procedure, Nothing, as_writte
 use Rattle.ps_heap.specs.Operators.{Answer, Gives, Traps}
 use Rattle.ps_heap.specs.Texts.{Attempt, Yields, Fails}
 use Rattle.ps_heap.specs.Objects.{Heap, Object, with_new, new_number}
-use Rattle.ps_heap.specs.Scopes.{new_scope, scope_out, name_in, with_name}
+use Rattle.ps_heap.specs.Scopes.{new_scope, kept_name, with_kept_name}
 use Rattle.ps_heap.specs.Weights.{own_weight, text_weight, closure_weight}
 use Rattle.ps_heap.specs.Ends.{End, Trapped, OutOfTurns}
 use Rattle.ps_meaning.specs.Event.{Event, Out, Turn}
@@ -208,13 +208,6 @@ frame_with frame ty slot v =
 -- Tables and databases have no meaning here yet. No program is run that has a form or a call over them.
 unfoldable pub unbuilt : Meaning
 unbuilt = give Nothing
-
--- the name at a position of the scope so many levels out from a scope: its value, and the heap where it has another one
-abbrev pub kept_name : Heap → Option ℕ → ℕ → ℕ → Value
-kept_name heap scope up position = name_in heap (scope_out heap scope up) position
-
-abbrev pub with_kept_name : Heap → Option ℕ → ℕ → ℕ → Value → Heap
-with_kept_name heap scope up position v = with_name heap (scope_out heap scope up) position v
 
 -- the value of the name at a place, which is of this type
 unfoldable pub get : Place → TyView → Meaning

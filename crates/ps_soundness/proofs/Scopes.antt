@@ -11,8 +11,7 @@ use Rattle.ps_heap.proofs.of_text_forms.ClassForms.{class-told}
 use Rattle.ps_meaning.specs.ps_typing.WellTyped.{At, IsOfType}
 use Rattle.ps_heap.specs.Values.{Value, Num, Flag, Text, Nil, Pointer, Vector, Procedure, as_written, Nothing}
 use Rattle.ps_heap.specs.Objects.{Heap, Object, Scope, object_at, with_object, with_new, new_number, value_at, kept_as}
-use Rattle.ps_heap.specs.Scopes.{first_value, new_scope, scope_at, parent_in, names_in, scope_out, name_in, with_name_in, with_name}
-use Rattle.ps_meaning.specs.Meaning.{kept_name, with_kept_name}
+use Rattle.ps_heap.specs.Scopes.{first_value, new_scope, scope_at, parent_in, names_in, scope_out, name_in, with_name_in, with_name, kept_name, with_kept_name}
 use Rattle.ps_soundness.specs.Shapes.{IsOf, is_given, HasValue, HaveValues, IsPrefix, IsScopeAt, AreScopes, AreNames, IsTypedHeap, StayGiven, Grows}
 use Rattle.ps_soundness.proofs.Telling.{Told}
 use Rattle.ps_soundness.proofs.Growing.{grows_new, grows_set, at_new, typed_new, typed_with, of_kept, names_kept, scopes_kept}

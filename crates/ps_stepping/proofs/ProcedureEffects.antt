@@ -9,9 +9,9 @@ use Rattle.ps_code.specs.ps_base.declared.instr.Instr.TheVariants as instr
 use Rattle.ps_meaning.specs.text_forms.Forms.{forms_of, form_in}
 use Rattle.ps_heap.specs.Ends.{Trapped}
 use Rattle.ps_meaning.specs.Evaluation.{most_calls}
-use Rattle.ps_meaning.specs.Meaning.{Store, spent, and_object, and_closure, kept_name, with_kept_name}
+use Rattle.ps_heap.specs.Scopes.{kept_name, with_kept_name, new_scope, scope_at, scope_out}
+use Rattle.ps_meaning.specs.Meaning.{Store, spent, and_object, and_closure}
 use Rattle.ps_heap.specs.Objects.{Object, Structure, Elements, Scope, Keyed, new_number}
-use Rattle.ps_heap.specs.Scopes.{new_scope, scope_at, scope_out}
 use Rattle.ps_heap.specs.Values.{Value, Num, Procedure, as_written, as_compiled, word_of}
 use Rattle.ps_heap.specs.Values as value
 use Rattle.ps_stepping.specs.Config.{Caller, Config, constants_in, frame_in, constant_at}
