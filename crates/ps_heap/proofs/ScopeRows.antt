@@ -1,5 +1,5 @@
 -- Names of scopes, so many levels out.
-use Rattle.std.proofs.Common.{◌≡◌, List, [], ◌∷◌, refl, pos, Some, None}
+use Rattle.std.proofs.Common.{◌≡◌, [], ◌∷◌, refl, pos, Some, None}
 use Rattle.std.specs.Prelude.{codes}
 use Rattle.ps_heap.specs.Values.{Num, Text}
 use Rattle.ps_heap.specs.Objects.{Heap, Scope}

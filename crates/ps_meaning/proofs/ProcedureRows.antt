@@ -1,6 +1,6 @@
 -- Programs with procedures, scopes and input, whose events are computed.
 use Rattle.std.proofs.Common.{◌≡◌, ℕ, List, [], ◌∷◌, refl, pos, false, Option, Some, None}
-use Rattle.std.specs.Prelude.{codes, map, ◌+◌, replicate}
+use Rattle.std.specs.Prelude.{codes, map, ◌+◌}
 use Rattle.std.specs.Fmt.{signed_decimal, digits}
 use Rattle.text_forms.specs.Forms.{forms_of, forms_from, form_here, form_in, begins, element_of, is_text}
 use Rattle.ps_base.specs.TyView.{TyView}
@@ -14,7 +14,7 @@ use Rattle.ps_typing.specs.ps_program.Node.{Param, Node, Nodes, none, more, Body
 use Rattle.ps_typing.specs.ps_program.Node as node
 use Rattle.ps_heap.specs.Ends.{Done, Trapped, OutOfTurns}
 use Rattle.ps_meaning.specs.Event.{Event, Out, Finish}
-use Rattle.ps_heap.specs.Texts.{Yields, Fails, line_of, behind_line, line_read}
+use Rattle.ps_heap.specs.Texts.{line_of, behind_line, line_read}
 use Rattle.ps_heap.specs.Objects.{vector_of, with_element, element_of as element_at}
 use Rattle.ps_heap.specs.Scopes.{new_scope, scope_out, name_in, with_name}
 use Rattle.ps_meaning.specs.Meaning.{give, stop, after, ◌>>=◌, choose, answer, attempt, with_heap, put_heap, made, made_text, made_procedure, with_input, put_input, enter, back_in, back_to, scoped, in_frame, emit, written, take_turn, get, set}
