@@ -1,9 +1,9 @@
 -- What the rows speak of: programs as what is held after each of their calls.
-use Rattle.std.proofs.Common.{ℕ, List, [], Option, Some, None, get_or}
+use Rattle.std.proofs.Common.{ℕ, List, [], Option, Some, None, get_or, false}
 use Rattle.ps_heap.specs.Values.{Value, Nil, Pointer}
 use Rattle.ps_heap.specs.Texts.{Attempt, Yields, Fails}
 use Rattle.ps_heap.specs.Tables.{string_key, Entry, by_strings}
-use Rattle.ps_heap.specs.Objects.{Object, Keyed, object_at}
+use Rattle.ps_heap.specs.Objects.{Heap, Object, Keyed, object_at}
 use Rattle.ps_heap.specs.References.{values_of}
 use Rattle.ps_heap.specs.Held.{Held, StoredHeap, started}
 use Rattle.ps_heap.specs.Calls.{Answer, enter_call, lookup_call, create_answer, open_answer, asks_to_create, asks_to_open}
@@ -58,3 +58,18 @@ table_with entries = Keyed (by_strings entries)
 
 abbrev pub database : List ℕ → List ℕ → ℕ → Database
 database name password root = record { name = name; password = password; root = root }
+
+-- objects of which none is committed, with so many bytes counted
+abbrev pub uncommitted : Heap → ℕ → Held
+uncommitted objects counted = record {
+  objects = objects;
+  homes = [];
+  directory = [];
+  openings = [];
+  created = [];
+  assigned = [];
+  touched = [];
+  asked = false;
+  replies = [];
+  counted = counted;
+}

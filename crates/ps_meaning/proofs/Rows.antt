@@ -13,12 +13,15 @@ use Rattle.ps_typing.specs.ps_program.declared.place.Place.TheVariants.{Plain}
 use Rattle.ps_typing.specs.ps_program.Node.{Node, Nodes, none, more, Arms, no_arms, more_arms, arm, BodyNode, body}
 use Rattle.ps_typing.specs.ps_program.Node as node
 use Rattle.ps_heap.specs.Ends.{End, Done, Trapped, OutOfTurns}
-use Rattle.ps_meaning.specs.Event.{Event, Out, Turn, Finish}
-use Rattle.ps_meaning.specs.Meaning.{give, stop, after, ◌>>=◌, answer, attempt, with_heap, put_heap, made, made_text, emit, written, take_turn, get, set, choose}
+use Rattle.ps_heap.specs.Events.{Event, Out, Turn, Ask, Commit, Finish}
+use Rattle.ps_meaning.specs.Meaning.{give, stop, after, ◌>>=◌, answer, attempt, with_heap, change, made, made_text, emit, written, take_turn, get, set, choose}
+use Rattle.ps_heap.specs.Library.{library_procedure}
 use Rattle.ps_heap.specs.Weights.{text_weight, code_weight}
 use Rattle.ps_heap.specs.Objects.{field_of, with_field, vector_of, with_element, low_of, high_of, element_of as element_at}
-use Rattle.ps_meaning.specs.Evaluation.{while_turns, for_turns, for_loop, for_meant, kept_all, eval}
-use Rattle.ps_meaning.specs.Runs.{run_events, run_end, outcome_of, all_events, end_reached, fresh_frame, fresh_state}
+use Rattle.ps_meaning.specs.Loops.{while_turns, for_turns, for_loop, for_meant}
+use Rattle.ps_meaning.specs.Operations.{kept_all}
+use Rattle.ps_meaning.specs.Evaluation.{eval}
+use Rattle.ps_meaning.specs.Runs.{over_nothing, run_events, run_end, outcome_of, all_events, end_reached, fresh_frame, fresh_state}
 
 abbrev pub line : ℕ → Line
 line n = record { 0 = n }
@@ -43,10 +46,12 @@ wide e w = node.Write e w true ty.Int (line 1)
 abbrev pub plain : Event → Event
 plain (Out bytes counted) = Out bytes 0
 plain (Turn counted) = Turn 0
+plain (Ask for_what counted) = Ask for_what 0
+plain (Commit heap counted) = Commit heap 0
 plain (Finish e counted) = Finish e 0
 
 abbrev told_by : ℕ → BodyNode → List Event
-told_by turns program = map plain (run_events turns [] program)
+told_by turns program = map plain (run_events (over_nothing turns []) program)
 
 abbrev pub out : List ℕ → Event
 out bytes = Out bytes 0
@@ -179,12 +184,12 @@ a_box first = program (more node.Class (more (node.Let (Plain 0) ty.Pntr first)
     (more (node.SetField (pntr 0) box 0 ty.Int (node.Arith Add (number_of_box 3) (num 4) (line 3)) (line 3)) (more (write (number_of_box 4)) none))))
 
 field_is_changed : told_by 0 (a_box (node.Make box (more (num 3) (more node.Nil none)))) ≡ int 7 ∷ finish Done ∷ []
-unfolding digits eval give stop after ◌>>=◌ answer attempt made_text with_heap put_heap made emit written get set kept_all field_of with_field forms_of forms_from form_here form_in begins run_events outcome_of all_events fresh_frame fresh_state
+unfolding digits eval give stop after ◌>>=◌ answer attempt made_text with_heap change made emit written get set kept_all field_of with_field forms_of forms_from form_here form_in begins run_events outcome_of all_events fresh_frame fresh_state
 field_is_changed = refl
 
 -- let b = nil: the field is read before it is set, both on line 3
 nil_has_no_field : told_by 0 (a_box node.Nil) ≡ finish (Trapped trap.Nil (line 3)) ∷ []
-unfolding digits eval give stop after ◌>>=◌ answer attempt made_text with_heap put_heap made emit written get set field_of with_field run_events outcome_of all_events fresh_frame fresh_state
+unfolding digits eval give stop after ◌>>=◌ answer attempt made_text with_heap change made emit written get set field_of with_field run_events outcome_of all_events fresh_frame fresh_state
 nil_has_no_field = refl
 
 abbrev ints : Node
@@ -202,12 +207,12 @@ summed further = program (more (node.Let (Plain 0) (ty.Vector ty.Int) three)
     (more (write (local 0)) none)))))
 
 vector_is_summed : told_by 9 (summed 0) ≡ turn ∷ turn ∷ turn ∷ int 14 ∷ finish Done ∷ []
-unfolding digits eval give stop after ◌>>=◌ answer attempt made_text with_heap put_heap made emit written take_turn get set choose for_turns for_loop for_meant vector_of element_at with_element low_of high_of element_of is_text run_events outcome_of all_events fresh_frame fresh_state
+unfolding digits eval give stop after ◌>>=◌ answer attempt made_text with_heap change made emit written take_turn get set choose for_turns for_loop for_meant vector_of element_at with_element low_of high_of element_of is_text run_events outcome_of all_events fresh_frame fresh_state
 vector_is_summed = refl
 
 -- one past the upper bound
 element_past_the_end : told_by 9 (summed 1) ≡ turn ∷ turn ∷ turn ∷ turn ∷ finish (Trapped Bounds (line 5)) ∷ []
-unfolding digits eval give stop after ◌>>=◌ answer attempt made_text with_heap put_heap made emit written take_turn get set choose for_turns for_loop for_meant vector_of element_at with_element low_of high_of element_of is_text run_events outcome_of all_events fresh_frame fresh_state
+unfolding digits eval give stop after ◌>>=◌ answer attempt made_text with_heap change made emit written take_turn get set choose for_turns for_loop for_meant vector_of element_at with_element low_of high_of element_of is_text run_events outcome_of all_events fresh_frame fresh_state
 element_past_the_end = refl
 
 abbrev string : Node
@@ -218,7 +223,7 @@ strings_are_joined : told_by 0 (program (more (node.Let (Plain 0) ty.Str (node.J
     (more (node.IfDo (node.Compare Less ty.Str (node.Text (codes "abc")) string)
     (node.Write (node.Part string (num 2) (num 2) (line 2)) node.Empty false ty.Str (line 2)))
     (more (write (node.Lib 11 (more string none) (line 3))) none)))) ≡ out (codes "bc") ∷ int 4 ∷ finish Done ∷ []
-unfolding digits eval give stop after ◌>>=◌ answer attempt made_text emit written get set choose run_events outcome_of all_events fresh_frame fresh_state
+unfolding digits eval library_procedure give stop after ◌>>=◌ answer attempt made_text emit written get set choose run_events outcome_of all_events fresh_frame fresh_state
 strings_are_joined = refl
 
 -- Counts. A text of 9 bytes has two words of them; the code of `write 3` has the text of its type, `proc()`, and three clauses: the sequence,
@@ -230,7 +235,7 @@ code_of_a_write : code_weight (one (write (num 3))) ≡ 64 + 48 + 4 * 96
 code_of_a_write = refl
 
 -- a text of two bytes is made, and then told
-join_is_counted : run_events 0 [] (one (node.Write (node.Join (node.Text (codes "a")) (node.Text (codes "b")) (line 1)) node.Empty false ty.Str (line 1)))
+join_is_counted : run_events (over_nothing 0 []) (one (node.Write (node.Join (node.Text (codes "a")) (node.Text (codes "b")) (line 1)) node.Empty false ty.Str (line 1)))
     ≡ Out (codes "ab") (64 + 48 + 6 * 96 + 2 * 48 + 48) ∷ Finish Done (64 + 48 + 6 * 96 + 2 * 48 + 48) ∷ []
 unfolding eval give stop after ◌>>=◌ attempt made_text emit written choose run_events outcome_of all_events fresh_frame fresh_state
 join_is_counted = refl
