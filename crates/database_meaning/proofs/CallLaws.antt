@@ -218,7 +218,7 @@ opened-right openings more h is r = record {
 }
 
 refused-right : (context : List ℕ) (fault : Fault) (h : Held) → IsRight h → IsRight (refused context fault h).held
-refused-right context fault h r = counting-right (whole_weight (error_record context fault)) (with_object (error_record context fault) h) (made-right (error_record context fault) h r (λ y l. absurd l))
+refused-right context fault h r = counting-right (whole_weight h.weigh (error_record context fault)) (with_object (error_record context fault) h) (made-right (error_record context fault) h r (λ y l. absurd l))
 
 created-right : (name password : List ℕ) (h : Held) → IsRight h → IsRight (created_database name password h).held
 created-right name password h r =

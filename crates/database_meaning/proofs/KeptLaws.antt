@@ -3,7 +3,7 @@ use Rattle.std.proofs.Common.{Bool, true, false, inl, inr, ◌⊎◌, ◌≡◌,
 use Rattle.std.specs.Prelude.{◌&&◌}
 use Rattle.std.proofs.lemmas.Bool.{cases_Bool, cases_eq, cases_order, true≢false, eqb-true, eqb-false}
 use Rattle.std.proofs.lemmas.List.{length-set, length-append}
-use Rattle.ps_heap.specs.Values.{Value}
+use Rattle.ps_heap.specs.Values.{Value, Routine}
 use Rattle.reaching.specs.Reaching.{IsIn, is_in, by_step}
 use Rattle.reaching.proofs.Lists.{then_is, else_is, is_in-in, in-is_in, in-append, in-front, in-behind}
 use Rattle.reaching.proofs.WalkLaws.{least-in, in-least}
@@ -31,7 +31,7 @@ home-if : (b : Bool) (home : Option ℕ) (n : ℕ) → home_if b home ≡ Some n
 home-if true home n e = (refl, e)
 home-if false home n e = absurd (none≢some e)
 
-module _ (replies : List Reply) (counted : ℕ) (stored : StoredHeap) (there : AreThere stored.objects) (homed : AreHomed stored) where
+module _ (weigh : Routine → ℕ) (replies : List Reply) (counted : ℕ) (stored : StoredHeap) (there : AreThere stored.objects) (homed : AreHomed stored) where
   abbrev homes : List (Option ℕ)
   homes = row (λ id. home_if (is_in id (reached_from_roots stored)) (home_at stored.homes id)) 0 (length stored.objects)
 
@@ -55,7 +55,7 @@ module _ (replies : List Reply) (counted : ℕ) (stored : StoredHeap) (there : A
       let home = homed y next in
       (home.0, start-home y (there x y goes) ∙ (ap (λ b. home_if b (home_at stored.homes y)) (in-is_in y (reached_from_roots stored) next) ∙ home.1))
 
-  pub start-right : IsRight (started replies counted stored)
+  pub start-right : IsRight (started weigh replies counted stored)
   start-right = record {
     sound = record { committed = λ place h. absurd h; open_too = λ n h. absurd h };
     there = there;

@@ -137,7 +137,7 @@ touched-once h id =
     ]
   where
     weight : ℕ
-    weight = weight_at (object_at h.objects id)
+    weight = weight_at h.weigh (object_at h.objects id)
 
     again : touching (id ∷ []) (touch true id weight h) ≡ touch true id weight h
     again = ap (λ b. touch b id weight (touch true id weight h)) (never_again h.homes id h.touched) ∙ no_more (touch true id weight h)

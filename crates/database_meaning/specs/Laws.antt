@@ -1,6 +1,6 @@
 -- What is so of commits.
 use Rattle.std.specs.Prelude.{◌≡◌, ◌≢◌, ◌⊎◌, ◌↔◌, ℕ, ◌<◌, List, [], ◌∷◌, length, Some}
-use Rattle.ps_heap.specs.Values.{Value}
+use Rattle.ps_heap.specs.Values.{Value, Routine}
 use Rattle.ps_heap.specs.Texts.{Yields}
 use Rattle.reaching.specs.Reaching.{IsIn}
 use Rattle.ps_heap.specs.Tables.{Key}
@@ -63,7 +63,7 @@ abbrev pub RefersThere : Held → List ℕ → Type 0
 RefersThere h ids = (y : ℕ) → IsIn y ids → y < length h.objects
 
 pub record RunsStayRight : Type 0 where
-  pub start : (replies : List Reply) (counted : ℕ) (stored : StoredHeap) → AreThere stored.objects → AreHomed stored → IsRight (started replies counted stored)
+  pub start : (weigh : Routine → ℕ) (replies : List Reply) (counted : ℕ) (stored : StoredHeap) → AreThere stored.objects → AreHomed stored → IsRight (started weigh replies counted stored)
   pub makes : (object : Object) (h : Held) → IsRight h → RefersThere h (object_ids (Some object)) → IsRight (with_object object h)
   pub counts : (bytes : ℕ) (h : Held) → IsRight h → IsRight (counting bytes h)
   pub assigns : (id n : ℕ) (v : Value) (h : Held) → IsRight h → RefersThere h (value_ids v) → IsRight (assigned_part id n v h)

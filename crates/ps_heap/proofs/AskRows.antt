@@ -7,6 +7,7 @@ use Rattle.ps_heap.specs.Tables.{entered, looked_up}
 use Rattle.ps_heap.specs.Objects.{Structure, table_of}
 use Rattle.ps_heap.specs.References.{next_in}
 use Rattle.ps_heap.specs.Databases.{database_from, database_at, every_root, each_once, create_fault, admission}
+use Rattle.ps_heap.specs.Weights.{routine_weight}
 use Rattle.ps_heap.specs.Held.{Held, Reply, Free, Busy, Stale, StoredHeap, nothing_stored, is_among, home_at, assigned_part, row, reached_from_roots, started, touched_after, touched_weight, is_first_touch, places_with}
 use Rattle.ps_heap.specs.Commit.{loose_from, loose, roots_of, after_places, at_home, source_of, sources, first_database, created_with, home_after, homes_after, are_writable, saved, decision}
 use Rattle.ps_heap.specs.Events.{Event, Ask, Commit, ToCreate, ToOpen, Out, Turn, Finish, heap_after, outputs, series_events}
@@ -19,7 +20,7 @@ abbrev stored : StoredHeap
 stored = record { objects = table_with (entry (codes "k") 1 ∷ []) ∷ Structure (codes "box(int n)") (Num (pos 1) ∷ []) ∷ []; homes = Some 1 ∷ Some 1 ∷ []; directory = database (codes "d") [] 0 ∷ [] }
 
 abbrev replied : List Reply → Held
-replied replies = started replies 0 stored
+replied replies = started routine_weight replies 0 stored
 
 abbrev fault_of : Answer → Value
 fault_of answer = part_of answer.held answer.value 1

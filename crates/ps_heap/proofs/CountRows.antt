@@ -30,23 +30,23 @@ ticks scope = Procedure (as_written (body [] ty.Int (node.Int (pos 1)) None (rec
 structure : full_weight (box 1) ≡ 112
 structure = refl
 
-structure_with_a_text : whole_weight (Structure (codes "address(int number;string town)") (Num (pos 76) ∷ Text (codes "St Andrews") ∷ [])) ≡ 64 + 72 + 56
+structure_with_a_text : whole_weight routine_weight (Structure (codes "address(int number;string town)") (Num (pos 76) ∷ Text (codes "St Andrews") ∷ [])) ≡ 64 + 72 + 56
 structure_with_a_text = refl
 
-vector : whole_weight (Elements (codes "*string") (pos 1) (Text (codes "a") ∷ Nil ∷ [])) ≡ 72 + 48 + 48
+vector : whole_weight routine_weight (Elements (codes "*string") (pos 1) (Text (codes "a") ∷ Nil ∷ [])) ≡ 72 + 48 + 48
 vector = refl
 
-scope : whole_weight (Scope (codes "scope(int n)") (Some 3) (Num (pos 1) ∷ [])) ≡ 64 + 56
+scope : whole_weight routine_weight (Scope (codes "scope(int n)") (Some 3) (Num (pos 1) ∷ [])) ≡ 64 + 56
 scope = refl
 
-table_by_strings : whole_weight (table_with (entry (codes "head") 1 ∷ entry (codes "tail of nine") 2 ∷ [])) ≡ 64 + (88 + 48) + (88 + 56)
+table_by_strings : whole_weight routine_weight (table_with (entry (codes "head") 1 ∷ entry (codes "tail of nine") 2 ∷ [])) ≡ 64 + (88 + 48) + (88 + 56)
 table_by_strings = refl
 
-table_by_ints : whole_weight (Keyed (by_ints (record { key = pos 1; object = 1 } ∷ []))) ≡ 64 + 88
+table_by_ints : whole_weight routine_weight (Keyed (by_ints (record { key = pos 1; object = 1 } ∷ []))) ≡ 64 + 88
 table_by_ints = refl
 
 -- a procedure in a place: a closure, and the code of its body, which has one clause; its scope isn't part of it
-structure_with_a_procedure : whole_weight (Structure (codes "counter(proc(->int) next)") (ticks (Some 1) ∷ [])) ≡ 56 + 72 + 56 + (64 + 56 + 96)
+structure_with_a_procedure : whole_weight routine_weight (Structure (codes "counter(proc(->int) next)") (ticks (Some 1) ∷ [])) ≡ 56 + 72 + 56 + (64 + 56 + 96)
 structure_with_a_procedure = refl
 
 -- where code is all that there is: six words and one for its bytes, a word for each constant, and the constants

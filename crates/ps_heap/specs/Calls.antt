@@ -72,7 +72,7 @@ error_record context fault = Structure error_class (Text context ∷ Text (fault
 
 -- an error record is made, and counted with its texts
 abbrev pub refused : List ℕ → Fault → Held → Answer
-refused context fault h = answer_of (Pointer (new_id h)) (counting (whole_weight (error_record context fault)) (with_object (error_record context fault) h))
+refused context fault h = answer_of (Pointer (new_id h)) (counting (whole_weight h.weigh (error_record context fault)) (with_object (error_record context fault) h))
 
 -- Databases. Each call asks first, and is answered later.
 

@@ -1,6 +1,6 @@
 -- What a run holds of the heap and of databases; which places are assigned, which objects are touched, and what is counted.
 use Rattle.std.specs.Prelude.{ℕ, zero, suc, ◌+◌, ℤ, Bool, true, false, ◌&&◌, not, nat_eq, if◌then◌else◌, List, [], ◌∷◌, ◌++◌, length, get_or, set, Option, Some, None}
-use Rattle.ps_heap.specs.Values.{Value, Nil, Pointer, Vector}
+use Rattle.ps_heap.specs.Values.{Value, Nil, Pointer, Vector, Routine}
 use Rattle.reaching.specs.Reaching.{is_in, reach}
 use Rattle.ps_heap.specs.Tables.{Key, is_same_key}
 use Rattle.ps_heap.specs.Objects.{Object, Heap, object_at, id_of, place_of, vector_in, low_in, elements_in}
@@ -49,6 +49,8 @@ pub record Held : Type 0 where
   pub replies : List Reply
   -- in bytes
   pub counted : ℕ
+  -- what the code of a procedure weighs
+  pub weigh : Routine → ℕ
 
 unfoldable pub home_at : List (Option ℕ) → ℕ → Option ℕ
 home_at [] id = None
@@ -103,9 +105,9 @@ abbrev pub assigned_part : ℕ → ℕ → Value → Held → Held
 assigned_part id n v h = assigning (Part id n) (put_part (object_at h.objects id) id n v h.objects) h
 
 -- Touching. A committed object is counted once since it was committed, in full, as it is when it is first touched.
-abbrev pub weight_at : Option Object → ℕ
-weight_at None = 0
-weight_at (Some object) = whole_weight object
+abbrev pub weight_at : (Routine → ℕ) → Option Object → ℕ
+weight_at weigh None = 0
+weight_at weigh (Some object) = whole_weight weigh object
 
 unfoldable pub is_first_touch : List (Option ℕ) → ℕ → List ℕ → Bool
 is_first_touch homes id touched = is_there (home_at homes id) && not (is_in id touched)
@@ -117,15 +119,16 @@ unfoldable pub touched_after : List (Option ℕ) → List ℕ → List ℕ → L
 touched_after homes [] touched = touched
 touched_after homes (id ∷ ids) touched = touched_after homes ids (touched_with homes id touched)
 
-unfoldable pub touched_weight : Heap → List (Option ℕ) → List ℕ → List ℕ → ℕ
-touched_weight heap homes [] touched = 0
-touched_weight heap homes (id ∷ ids) touched =
-    (if is_first_touch homes id touched then weight_at (object_at heap id) else 0) + touched_weight heap homes ids (touched_with homes id touched)
+unfoldable pub touched_weight : (Routine → ℕ) → Heap → List (Option ℕ) → List ℕ → List ℕ → ℕ
+touched_weight weigh heap homes [] touched = 0
+touched_weight weigh heap homes (id ∷ ids) touched =
+    (if is_first_touch homes id touched then weight_at weigh (object_at heap id) else 0)
+    + touched_weight weigh heap homes ids (touched_with homes id touched)
 
 -- these objects are touched, one after the other
 abbrev pub touching : List ℕ → Held → Held
 touching ids h =
-    record h { touched = touched_after h.homes ids h.touched; counted = h.counted + touched_weight h.objects h.homes ids h.touched }
+    record h { touched = touched_after h.homes ids h.touched; counted = h.counted + touched_weight h.weigh h.objects h.homes ids h.touched }
 
 -- the object that a value denotes; a procedure's scope is touched where it is called
 abbrev pub denoted : Value → List ℕ
@@ -178,8 +181,8 @@ abbrev pub home_if : Bool → Option ℕ → Option ℕ
 home_if true home = home
 home_if false home = None
 
-abbrev pub started : List Reply → ℕ → StoredHeap → Held
-started replies counted stored =
+abbrev pub started : (Routine → ℕ) → List Reply → ℕ → StoredHeap → Held
+started weigh replies counted stored =
     let there = reached_from_roots stored in
     record {
       objects = stored.objects;
@@ -192,6 +195,7 @@ started replies counted stored =
       asked = false;
       replies = replies;
       counted = counted;
+      weigh = weigh;
     }
 
 abbrev pub nothing_stored : StoredHeap

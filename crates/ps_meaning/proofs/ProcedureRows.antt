@@ -20,7 +20,7 @@ use Rattle.ps_heap.specs.Scopes.{new_scope, scope_out, name_in, with_name}
 use Rattle.ps_meaning.specs.Meaning.{give, stop, after, ◌>>=◌, choose, answer, attempt, with_heap, change, made, made_text, made_procedure, with_input, put_input, enter, back_in, back_to, scoped, in_frame, emit, written, take_turn, get, set}
 use Rattle.ps_heap.specs.reaching.Reaching.{reach, walk}
 use Rattle.ps_heap.specs.Library.{library_procedure}
-use Rattle.ps_heap.specs.Weights.{code_weight}
+use Rattle.ps_heap.specs.Weights.{code_weight, routine_weight}
 use Rattle.ps_heap.specs.Databases.{every_root}
 use Rattle.ps_heap.specs.Held.{way_out, touched_after, touched_weight, is_first_touch, home_at, row, reached_from_roots, places_with}
 use Rattle.ps_meaning.specs.Loops.{for_turns, for_loop, for_meant}
@@ -28,7 +28,7 @@ use Rattle.ps_meaning.specs.Operations.{read_line, at_end}
 use Rattle.ps_meaning.specs.Evaluation.{call_meant, eval}
 use Rattle.ps_meaning.specs.Frames.{arguments_on, frame_of_call, keep, keep_all}
 use Rattle.ps_meaning.specs.Calls.{body_meant, call_within, context}
-use Rattle.ps_meaning.specs.Runs.{over_nothing, run_events, outcome_of, all_events, fresh_frame, fresh_state}
+use Rattle.ps_meaning.specs.Runs.{over_nothing, run_events, events_with, outcome_with, all_events, fresh_frame, fresh_state}
 use Rattle.ps_meaning.proofs.Rows.{line, program, one, write, plain, out, turn, finish, int, num, local}
 
 abbrev told_with : List ℕ → ℕ → BodyNode → List Event
@@ -36,7 +36,7 @@ told_with input turns program = map plain (run_events (over_nothing turns input)
 
 -- where so many calls are round the program already
 abbrev told_inside : ℕ → ℕ → Node → List Event
-told_inside depth turns clause = map plain (all_events (eval (context turns depth) clause fresh_frame (fresh_state (over_nothing turns []) 0)))
+told_inside depth turns clause = map plain (all_events (eval (context turns depth) clause fresh_frame (fresh_state routine_weight (over_nothing turns []) 0)))
 
 abbrev procedure : List Param → TyView → Node → Option (List ℕ) → Node
 procedure params gives tree scope = node.Proc (body params gives tree scope (line 1))
@@ -76,7 +76,7 @@ counters = program (more (node.Let (Plain 0) no_type maker) (more (node.Let (Pla
 counters_count_by_themselves : told_with [] 5 counters ≡ turn ∷ turn ∷ turn ∷ int 1 ∷ turn ∷ int 2 ∷ turn ∷ int 1 ∷ finish Done ∷ []
 unfolding digits eval change library_procedure give stop after ◌>>=◌ choose answer made_procedure enter back_in back_to scoped in_frame emit written take_turn get set call_meant
     arguments_on frame_of_call keep_all body_meant call_within new_scope scope_out name_in with_name forms_of forms_from form_here form_in begins
-    run_events outcome_of all_events fresh_frame fresh_state
+    events_with outcome_with all_events fresh_frame fresh_state
 counters_count_by_themselves = refl
 
 abbrev from_int : TyView
@@ -96,14 +96,14 @@ counts_down k = node.Block (Some (codes "scope(proc(int -> int) f)")) (more (nod
 procedure_calls_itself : told_with [] 4 (one (counts_down 3)) ≡ turn ∷ turn ∷ turn ∷ turn ∷ int 3 ∷ finish Done ∷ []
 unfolding digits eval change library_procedure give stop after ◌>>=◌ choose answer made_procedure enter back_in back_to scoped in_frame emit written take_turn get set call_meant
     arguments_on frame_of_call keep keep_all body_meant call_within new_scope scope_out name_in with_name forms_of forms_from form_here form_in begins
-    run_events outcome_of all_events fresh_frame fresh_state
+    events_with outcome_with all_events fresh_frame fresh_state
 procedure_calls_itself = refl
 
 -- with two turns the third call has none
 turns_end_in_a_call : told_with [] 2 (one (counts_down 3)) ≡ turn ∷ turn ∷ finish OutOfTurns ∷ []
 unfolding digits eval change library_procedure give stop after ◌>>=◌ choose answer made_procedure enter back_in back_to scoped in_frame emit written take_turn get set call_meant
     arguments_on frame_of_call keep keep_all body_meant call_within new_scope scope_out name_in with_name forms_of forms_from form_here form_in begins
-    run_events outcome_of all_events fresh_frame fresh_state
+    events_with outcome_with all_events fresh_frame fresh_state
 turns_end_in_a_call = refl
 
 -- 1,998 calls are round it: the second call inside is the 2,000th, which runs
@@ -143,7 +143,7 @@ of_parameters = program (more (node.Let (Plain 0) ty.Int (num 8)) (more (node.Le
 parameter_is_kept : told_with [] 9 of_parameters ≡ turn ∷ int 5 ∷ out (codes "x") ∷ turn ∷ int 5 ∷ turn ∷ int 6 ∷ int 8 ∷ finish Done ∷ []
 unfolding digits eval change library_procedure give stop after ◌>>=◌ choose answer made_procedure enter back_in back_to scoped in_frame emit written take_turn get set call_meant
     arguments_on frame_of_call keep keep_all body_meant call_within new_scope scope_out name_in with_name forms_of forms_from form_here form_in begins
-    run_events outcome_of all_events fresh_frame fresh_state
+    events_with outcome_with all_events fresh_frame fresh_state
 parameter_is_kept = refl
 
 abbrev procedures : TyView
@@ -165,7 +165,7 @@ each_turn_has_its_control : told_with [] 9 of_turns ≡ turn ∷ turn ∷ turn �
 unfolding digits eval library_procedure give stop after ◌>>=◌ choose answer attempt with_heap change made made_procedure enter back_in back_to scoped in_frame emit written
     take_turn get set call_meant for_turns for_loop for_meant vector_of element_at with_element element_of is_text
     arguments_on frame_of_call keep keep_all body_meant call_within new_scope scope_out name_in with_name forms_of forms_from form_here form_in begins
-    run_events outcome_of all_events fresh_frame fresh_state
+    events_with outcome_with all_events fresh_frame fresh_state
 each_turn_has_its_control = refl
 
 -- { let n = 5; { let m = 7; let f = proc( -> int); m - n; write f() } }
@@ -177,7 +177,7 @@ of_two_scopes = one (node.Block n_scope (more (node.Let (Kept 0 0) ty.Int (num 5
 levels_go_outward : told_with [] 1 of_two_scopes ≡ turn ∷ int 2 ∷ finish Done ∷ []
 unfolding digits eval change library_procedure give stop after ◌>>=◌ choose answer made_procedure enter back_in back_to scoped in_frame emit written take_turn get set call_meant
     arguments_on frame_of_call keep_all body_meant call_within new_scope scope_out name_in with_name forms_of forms_from form_here form_in begins
-    run_events outcome_of all_events fresh_frame fresh_state
+    events_with outcome_with all_events fresh_frame fresh_state
 levels_go_outward = refl
 
 -- A name that is kept holds 0 until its clause has ended. No text has such a tree: its n isn't in scope there.
@@ -186,7 +186,7 @@ name_before_its_value : told_with [] 1 (one (node.Block n_scope (more (node.Let 
     (node.Call (procedure [] ty.Int (kept 0 0) None) none (line 1))) (more (write (kept 0 0)) none)))) ≡ turn ∷ int 0 ∷ finish Done ∷ []
 unfolding digits eval change library_procedure give stop after ◌>>=◌ choose answer made_procedure enter back_in back_to scoped in_frame emit written take_turn get set call_meant
     arguments_on frame_of_call keep_all body_meant call_within new_scope scope_out name_in with_name forms_of forms_from form_here form_in begins
-    run_events outcome_of all_events fresh_frame fresh_state
+    events_with outcome_with all_events fresh_frame fresh_state
 name_before_its_value = refl
 
 -- { let f = (proc(int n -> int); f(n))(1) }: nil is called
@@ -195,7 +195,7 @@ call_of_nil : told_with [] 1 (one (node.Block (Some (codes "scope(proc(int -> in
     ≡ turn ∷ finish (Trapped trap.Nil (line 3)) ∷ []
 unfolding digits eval change library_procedure give stop after ◌>>=◌ choose answer made_procedure enter back_in back_to scoped in_frame emit written take_turn get set call_meant
     arguments_on frame_of_call keep keep_all body_meant call_within new_scope scope_out name_in with_name forms_of forms_from form_here form_in begins
-    run_events outcome_of all_events fresh_frame fresh_state
+    events_with outcome_with all_events fresh_frame fresh_state
 call_of_nil = refl
 
 -- Counts: a scope of one name 64 bytes, a procedure value 56, from the code's on.
@@ -206,7 +206,7 @@ scope_and_procedure_are_counted : run_events (over_nothing 0 []) of_counts
     ≡ Out (signed_decimal (pos 3)) (code_weight of_counts + 64 + 56) ∷ Finish Done (code_weight of_counts + 64 + 56) ∷ []
 unfolding digits eval change library_procedure give stop after ◌>>=◌ choose answer made_procedure enter back_in scoped emit written take_turn get set
     way_out touched_after touched_weight is_first_touch home_at row reached_from_roots every_root reach walk places_with
-    new_scope scope_out name_in with_name forms_of forms_from form_here form_in begins run_events outcome_of all_events fresh_frame fresh_state
+    new_scope scope_out name_in with_name forms_of forms_from form_here form_in begins events_with outcome_with all_events fresh_frame fresh_state
 scope_and_procedure_are_counted = refl
 
 -- Input.
@@ -224,11 +224,11 @@ of_lines = program (more (read 1) (more eof (more (read 1) (more eof (more (read
 two_lines_are_read : told_with (codes "ab\nc") 0 of_lines
     ≡ out (codes "ab") ∷ out (codes "false") ∷ out (codes "c") ∷ out (codes "true") ∷ finish (Trapped trap.NoInput (line 5)) ∷ []
 unfolding digits eval change library_procedure give stop after ◌>>=◌ choose attempt made_text with_input put_input emit written read_line at_end line_of behind_line line_read
-    run_events outcome_of all_events fresh_frame fresh_state
+    events_with outcome_with all_events fresh_frame fresh_state
 two_lines_are_read = refl
 
 -- a newline at the end begins no line more, and a line may be empty
 empty_lines_are_read : told_with (codes "\n\n") 0 of_lines ≡ out (codes "false") ∷ out (codes "true") ∷ finish (Trapped trap.NoInput (line 5)) ∷ []
 unfolding digits eval change library_procedure give stop after ◌>>=◌ choose attempt made_text with_input put_input emit written read_line at_end line_of behind_line line_read
-    run_events outcome_of all_events fresh_frame fresh_state
+    events_with outcome_with all_events fresh_frame fresh_state
 empty_lines_are_read = refl

@@ -13,6 +13,7 @@ use Rattle.ps_heap.specs.Texts.{is_same_text}
 use Rattle.ps_heap.specs.Values.{Value, Num, Flag, Text, Nil, Pointer, Procedure, as_written}
 use Rattle.ps_heap.specs.Tables.{Key, string_key, int_key, by_ints, without_keys, entered, looked_up, next_string, next_int, cardinality}
 use Rattle.ps_heap.specs.Objects.{Structure, Scope, Keyed, table_of}
+use Rattle.ps_heap.specs.Weights.{routine_weight}
 use Rattle.ps_heap.specs.Held.{Held, home_at, is_among, touched_after, touched_weight, is_first_touch, places_with}
 use Rattle.ps_heap.specs.Calls.{enter_call, cardinality_call}
 use Rattle.ps_heap.specs.Scans.{next_key}
@@ -83,6 +84,7 @@ held = record {
   asked = false;
   replies = [];
   counted = 0;
+  weigh = routine_weight;
 }
 
 abbrev begun_with : Held → ℕ → State

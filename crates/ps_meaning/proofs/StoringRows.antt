@@ -32,7 +32,7 @@ use Rattle.ps_meaning.specs.Operations.{kept_all}
 use Rattle.ps_meaning.specs.Loops.{for_turns, for_loop, for_meant, scan_turns, scan_next, scan_call, begin_scan}
 use Rattle.ps_meaning.specs.Evaluation.{call_meant, eval}
 use Rattle.ps_meaning.specs.Calls.{body_meant, call_within}
-use Rattle.ps_meaning.specs.Runs.{run_events, outcome_of, all_events, fresh_frame, fresh_state}
+use Rattle.ps_meaning.specs.Runs.{run_events, events_with, outcome_with, all_events, fresh_frame, fresh_state}
 use Rattle.ps_meaning.proofs.Rows.{line, program, write, num, local}
 
 -- what programs output one after the other, each with so many turns
@@ -112,7 +112,7 @@ unfolding digits eval is_one_object give stop after ◌>>=◌ choose answer atte
     create_answer create_fault asks_to_create open_answer admission asks_to_open commit_call decision are_writable each_once saved homes_after home_after
     first_database sources source_of at_home created_with after_places roots_of newly_reached starts loose loose_from database_at database_from
     row home_at reached_from_roots every_root reach walk without is_in first_source next_in places_with is_among way_out touched_after touched_weight
-    is_first_touch run_events outcome_of all_events fresh_frame fresh_state series_events
+    is_first_touch events_with outcome_with all_events fresh_frame fresh_state series_events
 saved_and_found = refl
 
 -- the password of a database is asked for
@@ -128,7 +128,7 @@ unfolding digits eval is_one_object give stop after ◌>>=◌ choose answer atte
     create_answer create_fault asks_to_create open_answer admission asks_to_open commit_call decision are_writable each_once saved homes_after home_after
     first_database sources source_of at_home created_with after_places roots_of newly_reached starts loose loose_from database_at database_from
     row home_at reached_from_roots every_root reach walk without is_in first_source next_in places_with is_among way_out touched_after touched_weight
-    is_first_touch run_events outcome_of all_events fresh_frame fresh_state series_events
+    is_first_touch events_with outcome_with all_events fresh_frame fresh_state series_events
 password_differs = refl
 
 -- A procedure is stored with the scope that keeps its number, and goes on counting in the next programs.
@@ -171,7 +171,7 @@ unfolding digits eval is_one_object give stop after ◌>>=◌ choose answer atte
     create_answer create_fault asks_to_create open_answer admission asks_to_open commit_call decision are_writable each_once saved homes_after home_after
     first_database sources source_of at_home created_with after_places roots_of newly_reached starts loose loose_from database_at database_from
     row home_at reached_from_roots every_root reach walk without is_in first_source next_in places_with is_among way_out touched_after touched_weight
-    is_first_touch run_events outcome_of all_events fresh_frame fresh_state series_events
+    is_first_touch events_with outcome_with all_events fresh_frame fresh_state series_events
 counter_goes_on = refl
 
 -- Two fields that referred to one object still do.
@@ -207,7 +207,7 @@ unfolding digits eval is_one_object give stop after ◌>>=◌ choose answer atte
     create_answer create_fault asks_to_create open_answer admission asks_to_open commit_call decision are_writable each_once saved homes_after home_after
     first_database sources source_of at_home created_with after_places roots_of newly_reached starts loose loose_from database_at database_from
     row home_at reached_from_roots every_root reach walk without is_in first_source next_in places_with is_among way_out touched_after touched_weight
-    is_first_touch run_events outcome_of all_events fresh_frame fresh_state series_events
+    is_first_touch events_with outcome_with all_events fresh_frame fresh_state series_events
 one_object_is_shared = refl
 
 -- A committed object that nothing refers to any longer is saved all the same, and may be entered again.
@@ -227,7 +227,7 @@ unfolding digits eval is_one_object give stop after ◌>>=◌ choose answer atte
     create_answer create_fault asks_to_create open_answer admission asks_to_open commit_call decision are_writable each_once saved homes_after home_after
     first_database sources source_of at_home created_with after_places roots_of newly_reached starts loose loose_from database_at database_from
     row home_at reached_from_roots every_root reach walk without is_in first_source next_in places_with is_among way_out touched_after touched_weight
-    is_first_touch run_events outcome_of all_events fresh_frame fresh_state series_events
+    is_first_touch events_with outcome_with all_events fresh_frame fresh_state series_events
 entered_again = refl
 
 -- What is at home in a database that is open for reading alone is not saved; where nothing is assigned there is nothing to do.
@@ -247,7 +247,7 @@ unfolding digits eval is_one_object give stop after ◌>>=◌ choose answer atte
     create_answer create_fault asks_to_create open_answer admission asks_to_open commit_call decision are_writable each_once saved homes_after home_after
     first_database sources source_of at_home created_with after_places roots_of newly_reached starts loose loose_from database_at database_from
     row home_at reached_from_roots every_root reach walk without is_in first_source next_in places_with is_among way_out touched_after touched_weight
-    is_first_touch run_events outcome_of all_events fresh_frame fresh_state series_events
+    is_first_touch events_with outcome_with all_events fresh_frame fresh_state series_events
 not_saved = refl
 
 abbrev commits_nothing : BodyNode
@@ -262,5 +262,5 @@ unfolding digits eval is_one_object give stop after ◌>>=◌ choose answer atte
     create_answer create_fault asks_to_create open_answer admission asks_to_open commit_call decision are_writable each_once saved homes_after home_after
     first_database sources source_of at_home created_with after_places roots_of newly_reached starts loose loose_from database_at database_from
     row home_at reached_from_roots every_root reach walk without is_in first_source next_in places_with is_among way_out touched_after touched_weight
-    is_first_touch run_events outcome_of all_events fresh_frame fresh_state series_events
+    is_first_touch events_with outcome_with all_events fresh_frame fresh_state series_events
 nothing_is_done = refl

@@ -32,7 +32,7 @@ use Rattle.ps_meaning.specs.Operations.{kept_all}
 use Rattle.ps_meaning.specs.Loops.{for_turns, for_loop, for_meant, scan_turns, scan_next, scan_call, begin_scan}
 use Rattle.ps_meaning.specs.Evaluation.{call_meant, eval}
 use Rattle.ps_meaning.specs.Calls.{body_meant, call_within}
-use Rattle.ps_meaning.specs.Runs.{run_events, outcome_of, all_events, fresh_frame, fresh_state}
+use Rattle.ps_meaning.specs.Runs.{run_events, events_with, outcome_with, all_events, fresh_frame, fresh_state}
 use Rattle.ps_meaning.proofs.Rows.{line, write}
 use Rattle.ps_heap.specs.Values.{Num, Pointer, Procedure, as_written}
 use Rattle.ps_heap.specs.Tables.{by_strings}
@@ -64,7 +64,7 @@ unfolding digits eval is_one_object give stop after ◌>>=◌ choose answer atte
     create_answer create_fault asks_to_create open_answer admission asks_to_open commit_call decision are_writable each_once saved homes_after home_after
     first_database sources source_of at_home created_with after_places roots_of newly_reached starts loose loose_from database_at database_from
     row home_at reached_from_roots every_root reach walk without is_in first_source next_in places_with is_among way_out touched_after touched_weight
-    is_first_touch run_events outcome_of all_events fresh_frame fresh_state series_events
+    is_first_touch events_with outcome_with all_events fresh_frame fresh_state series_events
 box_is_read = refl
 
 -- what stands in a field is touched where it is read, once
@@ -84,7 +84,7 @@ unfolding digits eval is_one_object give stop after ◌>>=◌ choose answer atte
     create_answer create_fault asks_to_create open_answer admission asks_to_open commit_call decision are_writable each_once saved homes_after home_after
     first_database sources source_of at_home created_with after_places roots_of newly_reached starts loose loose_from database_at database_from
     row home_at reached_from_roots every_root reach walk without is_in first_source next_in places_with is_among way_out touched_after touched_weight
-    is_first_touch run_events outcome_of all_events fresh_frame fresh_state series_events
+    is_first_touch events_with outcome_with all_events fresh_frame fresh_state series_events
 field_is_read = refl
 
 -- a procedure is counted with the object that it is read with, and its scope where it is called, before the turn
@@ -103,5 +103,5 @@ unfolding digits eval is_one_object give stop after ◌>>=◌ choose answer atte
     create_answer create_fault asks_to_create open_answer admission asks_to_open commit_call decision are_writable each_once saved homes_after home_after
     first_database sources source_of at_home created_with after_places roots_of newly_reached starts loose loose_from database_at database_from
     row home_at reached_from_roots every_root reach walk without is_in first_source next_in places_with is_among way_out touched_after touched_weight
-    is_first_touch run_events outcome_of all_events fresh_frame fresh_state series_events
+    is_first_touch events_with outcome_with all_events fresh_frame fresh_state series_events
 procedure_is_called = refl
