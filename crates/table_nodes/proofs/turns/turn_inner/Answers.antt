@@ -23,8 +23,14 @@ returns-clause-turned g c ks x b (node u d v) a r s w =
     let p = place c.args.sw.now (g.V.Vault.outside c.args.vault.now) in
     let t = subst (λ (i : Option ℕ). AreTurned ks p c.args.at c.args.left c.args.sides.left i c.args.right x b (node u d v) a r) c.in-Some.is s in
     let known = the_ends c.args.sw.now c.args.ends c.in-Some-ends.ends (node u d v) c.in-Some-ends.is w in
-    double_inner ks p p (place c.set_sides.new.sw (g.V.Vault.outside c.args.vault.now)) (place c.set_sides-2.new.sw (g.V.Vault.outside c.args.vault.now)) (place c.set_sides-3.new.sw (g.V.Vault.outside c.args.vault.now)) c.args.at c.args.left c.in-Some.middle c.args.sides.left c.in-Some-ends.ends.left c.in-Some-ends.ends.right c.args.right
-    (touches_none p s.here.heap) c.set_sides.ensures.set c.set_sides-2.ensures.set c.set_sides-3.ensures.set x b u d v a r t known.0 known.1
+    double_inner ks p p (place c.set_sides-2.new.sw (g.V.Vault.outside c.args.vault.now)) (place c.set_sides-3.new.sw (g.V.Vault.outside c.args.vault.now)) (place c.set_sides-4.new.sw (g.V.Vault.outside c.args.vault.now)) c.args.at c.args.left c.in-Some.middle c.args.sides.left c.in-Some-ends.ends.left c.in-Some-ends.ends.right c.args.right
+    (touches_none p s.here.heap) c.set_sides-2.ensures.set c.set_sides-3.ensures.set c.set_sides-4.ensures.set x b u d v a r t known.0 known.1
 
 pub returns-clause-spares : goal.returns-clause-spares
-returns-clause-spares g c = spares_then _ _ _ _ _ _ c.set_sides.ensures.spares (spares_then _ _ _ _ _ _ c.set_sides-2.ensures.spares c.set_sides-3.ensures.spares)
+returns-clause-spares g c = spares_then _ _ _ _ _ _ c.set_sides-2.ensures.spares (spares_then _ _ _ _ _ _ c.set_sides-3.ensures.spares c.set_sides-4.ensures.spares)
+
+pub returns-clause-held : goal.returns-clause-held
+returns-clause-held g c = record {
+  nodes = λ at h. c.set_sides-4.ensures.held.nodes at (c.set_sides-3.ensures.held.nodes at (c.set_sides-2.ensures.held.nodes at h));
+  named = λ at n h. c.set_sides-4.ensures.held.named at n (c.set_sides-3.ensures.held.named at n (c.set_sides-2.ensures.held.named at n h));
+}

@@ -23,8 +23,14 @@ returns-clause-turned g c ks l a (node u d v) b y s w =
     let p = place c.args.sw.now (g.V.Vault.outside c.args.vault.now) in
     let t = subst (λ (i : Option ℕ). AreTurnedOut ks p c.args.at c.args.right c.args.left i c.args.sides.right l a (node u d v) b y) c.in-Some.is s in
     let known = the_ends c.args.sw.now c.args.ends c.in-Some-ends.ends (node u d v) c.in-Some-ends.is w in
-    double_outer ks p p (place c.set_sides.new.sw (g.V.Vault.outside c.args.vault.now)) (place c.set_sides-2.new.sw (g.V.Vault.outside c.args.vault.now)) (place c.set_sides-3.new.sw (g.V.Vault.outside c.args.vault.now)) c.args.at c.args.right c.in-Some.middle c.args.left c.in-Some-ends.ends.left c.in-Some-ends.ends.right c.args.sides.right
-    (touches_none p s.here.heap) c.set_sides.ensures.set c.set_sides-2.ensures.set c.set_sides-3.ensures.set l a u d v b y t known.0 known.1
+    double_outer ks p p (place c.set_sides-2.new.sw (g.V.Vault.outside c.args.vault.now)) (place c.set_sides-3.new.sw (g.V.Vault.outside c.args.vault.now)) (place c.set_sides-4.new.sw (g.V.Vault.outside c.args.vault.now)) c.args.at c.args.right c.in-Some.middle c.args.left c.in-Some-ends.ends.left c.in-Some-ends.ends.right c.args.sides.right
+    (touches_none p s.here.heap) c.set_sides-2.ensures.set c.set_sides-3.ensures.set c.set_sides-4.ensures.set l a u d v b y t known.0 known.1
 
 pub returns-clause-spares : goal.returns-clause-spares
-returns-clause-spares g c = spares_then _ _ _ _ _ _ c.set_sides.ensures.spares (spares_then _ _ _ _ _ _ c.set_sides-2.ensures.spares c.set_sides-3.ensures.spares)
+returns-clause-spares g c = spares_then _ _ _ _ _ _ c.set_sides-2.ensures.spares (spares_then _ _ _ _ _ _ c.set_sides-3.ensures.spares c.set_sides-4.ensures.spares)
+
+pub returns-clause-held : goal.returns-clause-held
+returns-clause-held g c = record {
+  nodes = λ at h. c.set_sides-4.ensures.held.nodes at (c.set_sides-3.ensures.held.nodes at (c.set_sides-2.ensures.held.nodes at h));
+  named = λ at n h. c.set_sides-4.ensures.held.named at n (c.set_sides-3.ensures.held.named at n (c.set_sides-2.ensures.held.named at n h));
+}
