@@ -98,7 +98,7 @@ unfolding insert
 insert_leans probe change new leaf p = λ e same. refl
 insert_leans probe change new (node l a r) p =
     elim (probe a) as (λ o. height (pick o (balance (insert probe change new l) a r) (node l (change a) r) (balance l a (insert probe change new r))) ≡ height (node l a r) + 1
-        → Leans (pick o (balance (insert probe change new l) a r) (node l (change a) r) (balance l a (insert probe change new r)))) [
+    → Leans (pick o (balance (insert probe change new l) a r) (node l (change a) r) (balance l a (insert probe change new r)))) [
       | Less ↦ (λ e. leans_left l _ a r (grew_left l (insert probe change new l) a r p (insert_grown probe change new l p.0) (insert_leans probe change new l p.0) e))
       | Equal ↦ (λ e. absurd (omega (arith, e)))
       | Greater ↦ (λ e. leans_right l a r _ (grew_right l a r (insert probe change new r) p (insert_grown probe change new r p.1) (insert_leans probe change new r p.1) e))
