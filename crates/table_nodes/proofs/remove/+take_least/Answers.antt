@@ -82,27 +82,27 @@ returns-clause-taken g t c ks (node u d v) b y p h lower =
     let below = tree_left ks old m (Some c.args.at) (Some c.in-Some.below) grows x b y h (subst (λ s. IsLinked m.heap s (Some d.name)) c.in-Some.is left_now) in
     let w = c.in-Ok-take_least.ensures.taken ks u d v (place_touched old m grows p) below ready.1 in
     let m1 = place c.take_least.new.sw (g.V.Vault.outside c.take_least.new.vault) in
-    let m2 = place c.balance.new.sw (g.V.Vault.outside c.take_least.new.vault) in
+    let m2 = place c.balance-root.new.sw (g.V.Vault.outside c.take_least.new.vault) in
     let sides = least_sides ks old m m1 c.args.at (Some c.args.at) c.in-Ok.sides.right grows c.in-Ok-take_least.ensures.held u d v b y p h h.root_is right_is c.in-Ok-take_least.least w (omega (arith, hh, lower, c.requires.bound)) in
     let known = least_known ks old m m1 c.args.at (Some c.args.at) c.in-Ok.sides.right grows c.in-Ok-take_least.ensures.held u d v b y p h h.root_is right_is c.in-Ok-take_least.least w c.in-Ok-open_right.ready.wing ready.0 in
     least_above ks old m m1 c.args.at (Some c.args.at) c.in-Ok.sides.right grows c.in-Ok-take_least.ensures.held u d v b y p h h.root_is right_is c.in-Ok-take_least.least w
-    m2 c.balance.result c.balance.ensures.held (c.balance.ensures.balanced ks _ b y sides known.0 known.1)
+    m2 c.balance-root.result c.balance-root.ensures.held (c.balance-root.ensures.balanced ks _ b y sides known.0 known.1)
 
 
 pub returns-clause-held : goal.returns-clause-held
 returns-clause-held g t c = record {
-  nodes = λ at h. c.balance.ensures.held.nodes at (c.in-Ok-take_least.ensures.held.nodes at (c.in-Ok-open_right.ensures.grows.nodes at (c.in-Ok.ensures.grows.nodes at h)));
-  named = λ at n h. c.balance.ensures.held.named at n (c.in-Ok-take_least.ensures.held.named at n (c.in-Ok-open_right.ensures.grows.named at n (c.in-Ok.ensures.grows.named at n h)));
+  nodes = λ at h. c.balance-root.ensures.held.nodes at (c.in-Ok-take_least.ensures.held.nodes at (c.in-Ok-open_right.ensures.grows.nodes at (c.in-Ok.ensures.grows.nodes at h)));
+  named = λ at n h. c.balance-root.ensures.held.named at n (c.in-Ok-take_least.ensures.held.named at n (c.in-Ok-open_right.ensures.grows.named at n (c.in-Ok.ensures.grows.named at n h)));
 }
 
 pub returns-in_default-clause-spares : goal.returns-in_default-clause-spares
 returns-in_default-clause-spares g t c = spares_touched _ _ _ _ c.in-Ok.ensures.keeps c.in-Ok.ensures.grows
 
 pub returns-clause-spares : goal.returns-clause-spares
-returns-clause-spares g t c = spares_then _ _ _ _ _ _ (spares_then _ _ _ _ _ _ (spares_touched _ _ _ _ c.in-Ok.ensures.keeps c.in-Ok.ensures.grows) (spares_touched _ _ _ _ c.in-Ok-open_right.ensures.keeps c.in-Ok-open_right.ensures.grows)) (spares_then _ _ _ _ _ _ c.in-Ok-take_least.ensures.spares c.balance.ensures.spares)
+returns-clause-spares g t c = spares_then _ _ _ _ _ _ (spares_then _ _ _ _ _ _ (spares_touched _ _ _ _ c.in-Ok.ensures.keeps c.in-Ok.ensures.grows) (spares_touched _ _ _ _ c.in-Ok-open_right.ensures.keeps c.in-Ok-open_right.ensures.grows)) (spares_then _ _ _ _ _ _ c.in-Ok-take_least.ensures.spares c.balance-root.ensures.spares)
 
 pub returns-clause-node : goal.returns-clause-node
-returns-clause-node g t c = c.balance.ensures.held.nodes _ c.in-Ok-take_least.ensures.node
+returns-clause-node g t c = c.balance-root.ensures.held.nodes _ c.in-Ok-take_least.ensures.node
 
 pub returns-then-height-eq0-clause-brings : goal.returns-then-height-eq0-clause-brings
 returns-then-height-eq0-clause-brings g t c = brings_none c.args.sw.now _
@@ -126,7 +126,7 @@ returns-in-Err-take_least-clause-brings g t c =
 
 pub returns-clause-brings : goal.returns-clause-brings
 returns-clause-brings g t c =
-    brings_written _ _ _ _ (2 + (3 * c.height-height.result + 1 - 3 * c.in-Ok-open_right.ready.bound)) (3 * c.in-Ok-open_right.ready.bound) _ c.in-Ok-take_least.ensures.spares.lasts c.balance.ensures.spares.lasts c.balance.ensures.none (omega (arith, c.if-height-bound.false, c.in-Ok-open_right.ensures.bound))
+    brings_written _ _ _ _ (2 + (3 * c.height-height.result + 1 - 3 * c.in-Ok-open_right.ready.bound)) (3 * c.in-Ok-open_right.ready.bound) _ c.in-Ok-take_least.ensures.spares.lasts c.balance-root.ensures.spares.lasts c.balance-root.ensures.none (omega (arith, c.if-height-bound.false, c.in-Ok-open_right.ensures.bound))
     (brings_touched _ _ _ 2 (3 * c.height-height.result + 1 - 3 * c.in-Ok-open_right.ready.bound) _ c.in-Ok-open_right.ensures.keeps (omega arith) c.open_sides.ensures.brings c.in-Ok-open_right.ensures.brings) c.take_least.ensures.brings
 
 pub returns-in-Err-open_right-clause-still : goal.returns-in-Err-open_right-clause-still

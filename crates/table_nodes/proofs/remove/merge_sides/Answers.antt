@@ -65,12 +65,12 @@ returns-clause-merged g c ks at (node u d v) a (node x b y) p h e f lower =
     let side = tree_right ks old m (Some at) (Some c.in-Some.above) grows l a r h (grows.named c.in-Some.above b.name above) in
     let w = c.in-Ok-take_least.ensures.taken ks x b y (place_touched old m grows p) side ready.1 in
     let m1 = place c.take_least.new.sw (g.V.Vault.outside c.take_least.new.vault) in
-    let m2 = place c.balance.new.sw (g.V.Vault.outside c.take_least.new.vault) in
+    let m2 = place c.balance-root.new.sw (g.V.Vault.outside c.take_least.new.vault) in
     let there = grows.named c.in-Some-left.below d.name below in
     let sides = merge_sides_of ks m m1 at c.in-Some-left.below c.in-Ok-take_least.ensures.held u d v a x b y (place_touched old m grows p) t there c.in-Ok-take_least.least w (omega (arith, lower, c.requires.bound)) in
     let known = merge_known ks m m1 at c.in-Some-left.below c.in-Ok-take_least.ensures.held u d v a x b y (place_touched old m grows p) t there c.in-Ok-take_least.least w c.in-Ok.ready.wing ready.0 in
-    leaves_touched ks old m m2 grows (items (node l a r)) (merge l r) (Some c.balance.result)
-    (merge_done ks m m1 at c.in-Some-left.below c.in-Ok-take_least.ensures.held u d v a x b y (place_touched old m grows p) t there c.in-Ok-take_least.least w m2 c.balance.result (c.balance.ensures.balanced ks _ _ _ sides known.0 known.1))
+    leaves_touched ks old m m2 grows (items (node l a r)) (merge l r) (Some c.balance-root.result)
+    (merge_done ks m m1 at c.in-Some-left.below c.in-Ok-take_least.ensures.held u d v a x b y (place_touched old m grows p) t there c.in-Ok-take_least.least w m2 c.balance-root.result (c.balance-root.ensures.balanced ks _ _ _ sides known.0 known.1))
 
 
 pub returns-in_default-clause-spares : goal.returns-in_default-clause-spares
@@ -80,12 +80,12 @@ pub returns-in_default-left-clause-spares : goal.returns-in_default-left-clause-
 returns-in_default-left-clause-spares g c = spares_none c.args.sw.now (g.V.Vault.outside c.args.vault.now)
 
 pub returns-clause-spares : goal.returns-clause-spares
-returns-clause-spares g c = spares_then _ _ _ _ _ _ (spares_touched _ _ _ _ c.in-Ok.ensures.keeps c.in-Ok.ensures.grows) (spares_then _ _ _ _ _ _ c.in-Ok-take_least.ensures.spares c.balance.ensures.spares)
+returns-clause-spares g c = spares_then _ _ _ _ _ _ (spares_touched _ _ _ _ c.in-Ok.ensures.keeps c.in-Ok.ensures.grows) (spares_then _ _ _ _ _ _ c.in-Ok-take_least.ensures.spares c.balance-root.ensures.spares)
 
 pub returns-clause-held : goal.returns-clause-held
 returns-clause-held g c = record {
-  nodes = λ at h. c.balance.ensures.held.nodes at (c.in-Ok-take_least.ensures.held.nodes at (c.in-Ok.ensures.grows.nodes at h));
-  named = λ at n h. c.balance.ensures.held.named at n (c.in-Ok-take_least.ensures.held.named at n (c.in-Ok.ensures.grows.named at n h));
+  nodes = λ at h. c.balance-root.ensures.held.nodes at (c.in-Ok-take_least.ensures.held.nodes at (c.in-Ok.ensures.grows.nodes at h));
+  named = λ at n h. c.balance-root.ensures.held.named at n (c.in-Ok-take_least.ensures.held.named at n (c.in-Ok.ensures.grows.named at n h));
 }
 
 pub returns-in_default-clause-brings : goal.returns-in_default-clause-brings
@@ -101,7 +101,7 @@ pub returns-in-Err-take_least-clause-brings : goal.returns-in-Err-take_least-cla
 returns-in-Err-take_least-clause-brings g c = brings_then _ _ _ (3 * c.args.bound + 1 - 3 * c.in-Ok.ready.bound) (3 * c.in-Ok.ready.bound) _ (keeps_lasts _ _ c.in-Err-take_least.ensures.still) (omega (arith, c.in-Ok.ensures.bound)) c.in-Ok.ensures.brings c.take_least.ensures.brings
 
 pub returns-clause-brings : goal.returns-clause-brings
-returns-clause-brings g c = brings_written _ _ _ _ (3 * c.args.bound + 1 - 3 * c.in-Ok.ready.bound) (3 * c.in-Ok.ready.bound) _ c.in-Ok-take_least.ensures.spares.lasts c.balance.ensures.spares.lasts c.balance.ensures.none (omega (arith, c.in-Ok.ensures.bound)) c.in-Ok.ensures.brings c.take_least.ensures.brings
+returns-clause-brings g c = brings_written _ _ _ _ (3 * c.args.bound + 1 - 3 * c.in-Ok.ready.bound) (3 * c.in-Ok.ready.bound) _ c.in-Ok-take_least.ensures.spares.lasts c.balance-root.ensures.spares.lasts c.balance-root.ensures.none (omega (arith, c.in-Ok.ensures.bound)) c.in-Ok.ensures.brings c.take_least.ensures.brings
 
 pub returns-in-Err-take_least-clause-still : goal.returns-in-Err-take_least-clause-still
 returns-in-Err-take_least-clause-still g c = keeps-trans _ _ _ c.in-Ok.ensures.keeps c.in-Err-take_least.ensures.still

@@ -1,5 +1,5 @@
-use Rattle.std.proofs.Common.{Some, arith}
-use Rattle.avl_trees.specs.Trees.{leaf, node}
+use Rattle.std.proofs.Common.{◌<◌, Some, arith}
+use Rattle.avl_trees.specs.Trees.{leaf, node, height}
 use Rattle.table_nodes.specs.Steps.{place}
 use Rattle.table_nodes.proofs.StepLaws.{height_is, touches_none}
 use Rattle.table_nodes.proofs.WingLaws.{no_ends, the_ends}
@@ -18,7 +18,7 @@ returns-then-height-clause-turned g c ks (node x b y) a r s tall w =
     let known = the_ends c.args.sw.now c.args.wing.sides c.in-Some.sides (node x b y) c.in-Some.is w.0 in
     let hx = height_is ks p c.in-Some.sides.left c.height.result c.height.ensures.none (c.height.ensures.some ks) x s.given.left.1 known.0 in
     let hy = height_is ks p c.in-Some.sides.right c.height-2.result c.height-2.ensures.none (c.height-2.ensures.some ks) y s.given.left.2 known.1 in
-    let lower = omega (arith, hx, hy, c.if-height.true) in
+    let lower : height x < height y = omega (arith, hx, hy, c.if-height.true) in
     via_inner ks p (place c.turn_inner.new.sw (g.V.Vault.outside c.args.vault.now)) c.args.at c.args.left c.args.right c.in-Some.sides c.args.wing.right c.turn_inner.result c.turn_inner.ensures.turned x b y a r s tall lower known (w.1 lower)
 
 pub returns-clause-turned : goal.returns-clause-turned
@@ -28,8 +28,8 @@ returns-clause-turned g c ks (node x b y) a r s tall w =
     let known = the_ends c.args.sw.now c.args.wing.sides c.in-Some.sides (node x b y) c.in-Some.is w.0 in
     let hx = height_is ks p c.in-Some.sides.left c.height.result c.height.ensures.none (c.height.ensures.some ks) x s.given.left.1 known.0 in
     let hy = height_is ks p c.in-Some.sides.right c.height-2.result c.height-2.ensures.none (c.height-2.ensures.some ks) y s.given.left.2 known.1 in
-    single_right ks p p (place c.set_sides.new.sw (g.V.Vault.outside c.args.vault.now)) (place c.set_sides-2.new.sw (g.V.Vault.outside c.args.vault.now)) c.args.at c.args.left c.in-Some.sides.left c.in-Some.sides.right c.args.right (touches_none p s.here.heap) c.set_sides.ensures.set c.set_sides-2.ensures.set x b y a r s tall
+    single_right ks p p (place c.set_sides-2.new.sw (g.V.Vault.outside c.args.vault.now)) (place c.set_sides-3.new.sw (g.V.Vault.outside c.args.vault.now)) c.args.at c.args.left c.in-Some.sides.left c.in-Some.sides.right c.args.right (touches_none p s.here.heap) c.set_sides-2.ensures.set c.set_sides-3.ensures.set x b y a r s tall
     (omega (arith, hx, hy, c.if-height.false)) known.0 known.1
 
 pub returns-clause-spares : goal.returns-clause-spares
-returns-clause-spares g c = spares_then _ _ _ _ _ _ c.set_sides.ensures.spares c.set_sides-2.ensures.spares
+returns-clause-spares g c = spares_then _ _ _ _ _ _ c.set_sides-2.ensures.spares c.set_sides-3.ensures.spares
