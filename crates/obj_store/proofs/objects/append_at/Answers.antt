@@ -1,6 +1,6 @@
 use Rattle.std.proofs.Common.{◌≡◌, ◌+◌, ◌≤◌, ℕ, length, sym, ◌∙◌, ap, subst, arith}
-use Rattle.shadow_volume.specs.Layout.{capacity_of}
-use Rattle.shadow_volume.specs.declared.note.Committed.{Committed}
+use Rattle.paged_volume.specs.Layout.{capacity_of}
+use Rattle.paged_volume.specs.declared.committed.Committed.{Committed}
 use Rattle.obj_layout.specs.Stored.{appended}
 use Rattle.obj_store.specs.Spaces.{IsInOrder}
 use Rattle.obj_store.specs.Words.{HoldsPut}
@@ -16,8 +16,8 @@ returns-in-Ok-clause-becomes g c =
     let used = c.args.used in
     let order = c.requires.order in
     let from = order.from in
-    let most : c.capacity-capacity.result ≡ capacity_of v.committed.pages = c.capacity-capacity.ensures ∙ ap (λ (n : ℕ). capacity_of n) c.pages.ensures in
-    let fits : used + length put ≤ capacity_of v.committed.pages = omega (arith, c.if-wanted-capacity.false, most, order.within) in
-    let next : IsInOrder (used + length put) v.committed = record { fit = order.fit; from = omega arith; within = fits } in
-    becomes_of used (used + length put) v.committed z.committed v.staged.items z.staged.items (o v.host) (o z.host) (HoldsPut used (used + length put) used put) (appended put)
+    let most : c.capacity-capacity.result ≡ capacity_of v.table.committed.pages = c.capacity-capacity.ensures ∙ ap (λ (n : ℕ). capacity_of n) c.pages.ensures in
+    let fits : used + length put ≤ capacity_of v.table.committed.pages = omega (arith, c.if-wanted-capacity.false, most, order.within) in
+    let next : IsInOrder (used + length put) v.table.committed = record { fit = order.fit; from = omega arith; within = fits } in
+    becomes_of used (used + length put) v.table z.table (o v.host) (o z.host) (HoldsPut used (used + length put) used put) (appended put)
     c.in-Ok.ensures.turns order (subst (λ (k : Committed). IsInOrder (used + length put) k) (sym c.write_words.ensures.committed) next) (λ x y is. joins_append used put x y is)

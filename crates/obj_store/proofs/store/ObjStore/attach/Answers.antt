@@ -1,6 +1,6 @@
 use Rattle.std.proofs.Common.{◌≡◌, ℕ, sym, ap, subst, refl}
 use Rattle.obj_layout.specs.ps_outside.Outside.{After}
-use Rattle.shadow_volume.specs.declared.note.Note.{Note}
+use Rattle.volume_parts.specs.declared.note.Note.{Note}
 use Rattle.obj_layout.specs.Stored.{Space}
 use Rattle.obj_store.specs.Spaces.{spaces}
 use Rattle.obj_store.specs.Opening.{IsSpaceOf}
@@ -14,15 +14,15 @@ returns-in-Ok-clause-ok g c =
     let is = c.in-Ok.ensures.ok in
     let old = o c.args.host in
     let new = o v.host in
-    let used : c.note-used.result.used ≡ v.committed.note.used = ap (λ (n : Note). n.used) c.note-used.ensures in
+    let used : c.note-used.result.used ≡ v.table.committed.note.used = ap (λ (n : Note). n.used) c.note-used.ensures in
     record {
       looks = is.looks;
       settles = is.settles;
       found = is.found;
       live = refl;
       used = used;
-      holds = subst (λ (n : ℕ). (space : Space) → (spaces n v.committed v.staged.items new).contents space → After old.contents IsSpaceOf space) (sym used)
-          (opened_holds old new v.live v.committed v.staged.items is (g.met.H.Host.is_image v.host));
-      stays = subst (λ (n : ℕ). (space : Space) → After old.contents IsSpaceOf space → (spaces n v.committed v.staged.items new).contents space) (sym used)
-          (opened_stays old new v.live v.committed v.staged.items is (g.met.H.Host.is_image v.host) (g.met.H.Host.one c.args.host));
+      holds = subst (λ (n : ℕ). (space : Space) → (spaces n v.table new).contents space → After old.contents IsSpaceOf space) (sym used)
+          (opened_holds old new v.live v.table is (g.met.H.Host.is_image v.host));
+      stays = subst (λ (n : ℕ). (space : Space) → After old.contents IsSpaceOf space → (spaces n v.table new).contents space) (sym used)
+          (opened_stays old new v.live v.table is (g.met.H.Host.is_image v.host) (g.met.H.Host.one c.args.host));
     }

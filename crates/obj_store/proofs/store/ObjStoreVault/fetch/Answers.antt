@@ -21,7 +21,7 @@ returns-in-Err-clause-tested g c =
     let z = c.fetch_at.new.volume in
     let used = c.self.inside.used in
     subst (λ (s : Store g.row.H.Denot). TestsObject {T = Unit {0}} (outside_of o s) c.args.pid (Some (length c.args.into.now)) (Err c.in-Err.fault)) c.self.view_is
-    (tests_fault {T = Unit {0}} (spaces used v.committed v.staged.items (o v.host)) (spaces used z.committed z.staged.items (o z.host)) c.args.pid (Some (length c.args.into.now)) c.in-Err.fault c.in-Err.ensures.fault)
+    (tests_fault {T = Unit {0}} (spaces used v.table (o v.host)) (spaces used z.table (o z.host)) c.args.pid (Some (length c.args.into.now)) c.in-Err.fault c.in-Err.ensures.fault)
 
 pub returns-in-Ok-clause-stands : goal.returns-in-Ok-clause-stands
 returns-in-Ok-clause-stands g c =
