@@ -1,5 +1,5 @@
 -- Pages that are kept while a volume is read and written.
-use Rattle.std.proofs.Common.{◌≡◌, ◌≢◌, ◌⊎◌, inl, inr, ℕ, zero, suc, ◌+◌, ◌*◌, ◌%◌, ◌<◌, ◌≤◌, List, [], ◌∷◌, length, get_or, set, take, drop, replicate, refl, sym, ◌∙◌, ap, subst, arith, length-drop, length-take, get_or-set_same, get_or-set_other, Option, Some, None, Result, Ok, Err, OnOk}
+use Rattle.std.proofs.Common.{◌≡◌, ◌≢◌, ◌⊎◌, inl, inr, ℕ, zero, suc, ◌+◌, ◌-◌, ◌*◌, ◌%◌, ◌<◌, ◌≤◌, List, [], ◌∷◌, length, get_or, set, take, drop, replicate, refl, sym, ◌∙◌, ap, subst, arith, length-drop, length-take, get_or-set_same, get_or-set_other, Option, Some, None, Result, Ok, Err, OnOk}
 use Rattle.std.specs.Option.{option_map}
 use Rattle.std.proofs.lemmas.Bool.{cases_eq, cases_lt}
 use Rattle.std.proofs.lemmas.Option.{same_Some}
@@ -89,7 +89,7 @@ module _ (number count : ℕ) (from : List ℕ) (held : Held) (below : number < 
       let low : k < 4096 = omega (arith, size) in
       sym (page_at number k (written (4096 * number) from held.bytes) low
       ∙ written_inside (4096 * number) from held.bytes (4096 * number + k) (omega (arith, long)) (omega arith) (omega (arith, size))
-      ∙ ap (λ (n : ℕ). get_or from n 0) (omega arith)))
+      ∙ ap (λ (n : ℕ). get_or from n 0) (let same : 4096 * number + k - 4096 * number ≡ k = omega arith in same)))
 
   pub page_other_is : (other : ℕ) → other < count → other ≢ number → page_of other held ≡ page_of other (with_page number from held)
   page_other_is other low differs =
@@ -128,13 +128,13 @@ kept_put places p q a b number from below size same put kept = λ place page is.
     here_is : (held : Held) → (seen q b).contents (Some held) → from ≡ page_of number held
     here_is held now =
         let before = was held now in
-        page_put_is number (capacity_pages p.committed.pages) from before.0 below (held_long p a before.0 before.1) size ∙ ap (page_of number) before.2
+        page_put_is number (capacity_pages p.committed.pages) from before.0 below (held_long p a before.0 before.1) size ∙ ap (λ (h : Held). page_of number h) before.2
 
     other_is : (page : KeptPage) → page.number < capacity_pages p.committed.pages → page.number ≢ number → ((held : Held) → (seen p a).contents (Some held) → page.bytes ≡ page_of page.number held) →
         (held : Held) → (seen q b).contents (Some held) → page.bytes ≡ page_of page.number held
     other_is page low differs is held now =
         let before = was held now in
-        is before.0 before.1 ∙ page_other_is number (capacity_pages p.committed.pages) from before.0 below (held_long p a before.0 before.1) size page.number low differs ∙ ap (page_of page.number) before.2
+        is before.0 before.1 ∙ page_other_is number (capacity_pages p.committed.pages) from before.0 below (held_long p a before.0 before.1) size page.number low differs ∙ ap (λ (h : Held). page_of page.number h) before.2
 
     by : (place : ℕ) (page : KeptPage) → ((number % 8 ≡ place) × (kept_page number from ≡ page)) ⊎ ((place ≢ number % 8) × (get_or places place None ≡ Some page)) →
         IsAsHeld (capacity_pages q.committed.pages) (seen q b) place page

@@ -195,7 +195,7 @@ switch_settles used directory p q a b order order_next past some calls is = reco
   output = is.output;
   cause = λ e. absurd (cc);
   other = λ e. cc;
-  calls = omega arith;
+  calls = let fits : b.device_calls ≤ a.device_calls + settling used = omega arith in fits;
 }
 
 -- without pins nothing is committed only where the device failed

@@ -8,6 +8,7 @@ use Rattle.obj_layout.specs.ps_outside.Outside.{Outside, After, SameContents, Ro
 use Rattle.obj_layout.proofs.of_ps_outside.Moments.{along_then, along_now, same_as}
 use Rattle.ps_port.specs.Disk.{written, IsOutside}
 use Rattle.ps_port.specs.DiskLaws.{written_elsewhere, length-written}
+use Rattle.volume_parts.specs.Layout.{pages_of_words}
 use Rattle.paged_volume.specs.Layout.{capacity_pages}
 use Rattle.volume_parts.specs.Holding.{Held}
 use Rattle.paged_volume.specs.Standing.{seen, staged_in, staged_bytes, held_in}
@@ -226,6 +227,17 @@ there_within low high from to at put held le ge is = record {
   here = λ index at_least below. is.here index (omega arith) (omega arith);
   elsewhere = λ index apart. refl;
 }
+
+-- the pages of a range are staged or committed, behind those that were
+pub has_more : (used count : ℕ) (p q : Table) → HasPages p (pages_of_words used) → Marks (used / 512) (pages_of_words (used + count)) p q → HasPages q (pages_of_words (used + count))
+has_more used count p q has marks page lt = by (either page (used / 512))
+  where
+    by : (page < used / 512) ⊎ (used / 512 ≤ page) → 1 ≤ get_or q.map.staged page 0
+    by (inl before) = marks.kept page (has page (omega arith))
+    by (inr behind) = marks.marked page behind lt
+
+pub has_kept : (count from to : ℕ) (p q : Table) → HasPages p count → Marks from to p q → HasPages q count
+has_kept count from to p q has marks page lt = marks.kept page (has page lt)
 
 -- parts that are there, one after the other
 pub leaves_then : (p q r : Table) (a b c : Outside (List ℕ)) (low high from to at : ℕ) (put : List ℕ) → low ≤ from → to ≤ high → LeavesStaged p q a b low high at put → LeavesStaged q r b c from to at put →

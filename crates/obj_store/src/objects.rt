@@ -241,7 +241,8 @@ pub fn append_at<H: Host>(
             capacity,
         });
     }
-    match write_words(volume, kept, logical_pages(used) as u32, used, words) {
+    let had = logical_pages(used) as u32;
+    match write_words(volume, kept, had, used, words) {
         Ok(()) => Ok(()),
         Err(_) => Err(VaultFault::Device),
     }
@@ -275,7 +276,8 @@ pub fn overwrite_at<H: Host>(
     ensures kept { OnOk result (AreHeld kept.new.places.items volume.new.table (H.outside volume.new.host)) }
 {
     let _header = object_at(volume, kept, used, pid, Some(words.len() as u64))?;
-    match write_words(volume, kept, logical_pages(used) as u32, pid, words) {
+    let had = logical_pages(used) as u32;
+    match write_words(volume, kept, had, pid, words) {
         Ok(()) => Ok(()),
         Err(_) => Err(VaultFault::Device),
     }

@@ -56,6 +56,7 @@ impl<H: Host> ObjStore<H> {
         };
         match Volume::attach(alloc, host) {
             Ok(volume) => {
+                volume.sound();
                 let used = volume.note().used;
                 Ok(ObjStore {
                     volume,

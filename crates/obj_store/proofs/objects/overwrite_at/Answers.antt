@@ -1,4 +1,4 @@
-use Rattle.std.proofs.Common.{◌+◌, ◌/◌, ◌≤◌, length, sym, ap, subst, ◌∙◌, arith}
+use Rattle.std.proofs.Common.{◌<◌, ◌^◌, ℕ, ◌+◌, ◌/◌, ◌≤◌, length, sym, ap, subst, ◌∙◌, arith}
 use Rattle.obj_layout.proofs.of_ps_outside.PastMoments.{past_along, past_then}
 use Rattle.paged_volume.specs.Standing.{seen}
 use Rattle.paged_volume.specs.declared.committed.Committed.{Committed}
@@ -7,8 +7,11 @@ use Rattle.obj_layout.specs.Stored.{overwritten}
 use Rattle.obj_layout.specs.Storing.{writing}
 use Rattle.obj_store.specs.Spaces.{IsInOrder}
 use Rattle.obj_store.specs.Words.{HoldsPut}
+use Rattle.volume_parts.specs.Layout.{pages_of_words}
+use Rattle.paged_volume.specs.Staging.{HasPages}
+use Rattle.obj_store.specs.StoreLaws.{order_low}
 use Rattle.obj_store.proofs.ChangeLaws.{becomes_of, joins_overwrite}
-use Rattle.obj_store.proofs.WriteLaws.{stages_looks, stages_then, turns_looks}
+use Rattle.obj_store.proofs.WriteLaws.{stages_looks, stages_then, turns_looks, has_kept}
 use Rattle.obj_store.proofs.objects.overwrite_at.Goals as goal
 
 pub returns-in-Ok-clause-becomes : goal.returns-in-Ok-clause-becomes
@@ -52,3 +55,26 @@ returns-in-Ok-clause-past g c = past_then (past_along c.object_at.ensures.looks.
 
 pub returns-in-Err-clause-past : goal.returns-in-Err-clause-past
 returns-in-Err-clause-past g c = past_then (past_along c.object_at.ensures.looks.images) c.write_words.ensures.past
+
+pub logical_pages-had-requires : goal.logical_pages-had-requires
+logical_pages-had-requires g c =
+    let low = order_low c.args.used c.args.volume.now.table.committed c.requires.order in
+    let few = low.1 in
+    let fits : c.args.used + 511 < 2 ^ 64 = omega arith in
+    fits
+
+pub overflow_cast-had : goal.overflow_cast-had
+overflow_cast-had g c =
+    let low = order_low c.args.used c.args.volume.now.table.committed c.requires.order in
+    let few = low.1 in
+    omega (arith, c.logical_pages-had.ensures)
+
+pub write_words-requires-clause-has : goal.write_words-requires-clause-has
+write_words-requires-clause-has g c =
+    subst (λ (n : ℕ). HasPages c.object_at.new.volume.table n) (sym c.logical_pages-had.ensures)
+    (subst (λ (t : Table). HasPages t (pages_of_words c.args.used)) (sym c.object_at.ensures.same) c.requires.has)
+
+pub returns-in-Ok-clause-has : goal.returns-in-Ok-clause-has
+returns-in-Ok-clause-has g c =
+    has_kept (pages_of_words c.args.used) _ _ c.object_at.new.volume.table c.write_words.new.volume.table
+    (subst (λ (t : Table). HasPages t (pages_of_words c.args.used)) (sym c.object_at.ensures.same) c.requires.has) c.in-Ok.ensures.marks
