@@ -101,12 +101,12 @@ module _ (number count : ℕ) (from : List ℕ) (held : Held) (below : number < 
       ∙ sym (written_elsewhere (4096 * number) from held.bytes (4096 * other + k) (omega (arith, long)) (out k inside (cases_lt other number)))
       ∙ sym (page_at other k (written (4096 * number) from held.bytes) inside))
     where
+      above : (m n : ℕ) → n ≤ m → m ≢ n → n < m
+      above m n le ne = elim (cases_lt n m) [ inl lt ↦ lt | inr ge ↦ absurd (ne (omega arith)) ]
+
       out : (k : ℕ) → k < 4096 → (other < number) ⊎ (number ≤ other) → IsOutside (4096 * number) (length from) (4096 * other + k)
       out k inside (inl before) = inl (omega arith)
       out k inside (inr behind) = inr (let after = above other number behind differs in omega (arith, size))
-
-      above : (m n : ℕ) → n ≤ m → m ≢ n → n < m
-      above m n le ne = elim (cases_lt n m) [ inl lt ↦ lt | inr ge ↦ absurd (ne (omega arith)) ]
 
 -- and a page that was put
 pub kept_put : (places : List (Option KeptPage)) (p q : Table) (a b : Outside (List ℕ)) (number : ℕ) (from : List ℕ) → number < capacity_pages p.committed.pages → length from ≡ 4096 → q.committed ≡ p.committed →
@@ -152,3 +152,8 @@ kept_put places p q a b number from below size same put kept = λ place page is.
 pub kept_there : (places : List (Option KeptPage)) (p : Table) (a : Outside (List ℕ)) (number : ℕ) (bytes : List ℕ) → IsThere places number bytes → AreHeld places p a →
     (held : Held) → (seen p a).contents (Some held) → bytes ≡ page_of number held
 kept_there places p a number bytes there kept held now = (kept there.place (kept_page number bytes) there.is).bytes_are held now
+
+pub same_default : {A : Type 0} (xs : List A) (i : ℕ) (d e : A) → i < length xs → get_or xs i d ≡ get_or xs i e
+same_default [] i d e lt = absurd (omega arith)
+same_default (x ∷ xs) zero d e lt = refl
+same_default (x ∷ xs) (suc i) d e lt = same_default xs i d e (omega arith)

@@ -10,11 +10,11 @@ use Rattle.obj_store.specs.Spaces.{space_filed, spaces}
 
 module _ (used : ℕ) (table : Table) (a : Outside (List ℕ)) (m : ℕ) (bytes : List ℕ) where
   -- an image of the host is one of the store
-  image_seen : a.images m bytes → (spaces used committed staged a).images m (space_filed bytes)
+  image_seen : a.images m bytes → (spaces used table a).images m (space_filed bytes)
   image_seen at = record { from = bytes; was = at; by = refl }
 
   -- and back, by its file
-  image_back : (spaces used committed staged a).images m (space_filed bytes) → a.images m bytes
+  image_back : (spaces used table a).images m (space_filed bytes) → a.images m bytes
   image_back at = subst (λ (file : List ℕ). a.images m file) (ap (λ (space : Space). space.file) at.by) at.was
 
 -- what a crash may leave of the host is left, byte for byte, where the images of the store are

@@ -176,7 +176,7 @@ module _ (used directory : ℕ) (p q : Table) (a b : Outside (List ℕ)) (order 
             sym (saved_space was.held) ∙ ap (λ (o : Option Held). space_found o) was.is,
           )
 
-pub switched_order : (used directory : ℕ) (p q : Committed) → IsInOrder used p.committed → 1 ≤ used → directory < used → q ≡ switched used directory p → IsInOrder used q.committed
+pub switched_order : (used directory : ℕ) (p q : Committed) → IsInOrder used p → 1 ≤ used → directory < used → q ≡ switched used directory p → IsInOrder used q
 switched_order used directory p q order some below is = subst (λ (c : Committed). IsInOrder used c) (sym is) (record {
   fit = (follows_switched p used directory order.fit some order.within below).fit;
   from = omega arith;

@@ -1,6 +1,6 @@
 //! Words of a volume, put page by page.
 
-ghost use Rattle.std.specs.Prelude.{◌≡◌, ℕ, ◌+◌, ◌*◌, ◌/◌, ◌^◌, ◌<◌, ◌≤◌, max, min, List, [], length, Some, OnOk, OnErr};
+ghost use Rattle.std.specs.Prelude.{◌≡◌, ℕ, ◌+◌, ◌*◌, ◌/◌, ◌^◌, ◌<◌, ◌≤◌, max, min, true, false, List, [], length, Some, OnOk, OnErr};
 ghost use Rattle.obj_layout.specs.ps_outside.Outside.{Rose};
 ghost use Rattle.obj_layout.specs.ps_outside.Past.{KeepsPast};
 ghost use Rattle.volume_parts.specs.Holding.{Held};
@@ -17,6 +17,14 @@ use crate::words::{PAGE_WORDS, put_words};
 use paged_volume::layout::{PAGE_BYTES, logical_pages};
 use paged_volume::{Volume, VolumeFault};
 use ps_port::Host;
+
+// Whether nothing is to be staged: no word changes, and the page is one of the first `had`.
+fn is_there(changes: bool, page: u32, had: u32) -> bool
+    ensures there { result ≡ true → (changes ≡ false) × (page < had) }
+    ensures other { result ≡ false → page < had → changes ≡ true }
+{
+    !changes && page < had
+}
 
 /// Puts those words that stand in a page, of words that lie from `at` on. Where they stand there already nothing is staged, if the page is one of the
 /// first `had`, which are staged or committed.
@@ -51,7 +59,7 @@ fn write_part<H: Host>(
     let mut bytes = [0u8; PAGE_BYTES];
     read_kept(volume, kept, page, &mut bytes)?;
     let changes = put_words(&mut bytes, PAGE_WORDS * page as u64, at, from);
-    if !changes && page < had {
+    if is_there(changes, page, had) {
         return Ok(());
     }
     put_kept(volume, kept, page, &bytes)

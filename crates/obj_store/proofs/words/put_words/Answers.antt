@@ -1,6 +1,6 @@
 use Rattle.std.proofs.Common.{◌≡◌, ℕ, ◌+◌, ◌≤◌, min, max, true, false, length, ap, sym, subst, arith, ◌∙◌}
-use Rattle.obj_store.specs.Words.{IsPut, Differs}
-use Rattle.obj_store.proofs.WordLaws.{put_done, put_more, differs_more, differs_next, differs_done}
+use Rattle.obj_store.specs.Words.{IsPut}
+use Rattle.obj_store.proofs.WordLaws.{put_done}
 use Rattle.obj_store.proofs.words.put_words.Goals as goal
 
 pub returns-clause-put : goal.returns-clause-put

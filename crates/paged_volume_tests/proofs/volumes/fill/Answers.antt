@@ -9,12 +9,12 @@ use Rattle.paged_volume_tests.proofs.volumes.fill.Goals as goal
 more_pages : (p q : Table) (page : ℕ) → HasPages p page → Marks page p q → HasPages q (page + 1)
 more_pages p q page has marks other lt = by (cases_eq other page)
   where
+    below : (m n : ℕ) → m < n + 1 → m ≢ n → m < n
+    below m n lt ne = grind arith
+
     by : (other ≡ page) ⊎ (other ≢ page) → 1 ≤ get_or q.map.staged other 0
     by (inl here) = subst (λ (n : ℕ). 1 ≤ get_or q.map.staged n 0) (sym here) marks.marked
     by (inr elsewhere) = subst (λ (n : ℕ). 1 ≤ n) (sym (marks.kept other elsewhere)) (has other (below other page lt elsewhere))
-
-    below : (m n : ℕ) → m < n + 1 → m ≢ n → m < n
-    below m n lt ne = grind arith
 
 pub loop-page-preserved : goal.loop-page-preserved
 loop-page-preserved c =

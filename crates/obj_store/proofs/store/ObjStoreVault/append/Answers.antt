@@ -65,3 +65,6 @@ returns-in-Err-clause-full g c = λ u w m e.
     let is = full_fault {T = ℕ} (o v.host) (o z.host) used (length c.args.words.now) (capacity_of v.table.committed.pages) c.in-Err.fault c.in-Err.ensures.fault u w m e in
     subst (λ (s : Store g.row.H.Denot). (u ≡ used_of s) × (w ≡ length c.args.words.now) × (m ≡ most_of s) × (m < u + w)) c.self.view_is
     (is.0 ∙ sym (used_is used v.table.committed order), is.1, is.2 ∙ sym (most_is used v.table.committed order), is.3)
+
+pub append_at-requires-clause-kept : goal.append_at-requires-clause-kept
+append_at-requires-clause-kept g c = c.self.invariant.pages (ap (λ (s : Store g.row.H.Denot). s.live) c.self.view_is ∙ c.requires.alive)

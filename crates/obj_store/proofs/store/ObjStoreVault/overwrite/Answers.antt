@@ -1,4 +1,4 @@
-use Rattle.std.proofs.Common.{length, Some, Ok, Err, subst}
+use Rattle.std.proofs.Common.{length, Some, Ok, Err, subst, ◌∙◌, ap}
 use Rattle.obj_layout.specs.Storing.{TestsObject, IsStagingCall, writing}
 use Rattle.obj_store.specs.Spaces.{spaces}
 use Rattle.obj_store.specs.Store.{Store, outside_of}
@@ -33,3 +33,6 @@ returns-in-Err-clause-call g c =
     let most = writing (length c.args.words.now) in
     subst (λ (s : Store g.row.H.Denot). IsStagingCall {T = Unit {0}} (outside_of o s) (spaces used z.table (o z.host)) most (Err c.in-Err.fault)) c.self.view_is
     (object_call {T = Unit {0}} used used most v.table z.table (o v.host) (o z.host) c.overwrite_at.ensures.past c.overwrite_at.ensures.stages c.args.pid (Some (length c.args.words.now)) c.in-Err.fault c.in-Err.ensures.fault)
+
+pub overwrite_at-requires-clause-kept : goal.overwrite_at-requires-clause-kept
+overwrite_at-requires-clause-kept g c = c.self.invariant.pages (ap (λ (s : Store g.row.H.Denot). s.live) c.self.view_is ∙ c.requires.alive)
