@@ -5,7 +5,7 @@ use Rattle.joint_ops.specs.obj_layout.Stored.{Space}
 use Rattle.joint_ops.specs.obj_layout.declared.kind.Kind.TheVariants as kind
 use Rattle.joint_ops.specs.obj_layout.declared.reference.Reference.TheVariants.{Local}
 use Rattle.joint_ops.specs.swizzle.declared.fault.SwizzleFault.{SwizzleFault}
-use Rattle.joint_ops.specs.swizzle.Heap.{Heap, IsMade, IsFull, header_at}
+use Rattle.joint_ops.specs.swizzle.Heap.{Heap, IsHeap, IsMade, IsFull, header_at}
 use Rattle.joint_ops.specs.swizzle.Text.{text_at}
 use Rattle.database_meaning.specs.ps_meaning.ps_base.Limits.{most_databases, most_database_name_bytes, most_password_bytes}
 use Rattle.database_meaning.specs.Databases.{Mode, Reading, Writing, mode_named}
@@ -105,6 +105,7 @@ module _ (old new : Heap) (before after : Outside Space) (directory : Option ℕ
   -- No database has the name, and then one is added, or there are too many, or no room.
   pub record GoesOn (result : Result Created SwizzleFault) : Type 0 where
     pub mid : Heap
+    pub sound : IsHeap mid
     pub reads : ReadsSome old mid before after
     pub fit : AreFit (text_at old name) (text_at old password)
     pub others : Finds old mid before after directory (text_at old name) (Ok None)
@@ -112,15 +113,13 @@ module _ (old new : Heap) (before after : Outside Space) (directory : Option ℕ
 
   -- Why a database isn't created: then the directory was read at most.
   abbrev pub IsRefused : DirFault → Type 0
-  IsRefused dir.Exists =
-      ReadsSome old new before after × AreFit (text_at old name) (text_at old password)
-      × ((number : ℕ) × Finds old new before after directory (text_at old name) (Ok (Some number)))
+  IsRefused dir.Exists = AreFit (text_at old name) (text_at old password) × ((number : ℕ) × Finds old new before after directory (text_at old name) (Ok (Some number)))
   IsRefused dir.TooMany = GoesOn (Ok (created.Fault dir.TooMany))
   IsRefused fault = AreUnfit (text_at old name) (text_at old password) fault × (new ≡ old)
 
   abbrev pub Tries : Result Created SwizzleFault → Type 0
   Tries (Ok (created.Made made number)) = GoesOn (Ok (created.Made made number))
-  Tries (Ok (created.Fault fault)) = IsRefused fault
+  Tries (Ok (created.Fault fault)) = ReadsSome old new before after × IsRefused fault
   Tries (Err fault) = Finds old new before after directory (text_at old name) (Err fault) ⊎ GoesOn (Err fault)
 
 -- how a mode opens

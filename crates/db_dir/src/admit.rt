@@ -121,8 +121,12 @@ fn open_at<V: Vault>(sw: &mut Swizzle, vault: &mut V, directory: u32, number: u3
     let same = has_text(sw, vault, directory, 3 * place + 1, 0, MOST_PASSWORD_BYTES, password);
     sw.sound();
     match same {
-        Ok(true) => open_as(sw, vault, directory, place, mode),
-        Ok(false) => Ok(Admitted::Fault(DirFault::Password)),
+        Ok(same) => {
+            if same {
+                return open_as(sw, vault, directory, place, mode);
+            }
+            Ok(Admitted::Fault(DirFault::Password))
+        }
         Err(fault) => Err(fault),
     }
 }

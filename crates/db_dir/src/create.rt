@@ -77,6 +77,7 @@ fn extend(sw: &mut Swizzle, directory: Option<u32>, count: u32, name: u32, passw
         (λ at. heap.IsMade sw.old sw.new at (directory_of (refs_in sw.old directory ++ Reference.Local name ∷ Reference.Local password ∷ Reference.Local root ∷ [])))
         (heap.IsFull sw.old sw.new (3 * count + 8)) }
 {
+    sw.sound();
     let refs = 3 * count;
     let made = match sw.make(Kind::Directory, refs + 3, 1, 0) {
         Ok(made) => made,
@@ -100,7 +101,9 @@ fn copy_refs(sw: &mut Swizzle, from: u32, to: u32, count: u32)
     ensures { (base : heap.Heap) (object : Object) → heap.IsMade base sw.old to object → IsHeld base from
         → heap.IsMade base sw.new to (record object { refs = take count (heap.object_at base from).refs ++ drop count object.refs }) }
 {
+    sw.sound();
     for slot in 0..count {
+        sw.sound();
         sw.copy_ref(from, slot, to, slot);
     }
 }

@@ -61,9 +61,13 @@ fn find_in<V: Vault>(sw: &mut Swizzle, vault: &mut V, directory: u32, name: u32)
 {
     let count = database_count(sw, directory);
     for place in 0..count {
+        sw.sound();
         match has_text(sw, vault, directory, 3 * place, 1, MOST_NAME_BYTES, name) {
-            Ok(true) => return Ok(Some(place + 1)),
-            Ok(false) => {}
+            Ok(same) => {
+                if same {
+                    return Ok(Some(place + 1));
+                }
+            }
             Err(fault) => return Err(fault),
         }
     }

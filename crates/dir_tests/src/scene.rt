@@ -1,0 +1,168 @@
+//! The calls on a directory, over a store and an area.
+ghost use Rattle.std.specs.Prelude.{◌≡◌, ℕ, true, IfOk, IfSome};
+ghost use Rattle.db_dir.specs.Directories.{IsShaped};
+ghost use Rattle.db_dir.specs.joint_ops.heap_texts.Texts.{HoldsText, StillTexts};
+
+use crate::answers::{put_counted, put_fault, put_refusal, put_root};
+use crate::call::{Call, Said};
+use db_dir::admit::{Admitted, admit};
+use db_dir::create::{Created, create};
+use db_dir::find::find;
+use db_dir::joint_ops::heap_texts::make::make_text;
+use db_dir::joint_ops::obj_layout::kind::Kind;
+use db_dir::joint_ops::obj_layout::vault::Vault;
+use db_dir::joint_ops::swizzle::fault::SwizzleFault;
+use db_dir::joint_ops::swizzle::swizzle::Swizzle;
+use db_dir::load::load_directory;
+use db_dir::shape::database_count;
+use memory_vault::memory::MemoryVault;
+use row_words::table_rows::Buffer;
+
+/// Makes a call on a directory, or on none, writes what it answers, and gives the directory that is at hand afterwards: none after a refusal.
+pub fn put_called(out: &mut Buffer, vault: &mut MemoryVault, sw: &mut Swizzle, at: Option<u32>, call: Call<'_>) -> Option<u32>
+    requires { IfSome at (IsShaped sw.old) }
+    ensures { IfSome result (IsShaped sw.new) }
+{
+    match call {
+        Call::Fail(number) => {
+            vault.fail_from(number);
+            out.put("done");
+            at
+        }
+        Call::Touched => {
+            put_counted(out, "calls", vault.calls());
+            at
+        }
+        Call::Many(count) => put_many(out, vault, sw, at, count),
+        _ => put_answer(out, vault, sw, at, call),
+    }
+}
+
+fn put_answer(out: &mut Buffer, vault: &mut MemoryVault, sw: &mut Swizzle, at: Option<u32>, call: Call<'_>) -> Option<u32>
+    requires { IfSome at (IsShaped sw.old) }
+    ensures { IfSome result (IsShaped sw.new) }
+{
+    if !vault.is_alive() {
+        out.put("dead");
+        return at;
+    }
+    match call {
+        Call::Load => put_loaded(out, vault, sw),
+        Call::Find(name) => put_found(out, vault, sw, at, name),
+        Call::Create(name, password) => put_created(out, vault, sw, at, name, password),
+        Call::Open(name, password, mode) => put_opened(out, vault, sw, at, name, password, mode),
+        _ => at,
+    }
+}
+
+// How many databases a directory names, or none.
+fn put_databases(out: &mut Buffer, sw: &Swizzle, at: Option<u32>)
+    requires { IfSome at (IsShaped sw.now) }
+{
+    let count = match at {
+        Some(at) => database_count(sw, at),
+        None => 0,
+    };
+    put_counted(out, "databases", u64::from(count));
+}
+
+fn put_loaded(out: &mut Buffer, vault: &mut MemoryVault, sw: &mut Swizzle) -> Option<u32>
+    requires { vault.old.alive ≡ true }
+    ensures { IfSome result (IsShaped sw.new) }
+{
+    match load_directory(sw, vault) {
+        Ok(at) => {
+            put_databases(out, sw, at);
+            at
+        }
+        Err(fault) => {
+            put_refusal(out, fault);
+            None
+        }
+    }
+}
+
+// The most letters that a text repeats.
+const MOST_LETTERS: usize = 100;
+
+// Makes the text that a call says. All texts and directories stay.
+fn say(sw: &mut Swizzle, said: Said<'_>) -> Result<u32, SwizzleFault>
+    ensures text { IfOk result (HoldsText sw.new) }
+    ensures texts { StillTexts sw.old sw.new }
+    ensures shaped { (at : ℕ) → IsShaped sw.old at → IsShaped sw.new at }
+{
+    match said {
+        Said::Bytes(bytes) => make_text(sw, bytes),
+        Said::Repeated(count, letter) => {
+            let letters = [letter; MOST_LETTERS];
+            let (first, _) = letters.split_at(MOST_LETTERS.min(count as usize));
+            make_text(sw, first)
+        }
+    }
+}
+
+fn put_found(out: &mut Buffer, vault: &mut MemoryVault, sw: &mut Swizzle, at: Option<u32>, name: Said<'_>) -> Option<u32>
+    requires alive { vault.old.alive ≡ true }
+    requires shaped { IfSome at (IsShaped sw.old) }
+    ensures { IfSome result (IsShaped sw.new) }
+{
+    let name = match say(sw, name) {
+        Ok(name) => name,
+        Err(fault) => {
+            put_refusal(out, fault);
+            return None;
+        }
+    };
+    match find(sw, vault, at, name) {
+        Ok(found) => {
+            match found {
+                Some(number) => put_counted(out, "number", u64::from(number)),
+                None => out.put("none"),
+            }
+            at
+        }
+        Err(fault) => {
+            put_refusal(out, fault);
+            None
+        }
+    }
+}
+
+// Two texts, and an object that can be a root.
+fn make_parts(sw: &mut Swizzle, name: Said<'_>, password: Said<'_>) -> Result<(u32, u32, u32), SwizzleFault>
+    ensures parts { IfOk result (λ parts. HoldsText sw.new parts.0 × HoldsText sw.new parts.1 × HoldsTable sw.new parts.2) }
+    ensures shaped { (at : ℕ) → IsShaped sw.old at → IsShaped sw.new at }
+{
+    let name = say(sw, name)?;
+    let password = say(sw, password)?;
+    let root = sw.make(Kind::Table, 1, 3, 0)?;
+    Ok((name, password, root))
+}
+
+fn put_created(out: &mut Buffer, vault: &mut MemoryVault, sw: &mut Swizzle, at: Option<u32>, name: Said<'_>, password: Said<'_>) -> Option<u32>
+    requires alive { vault.old.alive ≡ true }
+    requires shaped { IfSome at (IsShaped sw.old) }
+    ensures { IfSome result (IsShaped sw.new) }
+{
+    let (name, password, root) = match make_parts(sw, name, password) {
+        Ok(parts) => parts,
+        Err(fault) => {
+            put_refusal(out, fault);
+            return None;
+        }
+    };
+    match create(sw, vault, at, name, password, root) {
+        Ok(Created::Made { directory, number }) => {
+            put_counted(out, "made", u64::from(number));
+            Some(directory)
+        }
+        Ok(Created::Fault(fault)) => {
+            put_fault(out, fault);
+            at
+        }
+        Err(fault) => {
+            put_refusal(out, fault);
+            None
+        }
+    }
+}
