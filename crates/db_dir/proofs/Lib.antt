@@ -4,5 +4,6 @@ pub mod ShapeLaws
 pub mod DirLaws
 pub mod FindLaws
 pub mod AnswerLaws
+pub mod AdmitLaws
 pub mod ExtendLaws
 pub mod MadeLaws

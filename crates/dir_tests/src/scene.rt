@@ -1,7 +1,8 @@
 //! The calls on a directory, over a store and an area.
-ghost use Rattle.std.specs.Prelude.{◌≡◌, ℕ, true, IfOk, IfSome};
+ghost use Rattle.std.specs.Prelude.{◌≡◌, ◌≤◌, ℕ, true, IfOk, IfSome};
 ghost use Rattle.db_dir.specs.Directories.{IsShaped};
 ghost use Rattle.db_dir.specs.joint_ops.heap_texts.Texts.{HoldsText, StillTexts};
+ghost use Rattle.dir_tests.specs.Tables.{HoldsTable};
 
 use crate::answers::{put_counted, put_fault, put_refusal, put_root};
 use crate::call::{Call, Said};
@@ -165,4 +166,70 @@ fn put_created(out: &mut Buffer, vault: &mut MemoryVault, sw: &mut Swizzle, at: 
             None
         }
     }
+}
+
+// Three texts, for a name, a password and a mode.
+fn make_words(sw: &mut Swizzle, name: Said<'_>, password: Said<'_>, mode: Said<'_>) -> Result<(u32, u32, u32), SwizzleFault>
+    ensures words { IfOk result (λ words. HoldsText sw.new words.0 × HoldsText sw.new words.1 × HoldsText sw.new words.2) }
+    ensures shaped { (at : ℕ) → IsShaped sw.old at → IsShaped sw.new at }
+{
+    let name = say(sw, name)?;
+    let password = say(sw, password)?;
+    let mode = say(sw, mode)?;
+    Ok((name, password, mode))
+}
+
+fn put_opened(out: &mut Buffer, vault: &mut MemoryVault, sw: &mut Swizzle, at: Option<u32>, name: Said<'_>, password: Said<'_>, mode: Said<'_>) -> Option<u32>
+    requires alive { vault.old.alive ≡ true }
+    requires shaped { IfSome at (IsShaped sw.old) }
+    ensures { IfSome result (IsShaped sw.new) }
+{
+    let (name, password, mode) = match make_words(sw, name, password, mode) {
+        Ok(words) => words,
+        Err(fault) => {
+            put_refusal(out, fault);
+            return None;
+        }
+    };
+    match admit(sw, vault, at, name, password, mode) {
+        Ok(Admitted::Root { number, root, writing }) => {
+            put_root(out, number, sw.pid(root), writing);
+            at
+        }
+        Ok(Admitted::Fault(fault)) => {
+            put_fault(out, fault);
+            at
+        }
+        Err(fault) => {
+            put_refusal(out, fault);
+            None
+        }
+    }
+}
+
+// The digit of a number in the place of a power of ten.
+fn digit_at(number: u32, power: u32) -> u8
+    requires { 1 ≤ power }
+{
+    b'0' + (number / power % 10) as u8
+}
+
+// The name of a number below 1,000.
+fn name_of(number: u32) -> [u8; 3] {
+    [digit_at(number, 100), digit_at(number, 10), digit_at(number, 1)]
+}
+
+// Creates so many databases, and writes how many there are then.
+fn put_many(out: &mut Buffer, vault: &mut MemoryVault, sw: &mut Swizzle, at: Option<u32>, count: u32) -> Option<u32>
+    requires { IfSome at (IsShaped sw.old) }
+    ensures { IfSome result (IsShaped sw.new) }
+{
+    let mut last = at;
+    for number in 1..=count.min(999) {
+        let mut unheard = Buffer::new(out.alloc());
+        let name = name_of(number);
+        last = put_answer(&mut unheard, vault, sw, last, Call::Create(Said::Bytes(&name), Said::Bytes(&[])));
+    }
+    put_databases(out, sw, last);
+    last
 }
