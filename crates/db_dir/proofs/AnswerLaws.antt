@@ -23,7 +23,7 @@ use Rattle.db_dir.specs.Entries.{ReadsSome}
 use Rattle.db_dir.specs.Found.{IsName, AreFit, IsFirst, HasPassword, TakesMode, Opens, OpensAs, OpensAt, is_writing}
 use Rattle.db_dir.specs.Answers.{Admit, IsOpen}
 use Rattle.db_dir.proofs.EntryLaws.{compares-is}
-use Rattle.db_dir.proofs.ListLaws.{in_place}
+use Rattle.db_dir.proofs.ListLaws.{numbered, in_place}
 use Rattle.db_dir.proofs.DirLaws.{in-its-place, named-there, named-nowhere, spoilt-breaks}
 
 -- Creating.
@@ -110,6 +110,9 @@ refuses-name : (databases : Directory) (name password mode : List ℕ) → named
 unfolding admission
 refuses-name databases name password mode n = ap (λ (o : Option Numbered). admitted_to o password mode) n
 
+pub none-refuses : (databases : Directory) (name password mode : List ℕ) → databases ≡ [] → admission databases name password mode ≡ Refuses NoSuchDatabase
+none-refuses databases name password mode e = refuses-name databases name password mode (ap (λ (ds : Directory). named ds name) e)
+
 mode-is : (m : Option Mode) (writing : Bool) → OpensAs m (Some writing) → (as_mode : Mode) × (m ≡ Some as_mode) × (writing ≡ is_writing as_mode)
 mode-is None writing o = absurd o
 mode-is (Some as_mode) writing o = (as_mode, refl, o)
@@ -121,7 +124,7 @@ module _ (old new : Heap) (a b : Outside Space) (row : List Reference) (director
   record Found (place : ℕ) (same : Bool) : Type 0 where
     pub database : Database
     pub there : in_place databases place ≡ Some database
-    pub first : named databases name ≡ Some (record { number = suc place; database = database })
+    pub first : named databases name ≡ Some (numbered (suc place) database)
     pub password : is_same_text database.password password ≡ same
 
   found : (place : ℕ) (same : Bool) → Within (joint old a) (joint new b) → IsFirst old new directory name place → HasPassword old new directory place password same → Found place same
@@ -141,9 +144,9 @@ module _ (old new : Heap) (a b : Outside Space) (row : List Reference) (director
       let x = found place true grows f o.0 in
       let m = mode-is (mode_named mode) writing o.1.2 in
       let named = in-its-place old new a b row directory databases h later held is place x.database x.there in (
-        record { number = suc place; database = x.database },
+        numbered (suc place) x.database,
         m.0,
-        admits databases name password mode (record { number = suc place; database = x.database }) m.0 x.first x.password m.1,
+        admits databases name password mode (numbered (suc place) x.database) m.0 x.first x.password m.1,
         record {
           number_is = o.1.0;
           root_is = subst (λ (n : Reference). paired row n x.database.root) (sym o.1.1.denotes.1) named.root.paired;
@@ -156,9 +159,9 @@ module _ (old new : Heap) (a b : Outside Space) (row : List Reference) (director
   opens-admit (Ok (admitted.Root number root writing)) f r o = opened o.0 number root writing r.reads.grows o.1 o.2
   opens-admit (Ok (admitted.Fault dir.NoSuchDatabase)) f r o = refuses-name databases name password mode (named-nowhere old new a b row directory databases h later held is name r.reads.grows o)
   opens-admit (Ok (admitted.Fault dir.Password)) f r o =
-      let x = found o.0 false r.reads.grows o.1 o.2 in refuses-password databases name password mode (record { number = suc o.0; database = x.database }) x.first x.password
+      let x = found o.0 false r.reads.grows o.1 o.2 in refuses-password databases name password mode (numbered (suc o.0) x.database) x.first x.password
   opens-admit (Ok (admitted.Fault dir.BadMode)) f r o =
-      let x = found o.0 true r.reads.grows o.1 o.2.0 in refuses-mode databases name password mode (record { number = suc o.0; database = x.database }) x.first x.password o.2.1
+      let x = found o.0 true r.reads.grows o.1 o.2.0 in refuses-mode databases name password mode (numbered (suc o.0) x.database) x.first x.password o.2.1
   opens-admit (Ok (admitted.Fault dir.BadName)) f r o = absurd o.2.1
   opens-admit (Ok (admitted.Fault dir.BadPassword)) f r o = absurd o.2.1
   opens-admit (Ok (admitted.Fault dir.Exists)) f r o = absurd o.2.1

@@ -20,7 +20,7 @@ use Rattle.db_dir.specs.Entries.{ReadsSome}
 use Rattle.db_dir.specs.Found.{IsFirst, HasNone, IsSpoilt, Finds}
 use Rattle.db_dir.specs.Answers.{number_in}
 use Rattle.db_dir.proofs.EntryLaws.{compares-is, misses-breaks, misses-text-breaks}
-use Rattle.db_dir.proofs.ListLaws.{in_place, place-below, place-there, fit-in_place, IsNamed, named-in_place, named-length, named-none, named-first}
+use Rattle.db_dir.proofs.ListLaws.{numbered, in_place, place-below, place-there, fit-in_place, IsNamed, named-in_place, named-length, named-none, named-first}
 
 module _ (old new : Heap) (a b : Outside Space) (row : List Reference) (directory : ℕ) (databases : Directory) (h : IsHeap old) (later : IsHeap new)
     (held : IsHeld old directory) (is : IsDirectory (seen old a) (paired row) (shown_at old directory) databases) where
@@ -32,7 +32,7 @@ module _ (old new : Heap) (a b : Outside Space) (row : List Reference) (director
   in-its-place k d e = named-in_place (seen old a) (paired row) (shown_at old directory).refs databases k d is.names e
 
   pub named-there : (name : List ℕ) (place : ℕ) → Within (joint old a) (joint new b) → IsFirst old new directory name place
-      → (d : Database) × (in_place databases place ≡ Some d) × (named databases name ≡ Some (record { number = suc place; database = d }))
+      → (d : Database) × (in_place databases place ≡ Some d) × (named databases name ≡ Some (numbered (suc place) d))
   named-there name place grows f =
       let there = place-there databases place (omega (arith, three-each, f.below)) in
       let d = there.0 in (

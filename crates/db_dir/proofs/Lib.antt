@@ -1,6 +1,7 @@
 pub mod EntryLaws
 pub mod ListLaws
 pub mod ShapeLaws
+pub mod LoadLaws
 pub mod DirLaws
 pub mod FindLaws
 pub mod AnswerLaws

@@ -104,22 +104,25 @@ fit-more (x ∷ ds) d f g = (f.0, fit-more ds d f.1 g)
 
 -- The search for a name.
 
+abbrev pub numbered : ℕ → Database → Numbered
+numbered n d = record { number = n; database = d }
+
 pub named-none : (n : ℕ) (ds : Directory) (name : List ℕ) → ((k : ℕ) (d : Database) → in_place ds k ≡ Some d → is_same_text d.name name ≡ false)
     → named_from n ds name ≡ None
 named-none n [] name f = refl
 named-none n (x ∷ ds) name f =
-    ap (λ (b : Bool). if b then Some (record { number = n; database = x }) else named_from (suc n) ds name) (f 0 x refl)
+    ap (λ (b : Bool). if b then Some (numbered n x) else named_from (suc n) ds name) (f 0 x refl)
     ∙ named-none (suc n) ds name (λ k d e. f (suc k) d e)
 
 pub named-first : (n : ℕ) (ds : Directory) (name : List ℕ) (k m : ℕ) (d : Database) → in_place ds k ≡ Some d
     → ((j : ℕ) (e : Database) → j < k → in_place ds j ≡ Some e → is_same_text e.name name ≡ false) → is_same_text d.name name ≡ true → m ≡ n + k
-    → named_from n ds name ≡ Some (record { number = m; database = d })
+    → named_from n ds name ≡ Some (numbered m d)
 named-first n [] name k m d there f is at = absurd (cc)
 named-first n (x ∷ ds) name zero m d there f is at =
     let same : x ≡ d = cc in
-    ap (λ (b : Bool). if b then Some (record { number = n; database = x }) else named_from (suc n) ds name) (ap (λ (y : Database). is_same_text y.name name) same ∙ is)
-    ∙ ap (λ (y : Database). Some (record { number = n; database = y })) same
-    ∙ ap (λ (i : ℕ). Some (record { number = i; database = d })) (omega (arith, at))
+    ap (λ (b : Bool). if b then Some (numbered n x) else named_from (suc n) ds name) (ap (λ (y : Database). is_same_text y.name name) same ∙ is)
+    ∙ ap (λ (y : Database). Some (numbered n y)) same
+    ∙ ap (λ (i : ℕ). Some (numbered i d)) (omega (arith, at))
 named-first n (x ∷ ds) name (suc k) m d there f is at =
-    ap (λ (b : Bool). if b then Some (record { number = n; database = x }) else named_from (suc n) ds name) (f 0 x (omega arith) refl)
+    ap (λ (b : Bool). if b then Some (numbered n x) else named_from (suc n) ds name) (f 0 x (omega arith) refl)
     ∙ named-first (suc n) ds name k m d there (λ j e lt y. f (suc j) e (omega (arith, lt)) y) is (omega (arith, at))

@@ -43,7 +43,7 @@ use Rattle.db_dir.specs.declared.create.Created.TheVariants as created
 use Rattle.db_dir.specs.declared.fault.DirFault.TheVariants as dir
 use Rattle.db_dir.proofs.AnswerLaws.{fault-name, fault-password, fault-exists, fault-many, fault-none}
 use Rattle.db_dir.proofs.DirLaws.{named-there, named-nowhere, spoilt-breaks}
-use Rattle.db_dir.proofs.ListLaws.{named-within, named-more, fit-more, named-length}
+use Rattle.db_dir.proofs.ListLaws.{numbered, named-within, named-more, fit-more, named-length}
 
 -- What the new directory refers to lies in the area.
 abbrev AllHeld : Heap → List Reference → Type 0
@@ -99,6 +99,9 @@ table-seen old new a b row at id held is keeps pair =
       };
     }
 
+abbrev shown_directory : List Reference → Shown
+shown_directory refs = record { kind = kind.Directory; refs = refs; nums = replicate 1 0; bytes = 0 }
+
 module _ (old mid new : Heap) (a b : Outside Space) (directory : Option ℕ) (name password root made : ℕ) (h : IsHeap mid) (reads : ReadsSome old mid a b)
     (held : (at : ℕ) → directory ≡ Some at → IsHeld old at) (name_held : IsHeld old name) (password_held : IsHeld old password) (root_held : IsHeld old root)
     (m : IsMade mid new made (directory_of (refs_in mid directory ++ Local name ∷ Local password ∷ Local root ∷ []))) where
@@ -114,7 +117,7 @@ module _ (old mid new : Heap) (a b : Outside Space) (directory : Option ℕ) (na
   pub keeps-all : Keeps old new
   keeps-all = keeps-trans old mid new keeps (made-keeps mid new made (directory_of (refs_in mid directory ++ Local name ∷ Local password ∷ Local root ∷ [])) h m)
 
-  pub shown-made : shown_at new made ≡ record { kind = kind.Directory; refs = names_in old directory ++ name_at old name ∷ name_at old password ∷ name_at old root ∷ []; nums = replicate 1 0; bytes = 0 }
+  pub shown-made : shown_at new made ≡ shown_directory (names_in old directory ++ name_at old name ∷ name_at old password ∷ name_at old root ∷ [])
   shown-made =
       let refs = refs_in mid directory ++ Local name ∷ Local password ∷ Local root ∷ [] in
       let there : shown_at new made ≡ shown_at (with_new mid (directory_of refs)) (top_of mid) =
@@ -126,7 +129,7 @@ module _ (old mid new : Heap) (a b : Outside Space) (directory : Option ℕ) (na
           ∙ ap (λ (n : Reference). names_in old directory ++ name_at old name ∷ n ∷ name_at mid root ∷ []) (keeps.objects password password_held).name
           ∙ ap (λ (n : Reference). names_in old directory ++ name_at old name ∷ name_at old password ∷ n ∷ []) (keeps.objects root root_held).name in
       there ∙ shown-top mid (directory_of refs) inside
-      ∙ ap (λ (ns : List Reference). record { kind = kind.Directory; refs = ns; nums = replicate 1 0; bytes = 0 }) names
+      ∙ ap shown_directory names
 
   pub sees-more : Within (seen old a) (seen new b)
   sees-more n it j =
@@ -211,7 +214,7 @@ module _ (old new : Heap) (a b : Outside Space) (row : List Reference) (director
             let grows = sees-more old g.mid new a b directory name password root made g.sound g.reads held name_held password_held root_held e.made_is in
             let long = length-append databases (d ∷ []) in
             let all : IsDirectory (seen new b) (paired row)
-                (record { kind = kind.Directory; refs = names_in old directory ++ name_at old name ∷ name_at old password ∷ name_at old root ∷ []; nums = replicate 1 0; bytes = 0 })
+                (shown_directory (names_in old directory ++ name_at old name ∷ name_at old password ∷ name_at old root ∷ []))
                 (databases ++ d ∷ []) = record {
                   kind_is = refl;
                   home = refl;
@@ -249,7 +252,7 @@ module _ (old new : Heap) (a b : Outside Space) (row : List Reference) (director
   exists number None later own e grows f = absurd f
   exists number (Some at) later own e grows f =
       let there = named-there old new a b row at databases h later (own at refl) e (text_at old name) f.0 grows f.2 in
-      (record { number = suc f.0; database = there.0 }, there.2)
+      (numbered (suc f.0) there.0, there.2)
 
   pub tries-creates : (result : Result Created SwizzleFault) → IsHeap new → FailsAsReading a b result → Tries old new a b directory name password root result
       → Creates old new a b row databases (text_at old name) (text_at old password) root result
