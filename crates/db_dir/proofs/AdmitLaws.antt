@@ -84,6 +84,7 @@ module _ (old mid new : Heap) (a b c : Outside Space) (directory : ℕ) (h : IsH
       before same p =
           compares-before old mid new directory (3 * place + 1) 0 64 (text_at old password) same r.reads.keeps held
           (subst (λ (bytes : List ℕ). HasPassword mid new directory place bytes same) (texts-kept old mid r.reads.keeps password own is).bytes p)
+
       cases : (result : Result Admitted SwizzleFault) → OpensAt mid new b c (text_at mid password) (text_at mid mode) directory place result
           → OpensAt old new a c (text_at old password) (text_at old mode) directory place result
       cases (Ok (admitted.Root number root writing)) o = (before true o.0, takes-before mode place (Ok (admitted.Root number root writing)) ours kind o.1)

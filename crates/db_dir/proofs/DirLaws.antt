@@ -46,8 +46,8 @@ module _ (old new : Heap) (a b : Outside Space) (row : List Reference) (director
   pub named-nowhere : (name : List ℕ) → Within (joint old a) (joint new b) → HasNone old new directory name → named databases name ≡ None
   named-nowhere name grows f =
       named-none 1 databases name (λ k d e.
-          compares-is old new a b directory (3 * k) 1 64 d.name name false later grows (in-its-place k d e).name
-          (f.others k (omega (arith, three-each, f.places.is, place-below databases k d e))))
+      compares-is old new a b directory (3 * k) 1 64 d.name name false later grows (in-its-place k d e).name
+      (f.others k (omega (arith, three-each, f.places.is, place-below databases k d e))))
 
   pub spoilt-breaks : (fault : SwizzleFault) → FailsReading a b fault → IsSpoilt old new a b directory fault → BreaksOff old new a b fault
   spoilt-breaks fault f s =

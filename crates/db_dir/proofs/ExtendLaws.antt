@@ -37,12 +37,12 @@ copied-next base mid new from to k object h held now below within m is =
     let long : k < length xs = omega (arith, below, refs-long mid from h now, ap (λ (o : Object). length o.refs) own) in
     let r : ref_at mid from k ≡ get_or xs k Nil = ap (λ (o : Object). get_or o.refs k Nil) own in
     let step : set (take k xs ++ drop k object.refs) k (ref_at mid from k) ≡ take (k + 1) xs ++ drop (k + 1) object.refs =
-        ap (set (take k xs ++ drop k object.refs) k) r ∙ copy-step xs object.refs k long within
-        ∙ ap (λ (n : ℕ). take n xs ++ drop n object.refs) (omega arith) in
+    ap (set (take k xs ++ drop k object.refs) k) r ∙ copy-step xs object.refs k long within
+    ∙ ap (λ (n : ℕ). take n xs ++ drop n object.refs) (omega arith) in
     let put : new ≡ with_object mid to (with_first object xs (k + 1)) =
-        is
-        ∙ ap (λ (o : Object). with_object mid to (record o { refs = set o.refs k (ref_at mid from k) })) (made-object base mid to last m)
-        ∙ ap (λ (rs : List Reference). with_object mid to (record object { refs = rs })) step in
+    is
+    ∙ ap (λ (o : Object). with_object mid to (record o { refs = set o.refs k (ref_at mid from k) })) (made-object base mid to last m)
+    ∙ ap (λ (rs : List Reference). with_object mid to (record object { refs = rs })) step in
     made-replaced base mid new to last (with_first object xs (k + 1)) m put refl
 
 -- a slot of it was written

@@ -121,13 +121,13 @@ module _ (old mid new : Heap) (a b : Outside Space) (directory : Option ℕ) (na
   shown-made =
       let refs = refs_in mid directory ++ Local name ∷ Local password ∷ Local root ∷ [] in
       let there : shown_at new made ≡ shown_at (with_new mid (directory_of refs)) (top_of mid) =
-          ap (λ (x : Heap). shown_at x made) m.made ∙ ap (shown_at (with_new mid (directory_of refs))) m.place in
+      ap (λ (x : Heap). shown_at x made) m.made ∙ ap (shown_at (with_new mid (directory_of refs))) m.place in
       let names : map (name_of mid) refs ≡ names_in old directory ++ name_at old name ∷ name_at old password ∷ name_at old root ∷ [] =
-          map-append (name_of mid) (refs_in mid directory) (Local name ∷ Local password ∷ Local root ∷ [])
-          ∙ ap (λ (ns : List Reference). ns ++ name_at mid name ∷ name_at mid password ∷ name_at mid root ∷ []) (names-kept old mid directory keeps held)
-          ∙ ap (λ (n : Reference). names_in old directory ++ n ∷ name_at mid password ∷ name_at mid root ∷ []) (keeps.objects name name_held).name
-          ∙ ap (λ (n : Reference). names_in old directory ++ name_at old name ∷ n ∷ name_at mid root ∷ []) (keeps.objects password password_held).name
-          ∙ ap (λ (n : Reference). names_in old directory ++ name_at old name ∷ name_at old password ∷ n ∷ []) (keeps.objects root root_held).name in
+      map-append (name_of mid) (refs_in mid directory) (Local name ∷ Local password ∷ Local root ∷ [])
+      ∙ ap (λ (ns : List Reference). ns ++ name_at mid name ∷ name_at mid password ∷ name_at mid root ∷ []) (names-kept old mid directory keeps held)
+      ∙ ap (λ (n : Reference). names_in old directory ++ n ∷ name_at mid password ∷ name_at mid root ∷ []) (keeps.objects name name_held).name
+      ∙ ap (λ (n : Reference). names_in old directory ++ name_at old name ∷ n ∷ name_at mid root ∷ []) (keeps.objects password password_held).name
+      ∙ ap (λ (n : Reference). names_in old directory ++ name_at old name ∷ name_at old password ∷ n ∷ []) (keeps.objects root root_held).name in
       there ∙ shown-top mid (directory_of refs) inside
       ∙ ap shown_directory names
 
@@ -163,7 +163,7 @@ made-shaped mid new directory name password root made number h held e =
     let refs = refs_in mid directory ++ Local name ∷ Local password ∷ Local root ∷ [] in
     let o = made-object mid new made (directory_of refs) e.made_is in
     let long : length refs ≡ 3 * suc e.count =
-        omega (arith, length-append (refs_in mid directory) (Local name ∷ Local password ∷ Local root ∷ []), long-old mid directory e.count h held e.counts) in
+    omega (arith, length-append (refs_in mid directory) (Local name ∷ Local password ∷ Local root ∷ []), long-old mid directory e.count h held e.counts) in
     let is : (header_at new made).refs ≡ 3 * suc e.count = ap (λ (x : Object). x.header.refs) o ∙ long in (
       record {
         held = made-held mid new made (directory_of refs) e.made_is;
@@ -181,7 +181,6 @@ module _ (old new : Heap) (a b : Outside Space) (row : List Reference) (director
     (held : (at : ℕ) → directory ≡ Some at → IsHeld old at) (name_held : IsHeld old name) (name_text : (header_at old name).kind ≡ kind.Text)
     (password_held : IsHeld old password) (password_text : (header_at old password).kind ≡ kind.Text) (root_held : IsHeld old root)
     (root_table : (header_at old root).kind ≡ kind.Table) (is : IsDirectoryAt old (seen old a) (paired row) directory databases) where
-
   old-names : (d : Option ℕ) → IsDirectoryAt old (seen old a) (paired row) d databases → AreNamed (seen old a) (paired row) (names_in old d) databases
   old-names None e = subst (AreNamed (seen old a) (paired row) []) (sym e) tt
   old-names (Some at) e = e.names
@@ -214,20 +213,20 @@ module _ (old new : Heap) (a b : Outside Space) (row : List Reference) (director
             let grows = sees-more old g.mid new a b directory name password root made g.sound g.reads held name_held password_held root_held e.made_is in
             let long = length-append databases (d ∷ []) in
             let all : IsDirectory (seen new b) (paired row)
-                (shown_directory (names_in old directory ++ name_at old name ∷ name_at old password ∷ name_at old root ∷ []))
-                (databases ++ d ∷ []) = record {
-                  kind_is = refl;
-                  home = refl;
-                  some = omega (arith, long);
-                  few = omega (arith, long, count, e.few);
-                  fit = fit-more databases d (old-fit directory is) (record { some = g.fit.name.some; short = g.fit.name.short; password = g.fit.short });
-                  names = named-more (seen new b) (paired row) (names_in old directory) databases (name_at old name) (name_at old password) (name_at old root) d
-                      (named-within (seen old a) (seen new b) (paired row) (names_in old directory) databases grows (old-names directory is))
-                      (text-seen old new a b name name_held name_text keeps) (text-seen old new a b password password_held password_text keeps)
-                      (table-seen old new a b row root id root_held root_table keeps pair);
-                } in
+            (shown_directory (names_in old directory ++ name_at old name ∷ name_at old password ∷ name_at old root ∷ []))
+            (databases ++ d ∷ []) = record {
+              kind_is = refl;
+              home = refl;
+              some = omega (arith, long);
+              few = omega (arith, long, count, e.few);
+              fit = fit-more databases d (old-fit directory is) (record { some = g.fit.name.some; short = g.fit.name.short; password = g.fit.short });
+              names = named-more (seen new b) (paired row) (names_in old directory) databases (name_at old name) (name_at old password) (name_at old root) d
+                  (named-within (seen old a) (seen new b) (paired row) (names_in old directory) databases grows (old-names directory is))
+                  (text-seen old new a b name name_held name_text keeps) (text-seen old new a b password password_held password_text keeps)
+                  (table-seen old new a b row root id root_held root_table keeps pair);
+            } in
             subst (λ (it : Shown). IsDirectory (seen new b) (paired row) it (databases ++ d ∷ []))
-                (sym (shown-made old g.mid new a b directory name password root made g.sound g.reads held name_held password_held root_held e.made_is)) all;
+            (sym (shown-made old g.mid new a b directory name password root made g.sound g.reads held name_held password_held root_held e.made_is)) all;
       }
 
   short : (fault : SwizzleFault) → Goes (Err fault) → IsShort old new a b row databases (text_at old name) (text_at old password) fault

@@ -26,7 +26,7 @@ shape-is heap at h same held is kind yes home places = record {
 pub shape-kind : (heap : Heap) (at : ℕ) (same : Bool) → same ≡ nat_eq (kind_number (header_at heap at).kind) (kind_number Directory) → same ≡ false → IsShaped heap at → ⊥
 shape-kind heap at same kind no s =
     let yes : nat_eq (kind_number (header_at heap at).kind) (kind_number Directory) ≡ true =
-        ap (λ (k : Kind). nat_eq (kind_number k) (kind_number Directory)) s.kind_is in
+    ap (λ (k : Kind). nat_eq (kind_number k) (kind_number Directory)) s.kind_is in
     let bad : true ≡ false = sym yes ∙ sym kind ∙ no in
     absurd (cc)
 

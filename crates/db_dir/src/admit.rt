@@ -26,7 +26,11 @@ use joint_ops::swizzle::swizzle::Swizzle;
 #[derive(Clone, Copy, PartialEq, Eq, Debug)]
 pub enum Admitted {
     /// Its number, from 1, its root, which is a table of the area, and whether it is opened for writing.
-    Root { number: u32, root: u32, writing: bool },
+    Root {
+        number: u32,
+        root: u32,
+        writing: bool,
+    },
     /// Why it isn't opened.
     Fault(DirFault),
 }
@@ -47,7 +51,14 @@ fn mode_of(mode: &[u8]) -> Option<bool>
 /// Opens the database of this name with this password and this mode, which are texts. The faults are tested in the order in which `DirFault` has them; the mode is
 /// looked at once the password is right, and the root is fetched last. A name that is no text of 1 to 64 bytes, a password that is no text of at most 64, or a root
 /// that is no table, is damaged where it is come to.
-pub fn admit<V: Vault>(sw: &mut Swizzle, vault: &mut V, directory: Option<u32>, name: u32, password: u32, mode: u32) -> Result<Admitted, SwizzleFault>
+pub fn admit<V: Vault>(
+    sw: &mut Swizzle,
+    vault: &mut V,
+    directory: Option<u32>,
+    name: u32,
+    password: u32,
+    mode: u32,
+) -> Result<Admitted, SwizzleFault>
     requires alive { V.alive vault.old }
     requires directory { IfSome directory (IsShaped sw.old) }
     requires name { IsHeld sw.old name }
@@ -75,7 +86,14 @@ pub fn admit<V: Vault>(sw: &mut Swizzle, vault: &mut V, directory: Option<u32>, 
 }
 
 // The same in a directory that there is, whatever the vault holds.
-fn admit_in<V: Vault>(sw: &mut Swizzle, vault: &mut V, directory: u32, name: u32, password: u32, mode: u32) -> Result<Admitted, SwizzleFault>
+fn admit_in<V: Vault>(
+    sw: &mut Swizzle,
+    vault: &mut V,
+    directory: u32,
+    name: u32,
+    password: u32,
+    mode: u32,
+) -> Result<Admitted, SwizzleFault>
     requires alive { V.alive vault.old }
     requires directory { IsShaped sw.old directory }
     requires name { IsHeld sw.old name }
@@ -101,7 +119,14 @@ fn admit_in<V: Vault>(sw: &mut Swizzle, vault: &mut V, directory: u32, name: u32
 }
 
 // Opens the database with this number.
-fn open_at<V: Vault>(sw: &mut Swizzle, vault: &mut V, directory: u32, number: u32, password: u32, mode: u32) -> Result<Admitted, SwizzleFault>
+fn open_at<V: Vault>(
+    sw: &mut Swizzle,
+    vault: &mut V,
+    directory: u32,
+    number: u32,
+    password: u32,
+    mode: u32,
+) -> Result<Admitted, SwizzleFault>
     requires alive { V.alive vault.old }
     requires held { IsHeld sw.old directory }
     requires some { 1 ≤ number }
@@ -118,7 +143,15 @@ fn open_at<V: Vault>(sw: &mut Swizzle, vault: &mut V, directory: u32, number: u3
 {
     sw.sound();
     let place = number - 1;
-    let same = has_text(sw, vault, directory, 3 * place + 1, 0, MOST_PASSWORD_BYTES, password);
+    let same = has_text(
+        sw,
+        vault,
+        directory,
+        3 * place + 1,
+        0,
+        MOST_PASSWORD_BYTES,
+        password,
+    );
     sw.sound();
     match same {
         Ok(same) => {
@@ -132,7 +165,13 @@ fn open_at<V: Vault>(sw: &mut Swizzle, vault: &mut V, directory: u32, number: u3
 }
 
 // Opens the database in this place, from 0, of which the password is known.
-fn open_as<V: Vault>(sw: &mut Swizzle, vault: &mut V, directory: u32, place: u32, mode: u32) -> Result<Admitted, SwizzleFault>
+fn open_as<V: Vault>(
+    sw: &mut Swizzle,
+    vault: &mut V,
+    directory: u32,
+    place: u32,
+    mode: u32,
+) -> Result<Admitted, SwizzleFault>
     requires alive { V.alive vault.old }
     requires held { IsHeld sw.old directory }
     requires within { 3 * place + 2 < (header_at sw.old directory).refs }

@@ -66,7 +66,14 @@ fn count_of(sw: &Swizzle, directory: Option<u32>) -> u32
 }
 
 // A new directory that names what the old one does, and one database more.
-fn extend(sw: &mut Swizzle, directory: Option<u32>, count: u32, name: u32, password: u32, root: u32) -> Result<u32, SwizzleFault>
+fn extend(
+    sw: &mut Swizzle,
+    directory: Option<u32>,
+    count: u32,
+    name: u32,
+    password: u32,
+    root: u32,
+) -> Result<u32, SwizzleFault>
     requires directory { IfSome directory (IsHeld sw.old) }
     requires counts { Counts sw.old directory count }
     requires few { count < MOST_DATABASES }
@@ -110,7 +117,14 @@ fn copy_refs(sw: &mut Swizzle, from: u32, to: u32, count: u32)
 
 /// Names a database in a new directory, with this name and password, which are texts, and this root, which is a table. The faults are tested in the order in which
 /// `DirFault` has them; where one is answered, or no room, the directory was read at most. AreaFull where there is no room for the new directory.
-pub fn create<V: Vault>(sw: &mut Swizzle, vault: &mut V, directory: Option<u32>, name: u32, password: u32, root: u32) -> Result<Created, SwizzleFault>
+pub fn create<V: Vault>(
+    sw: &mut Swizzle,
+    vault: &mut V,
+    directory: Option<u32>,
+    name: u32,
+    password: u32,
+    root: u32,
+) -> Result<Created, SwizzleFault>
     requires alive { V.alive vault.old }
     requires directory { IfSome directory (IsShaped sw.old) }
     requires name { IsHeld sw.old name }
@@ -136,7 +150,14 @@ pub fn create<V: Vault>(sw: &mut Swizzle, vault: &mut V, directory: Option<u32>,
 }
 
 // The same, whatever the vault holds.
-fn try_create<V: Vault>(sw: &mut Swizzle, vault: &mut V, directory: Option<u32>, name: u32, password: u32, root: u32) -> Result<Created, SwizzleFault>
+fn try_create<V: Vault>(
+    sw: &mut Swizzle,
+    vault: &mut V,
+    directory: Option<u32>,
+    name: u32,
+    password: u32,
+    root: u32,
+) -> Result<Created, SwizzleFault>
     requires alive { V.alive vault.old }
     requires directory { IfSome directory (IsShaped sw.old) }
     requires name { IsHeld sw.old name }
@@ -162,7 +183,13 @@ fn try_create<V: Vault>(sw: &mut Swizzle, vault: &mut V, directory: Option<u32>,
 }
 
 // Names a database of which no fault is known but too many.
-fn add(sw: &mut Swizzle, directory: Option<u32>, name: u32, password: u32, root: u32) -> Result<Created, SwizzleFault>
+fn add(
+    sw: &mut Swizzle,
+    directory: Option<u32>,
+    name: u32,
+    password: u32,
+    root: u32,
+) -> Result<Created, SwizzleFault>
     requires directory { IfSome directory (IsShaped sw.old) }
     requires name { IsHeld sw.old name }
     requires password { IsHeld sw.old password }

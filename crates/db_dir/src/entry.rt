@@ -15,7 +15,13 @@ use text_ops::operators::compare;
 
 /// The object of this kind that a slot refers to. It is fetched where it isn't in the area. Where the slot is nil, the object with the slot is damaged, with 0 and
 /// the number of the kind; where it refers to an object of another kind, that one is, with the numbers of both kinds.
-pub fn touch_entry<V: Vault>(sw: &mut Swizzle, vault: &mut V, object: u32, slot: u32, kind: Kind) -> Result<u32, SwizzleFault>
+pub fn touch_entry<V: Vault>(
+    sw: &mut Swizzle,
+    vault: &mut V,
+    object: u32,
+    slot: u32,
+    kind: Kind,
+) -> Result<u32, SwizzleFault>
     requires alive { V.alive vault.old }
     requires held { IsHeld sw.old object }
     requires below { slot < (header_at sw.old object).refs }
@@ -41,7 +47,14 @@ pub fn touch_entry<V: Vault>(sw: &mut Swizzle, vault: &mut V, object: u32, slot:
 
 /// The text that a slot refers to, of so many bytes. It is fetched where it isn't in the area. A text of another length is damaged, with its length and the bound
 /// that it breaks.
-pub fn touch_text<V: Vault>(sw: &mut Swizzle, vault: &mut V, object: u32, slot: u32, least: u32, most: u32) -> Result<u32, SwizzleFault>
+pub fn touch_text<V: Vault>(
+    sw: &mut Swizzle,
+    vault: &mut V,
+    object: u32,
+    slot: u32,
+    least: u32,
+    most: u32,
+) -> Result<u32, SwizzleFault>
     requires alive { V.alive vault.old }
     requires held { IsHeld sw.old object }
     requires below { slot < (header_at sw.old object).refs }
@@ -68,7 +81,15 @@ pub fn touch_text<V: Vault>(sw: &mut Swizzle, vault: &mut V, object: u32, slot: 
 
 /// Whether the text that a slot refers to, of so many bytes, is equal to this text of the area. It is fetched where it isn't in the area, and damaged as for
 /// `touch_text`.
-pub fn has_text<V: Vault>(sw: &mut Swizzle, vault: &mut V, object: u32, slot: u32, least: u32, most: u32, text: u32) -> Result<bool, SwizzleFault>
+pub fn has_text<V: Vault>(
+    sw: &mut Swizzle,
+    vault: &mut V,
+    object: u32,
+    slot: u32,
+    least: u32,
+    most: u32,
+    text: u32,
+) -> Result<bool, SwizzleFault>
     requires alive { V.alive vault.old }
     requires held { IsHeld sw.old object }
     requires below { slot < (header_at sw.old object).refs }

@@ -25,7 +25,12 @@ pub const MOST_NAME_BYTES: u32 = 64;
 
 /// The number, from 1, of the first database of a directory that has this name, which is a text; None exactly where none has it. The names are fetched where they
 /// aren't in the area, each tested before the next is looked at: a name that is no text of 1 to 64 bytes is damaged.
-pub fn find<V: Vault>(sw: &mut Swizzle, vault: &mut V, directory: Option<u32>, name: u32) -> Result<Option<u32>, SwizzleFault>
+pub fn find<V: Vault>(
+    sw: &mut Swizzle,
+    vault: &mut V,
+    directory: Option<u32>,
+    name: u32,
+) -> Result<Option<u32>, SwizzleFault>
     requires alive { V.alive vault.old }
     requires directory { IfSome directory (IsShaped sw.old) }
     requires held { IsHeld sw.old name }
@@ -48,7 +53,12 @@ pub fn find<V: Vault>(sw: &mut Swizzle, vault: &mut V, directory: Option<u32>, n
 }
 
 // The same in a directory that there is.
-fn find_in<V: Vault>(sw: &mut Swizzle, vault: &mut V, directory: u32, name: u32) -> Result<Option<u32>, SwizzleFault>
+fn find_in<V: Vault>(
+    sw: &mut Swizzle,
+    vault: &mut V,
+    directory: u32,
+    name: u32,
+) -> Result<Option<u32>, SwizzleFault>
     requires alive { V.alive vault.old }
     requires directory { IsShaped sw.old directory }
     requires held { IsHeld sw.old name }

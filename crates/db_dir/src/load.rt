@@ -20,7 +20,10 @@ const PID_BOUND: u64 = 1 << 63;
 
 /// The directory of the vault; None exactly where it has none. It is fetched where it isn't in the area, but for what it refers to. Damaged, at its PID, where that is
 /// none, where the vault or a touch finds it so, and where it hasn't the shape of a directory of 1 to 256 databases.
-pub fn load_directory<V: Vault>(sw: &mut Swizzle, vault: &mut V) -> Result<Option<u32>, SwizzleFault>
+pub fn load_directory<V: Vault>(
+    sw: &mut Swizzle,
+    vault: &mut V,
+) -> Result<Option<u32>, SwizzleFault>
     requires alive { V.alive vault.old }
     ensures loaded { (databases : Directory) (row : List Reference) → IsDirectoryUnder (seen sw.old (V.outside vault.old)) (paired row) (V.directory_at vault.old) databases
         → MatchResult result (λ at. IsDirectoryAt sw.new (seen sw.new (V.outside vault.new)) (paired row) at databases) (BreaksOff sw.old sw.new (V.outside vault.old) (V.outside vault.new)) }

@@ -20,7 +20,13 @@ use memory_vault::memory::MemoryVault;
 use row_words::table_rows::Buffer;
 
 /// Makes a call on a directory, or on none, writes what it answers, and gives the directory that is at hand afterwards: none after a refusal.
-pub fn put_called(out: &mut Buffer, vault: &mut MemoryVault, sw: &mut Swizzle, at: Option<u32>, call: Call<'_>) -> Option<u32>
+pub fn put_called(
+    out: &mut Buffer,
+    vault: &mut MemoryVault,
+    sw: &mut Swizzle,
+    at: Option<u32>,
+    call: Call<'_>,
+) -> Option<u32>
     requires { IfSome at (IsShaped sw.old) }
     ensures { IfSome result (IsShaped sw.new) }
 {
@@ -39,7 +45,13 @@ pub fn put_called(out: &mut Buffer, vault: &mut MemoryVault, sw: &mut Swizzle, a
     }
 }
 
-fn put_answer(out: &mut Buffer, vault: &mut MemoryVault, sw: &mut Swizzle, at: Option<u32>, call: Call<'_>) -> Option<u32>
+fn put_answer(
+    out: &mut Buffer,
+    vault: &mut MemoryVault,
+    sw: &mut Swizzle,
+    at: Option<u32>,
+    call: Call<'_>,
+) -> Option<u32>
     requires { IfSome at (IsShaped sw.old) }
     ensures { IfSome result (IsShaped sw.new) }
 {
@@ -102,7 +114,13 @@ fn say(sw: &mut Swizzle, said: Said<'_>) -> Result<u32, SwizzleFault>
     }
 }
 
-fn put_found(out: &mut Buffer, vault: &mut MemoryVault, sw: &mut Swizzle, at: Option<u32>, name: Said<'_>) -> Option<u32>
+fn put_found(
+    out: &mut Buffer,
+    vault: &mut MemoryVault,
+    sw: &mut Swizzle,
+    at: Option<u32>,
+    name: Said<'_>,
+) -> Option<u32>
     requires alive { vault.old.alive ≡ true }
     requires shaped { IfSome at (IsShaped sw.old) }
     ensures { IfSome result (IsShaped sw.new) }
@@ -130,7 +148,11 @@ fn put_found(out: &mut Buffer, vault: &mut MemoryVault, sw: &mut Swizzle, at: Op
 }
 
 // Two texts, and an object that can be a root.
-fn make_parts(sw: &mut Swizzle, name: Said<'_>, password: Said<'_>) -> Result<(u32, u32, u32), SwizzleFault>
+fn make_parts(
+    sw: &mut Swizzle,
+    name: Said<'_>,
+    password: Said<'_>,
+) -> Result<(u32, u32, u32), SwizzleFault>
     ensures parts { IfOk result (λ parts. HoldsText sw.new parts.0 × HoldsText sw.new parts.1 × HoldsTable sw.new parts.2) }
     ensures shaped { (at : ℕ) → IsShaped sw.old at → IsShaped sw.new at }
 {
@@ -140,7 +162,14 @@ fn make_parts(sw: &mut Swizzle, name: Said<'_>, password: Said<'_>) -> Result<(u
     Ok((name, password, root))
 }
 
-fn put_created(out: &mut Buffer, vault: &mut MemoryVault, sw: &mut Swizzle, at: Option<u32>, name: Said<'_>, password: Said<'_>) -> Option<u32>
+fn put_created(
+    out: &mut Buffer,
+    vault: &mut MemoryVault,
+    sw: &mut Swizzle,
+    at: Option<u32>,
+    name: Said<'_>,
+    password: Said<'_>,
+) -> Option<u32>
     requires alive { vault.old.alive ≡ true }
     requires shaped { IfSome at (IsShaped sw.old) }
     ensures { IfSome result (IsShaped sw.new) }
@@ -169,7 +198,12 @@ fn put_created(out: &mut Buffer, vault: &mut MemoryVault, sw: &mut Swizzle, at: 
 }
 
 // Three texts, for a name, a password and a mode.
-fn make_words(sw: &mut Swizzle, name: Said<'_>, password: Said<'_>, mode: Said<'_>) -> Result<(u32, u32, u32), SwizzleFault>
+fn make_words(
+    sw: &mut Swizzle,
+    name: Said<'_>,
+    password: Said<'_>,
+    mode: Said<'_>,
+) -> Result<(u32, u32, u32), SwizzleFault>
     ensures words { IfOk result (λ words. HoldsText sw.new words.0 × HoldsText sw.new words.1 × HoldsText sw.new words.2) }
     ensures shaped { (at : ℕ) → IsShaped sw.old at → IsShaped sw.new at }
 {
@@ -179,7 +213,15 @@ fn make_words(sw: &mut Swizzle, name: Said<'_>, password: Said<'_>, mode: Said<'
     Ok((name, password, mode))
 }
 
-fn put_opened(out: &mut Buffer, vault: &mut MemoryVault, sw: &mut Swizzle, at: Option<u32>, name: Said<'_>, password: Said<'_>, mode: Said<'_>) -> Option<u32>
+fn put_opened(
+    out: &mut Buffer,
+    vault: &mut MemoryVault,
+    sw: &mut Swizzle,
+    at: Option<u32>,
+    name: Said<'_>,
+    password: Said<'_>,
+    mode: Said<'_>,
+) -> Option<u32>
     requires alive { vault.old.alive ≡ true }
     requires shaped { IfSome at (IsShaped sw.old) }
     ensures { IfSome result (IsShaped sw.new) }
@@ -192,7 +234,13 @@ fn put_opened(out: &mut Buffer, vault: &mut MemoryVault, sw: &mut Swizzle, at: O
         }
     };
     match admit(sw, vault, at, name, password, mode) {
-        Ok(Admitted::Root { number, root, writing }) => {
+        Ok(
+            Admitted::Root {
+                number,
+                root,
+                writing,
+            },
+        ) => {
             put_root(out, number, sw.pid(root), writing);
             at
         }
@@ -216,11 +264,21 @@ fn digit_at(number: u32, power: u32) -> u8
 
 // The name of a number below 1,000.
 fn name_of(number: u32) -> [u8; 3] {
-    [digit_at(number, 100), digit_at(number, 10), digit_at(number, 1)]
+    [
+        digit_at(number, 100),
+        digit_at(number, 10),
+        digit_at(number, 1),
+    ]
 }
 
 // Creates so many databases, and writes how many there are then.
-fn put_many(out: &mut Buffer, vault: &mut MemoryVault, sw: &mut Swizzle, at: Option<u32>, count: u32) -> Option<u32>
+fn put_many(
+    out: &mut Buffer,
+    vault: &mut MemoryVault,
+    sw: &mut Swizzle,
+    at: Option<u32>,
+    count: u32,
+) -> Option<u32>
     requires { IfSome at (IsShaped sw.old) }
     ensures { IfSome result (IsShaped sw.new) }
 {
@@ -228,7 +286,13 @@ fn put_many(out: &mut Buffer, vault: &mut MemoryVault, sw: &mut Swizzle, at: Opt
     for number in 1..=count.min(999) {
         let mut unheard = Buffer::new(out.alloc());
         let name = name_of(number);
-        last = put_answer(&mut unheard, vault, sw, last, Call::Create(Said::Bytes(&name), Said::Bytes(&[])));
+        last = put_answer(
+            &mut unheard,
+            vault,
+            sw,
+            last,
+            Call::Create(Said::Bytes(&name), Said::Bytes(&[])),
+        );
     }
     put_databases(out, sw, last);
     last

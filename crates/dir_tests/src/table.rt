@@ -38,7 +38,10 @@ pub fn compare_rows(tables: &mut Tables, file: &str) -> Result<()> {
 // What the calls of a row answer.
 fn put_found(out: &mut Buffer, names: &[u8], row: &Row) {
     let (first, calls) = parted(row.field(1), b'\n');
-    match (store(out.alloc(), names, row.field(0), first), area(out.alloc(), row.field(3))) {
+    match (
+        store(out.alloc(), names, row.field(0), first),
+        area(out.alloc(), row.field(3)),
+    ) {
         (Some(mut vault), Some(mut sw)) => put_answers(out, &mut vault, &mut sw, calls),
         _ => out.fail(),
     }

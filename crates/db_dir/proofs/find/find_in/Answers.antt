@@ -50,7 +50,7 @@ returns-then-same-clause-finds g c =
       c.loop-place.place,
       omega arith,
       first-there c.args.sw.now c.loop-place.sw c.has_text.new.sw c.args.directory c.loop-place.place c.args.name c.in-Ok.same c.requires.directory.held
-      c.requires.held c.requires.text inv.reads.reads.keeps e.reads.reads.keeps inv.others below c.if-same.true e.compared,
+          c.requires.held c.requires.text inv.reads.reads.keeps e.reads.reads.keeps inv.others below c.if-same.true e.compared,
     )
 
 pub returns-then-same-clause-reads : goal.returns-then-same-clause-reads
