@@ -6,18 +6,19 @@ use Rattle.std.specs.Ordering.{int_cmp}
 use Rattle.std.specs.declared.cmp.Ordering.{Ordering}
 use Rattle.std.specs.declared.cmp.Ordering.TheVariants.{Less, Equal, Greater}
 use Rattle.avl_trees.specs.Rising.{pick}
-use Rattle.ps_meaning.specs.Values.{Value, Num, Flag, Text, Nil, Pointer, Vector, Procedure, Nothing}
-use Rattle.ps_meaning.specs.Texts.{Attempt, Yields, Fails, order_of}
+use Rattle.ps_heap.specs.Values.{Value, Num, Flag, Text, Nil, Pointer, Vector, Procedure, Nothing}
+use Rattle.ps_heap.specs.Texts.{Attempt, Yields, Fails, order_of}
 use Rattle.reaching.specs.Reaching.{IsIn, is_in}
 use Rattle.reaching.proofs.Lists.{then_is, else_is, in-append}
-use Rattle.database_meaning.specs.Tables.{Key, string_key, int_key, Entry, Table, without_keys, by_strings, by_ints, with_under, on_yield, entered, looked_up}
-use Rattle.database_meaning.specs.Objects.{Object, Structure, Elements, Scope, Keyed, Heap, object_at, pointers, value_ids, values_ids, object_ids, next_in, table_in, table_of, object_of_value}
-use Rattle.database_meaning.specs.Weights.{entry_weight, whole_weight}
-use Rattle.database_meaning.specs.Databases.{Mode, Reading, Writing, Opening, Numbered, with_writing, numbers_for_writing, each_once, open_for_writing, Fault, BusyWriter, StaleStart, create_fault, Admission, Admits, Refuses, admission, directory_weight, full_directory_weight}
-use Rattle.database_meaning.specs.Databases as database
-use Rattle.database_meaning.specs.Held.{Held, Under, counting, with_object, touching, Reply, Free, Busy, Stale}
-use Rattle.database_meaning.specs.Commit.{Decision, NotWritable, NothingToDo, Saves, decision, is_empty}
-use Rattle.database_meaning.specs.Calls.{Answer, then_try, is_new_entry, table_put, enter_call, error_record, refused, directory_known, asks_to_create, asks_to_open, reply_in, replies_after, by_reply, if_replied, created_database, create_unless, create_answer, opened_database, open_by, open_answer, commit_by, commit_call}
+use Rattle.ps_heap.specs.Tables.{Key, string_key, int_key, Entry, Table, without_keys, by_strings, by_ints, with_under, on_yield, entered, looked_up}
+use Rattle.ps_heap.specs.Objects.{Object, Structure, Elements, Scope, Keyed, Heap, object_at, table_in, table_of, object_of_value}
+use Rattle.ps_heap.specs.References.{pointers, value_ids, values_ids, object_ids, next_in}
+use Rattle.ps_heap.specs.Weights.{entry_weight, whole_weight}
+use Rattle.ps_heap.specs.Databases.{Mode, Reading, Writing, Opening, Numbered, with_writing, numbers_for_writing, each_once, open_for_writing, Fault, BusyWriter, StaleStart, create_fault, Admission, Admits, Refuses, admission, directory_weight, full_directory_weight}
+use Rattle.ps_heap.specs.Databases as database
+use Rattle.ps_heap.specs.Held.{Held, Under, counting, with_object, touching, Reply, Free, Busy, Stale}
+use Rattle.ps_heap.specs.Commit.{Decision, NotWritable, NothingToDo, Saves, decision, is_empty}
+use Rattle.ps_heap.specs.Calls.{Answer, then_try, is_new_entry, table_put, enter_call, error_record, refused, directory_known, asks_to_create, asks_to_open, reply_in, replies_after, by_reply, if_replied, created_database, create_unless, create_answer, opened_database, open_by, open_answer, commit_by, commit_call}
 use Rattle.database_meaning.specs.Sound.{IsRight}
 use Rattle.database_meaning.proofs.KeptLaws.{made-right, change-right, object-set, object-other, touching-right, saved-right}
 

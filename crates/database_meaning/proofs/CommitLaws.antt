@@ -4,10 +4,10 @@ use Rattle.std.specs.Prelude.{not, ◌&&◌}
 use Rattle.std.proofs.lemmas.Bool.{cases_Bool, eqb-true, eqb-false}
 use Rattle.reaching.specs.Reaching.{IsIn, is_in, at_start, by_step}
 use Rattle.reaching.proofs.Lists.{then_is, else_is, is_in-in, in-front, in-behind}
-use Rattle.database_meaning.specs.Objects.{next_in}
-use Rattle.database_meaning.specs.Databases.{Directory, database_at, root_of, open_for_writing, is_there}
-use Rattle.database_meaning.specs.Held.{Held, StoredHeap, home_at, row}
-use Rattle.database_meaning.specs.Commit.{loose_from, loose, roots_of, after_places, starts, IsNewlyReached, first_database, created_with, or_else, home_after, homes_after, are_writable, is_empty, NotWritable, NothingToDo, Saves, saved, decision}
+use Rattle.ps_heap.specs.References.{next_in}
+use Rattle.ps_heap.specs.Databases.{Directory, database_at, root_of, open_for_writing, is_there}
+use Rattle.ps_heap.specs.Held.{Held, StoredHeap, home_at, row}
+use Rattle.ps_heap.specs.Commit.{loose_from, loose, roots_of, after_places, starts, IsNewlyReached, first_database, created_with, or_else, home_after, homes_after, are_writable, is_empty, NotWritable, NothingToDo, Saves, saved, decision}
 use Rattle.database_meaning.specs.Sound.{IsCommitted, IsSound, AreThere, IsClosed, IsClosedButAssigned}
 use Rattle.database_meaning.proofs.HomeLaws.{after_places-in, homed, homed-back}
 

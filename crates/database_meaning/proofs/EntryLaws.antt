@@ -8,7 +8,7 @@ use Rattle.std.specs.declared.cmp.Ordering.TheVariants.{Less, Equal, Greater}
 use Rattle.std.specs.Ordering.{ordering_reverse}
 use Rattle.avl_trees.specs.Rising.{pick, Parts, Fits, find, above}
 use Rattle.avl_trees.proofs.Ordered.{without_rising, enter_rising}
-use Rattle.database_meaning.specs.Tables.{Entry, seek, entry_of, with_entry_object, found_under, with_under, first_of, next_of, AreInKeyOrder}
+use Rattle.ps_heap.specs.Tables.{Entry, seek, entry_of, with_entry_object, found_under, with_under, first_of, next_of, AreInKeyOrder}
 use Rattle.database_meaning.specs.TableLaws.{HasEntry, IsNext}
 
 pub all-has : {K : Type 0} (P : Entry K → Type 0) (entries : List (Entry K)) (entry : Entry K) → AllByRecursion P entries → HasEntry entry entries → P entry

@@ -4,10 +4,11 @@ use Rattle.std.proofs.lemmas.Bool.{cases_Bool, true≢false, eq-eqb}
 use Rattle.reaching.specs.Reaching.{IsIn, is_in, at_start, by_step, ReachedIn, reach, first_source}
 use Rattle.reaching.proofs.Lists.{then_is, else_is, is_in-in, in-is_in, in-append, in-front, in-behind}
 use Rattle.reaching.proofs.WalkLaws.{least-in, in-least}
-use Rattle.database_meaning.specs.Objects.{Heap, next_in}
-use Rattle.database_meaning.specs.Databases.{Directory, database_at, root_of, open_for_writing}
-use Rattle.database_meaning.specs.Held.{Held, Place, object_of, home_at}
-use Rattle.database_meaning.specs.Commit.{loose, roots_of, after_places, starts, IsNewlyReached, is_home, at_home, source_of, sources, is_writable, are_writable}
+use Rattle.ps_heap.specs.Objects.{Heap}
+use Rattle.ps_heap.specs.References.{next_in}
+use Rattle.ps_heap.specs.Databases.{Directory, database_at, root_of, open_for_writing}
+use Rattle.ps_heap.specs.Held.{Held, Place, object_of, home_at}
+use Rattle.ps_heap.specs.Commit.{loose, roots_of, after_places, starts, IsNewlyReached, is_home, at_home, source_of, sources, is_writable, are_writable}
 use Rattle.database_meaning.specs.Sound.{HasPlace, IsSound}
 
 abbrev ReachedOf : Held → ℕ → ℕ → Type 0

@@ -3,15 +3,16 @@ use Rattle.std.proofs.Common.{Bool, true, false, inl, inr, ◌⊎◌, ◌≡◌,
 use Rattle.std.specs.Prelude.{◌&&◌}
 use Rattle.std.proofs.lemmas.Bool.{cases_Bool, cases_eq, cases_order, true≢false, eqb-true, eqb-false}
 use Rattle.std.proofs.lemmas.List.{length-set, length-append}
-use Rattle.ps_meaning.specs.Values.{Value}
+use Rattle.ps_heap.specs.Values.{Value}
 use Rattle.reaching.specs.Reaching.{IsIn, is_in, by_step}
 use Rattle.reaching.proofs.Lists.{then_is, else_is, is_in-in, in-is_in, in-append, in-front, in-behind}
 use Rattle.reaching.proofs.WalkLaws.{least-in, in-least}
-use Rattle.database_meaning.specs.Tables.{is_same_key}
-use Rattle.database_meaning.specs.Objects.{Object, Structure, Elements, Scope, Keyed, Heap, object_at, with_part, scope_ids, value_ids, values_ids, object_ids, next_in}
-use Rattle.database_meaning.specs.Databases.{every_root, is_there}
-use Rattle.database_meaning.specs.Held.{Held, Place, Part, Under, object_of, weight_at, is_same_place, is_among, home_at, home_if, noted, put_part, assigned_part, with_object, touched_once, touching, StoredHeap, row, every_id, reached_from_roots, Reply, started}
-use Rattle.database_meaning.specs.Commit.{homes_after, Saves, saved, decision, after_decision}
+use Rattle.ps_heap.specs.Tables.{is_same_key}
+use Rattle.ps_heap.specs.Objects.{Object, Structure, Elements, Scope, Keyed, Heap, object_at}
+use Rattle.ps_heap.specs.References.{with_part, scope_ids, value_ids, values_ids, object_ids, next_in}
+use Rattle.ps_heap.specs.Databases.{every_root, is_there}
+use Rattle.ps_heap.specs.Held.{Held, Place, Part, Under, object_of, weight_at, is_same_place, is_among, home_at, home_if, noted, put_part, assigned_part, with_object, touched_once, touching, StoredHeap, row, every_id, reached_from_roots, Reply, started}
+use Rattle.ps_heap.specs.Commit.{homes_after, Saves, saved, decision, after_decision}
 use Rattle.database_meaning.specs.Sound.{HasPlace, IsCommitted, AreThere, IsAssigned, AreHomed, IsRight}
 use Rattle.database_meaning.proofs.CommitLaws.{none≢some, row-at, row-below, after-below, saved-is, closed}
 

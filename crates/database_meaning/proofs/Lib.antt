@@ -6,11 +6,3 @@ pub mod CallLaws
 pub mod SameLaws
 pub mod EntryLaws
 pub mod TableLaws
-mod Scenes
-mod TableRows
-mod DatabaseRows
-mod CommitRows
-mod HomeRows
-mod CountRows
-mod AskRows
-mod ScanRows

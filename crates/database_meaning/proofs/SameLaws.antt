@@ -2,13 +2,15 @@
 use Rattle.std.proofs.Common.{inl, inr, ◌≡◌, ℕ, List, [], ◌∷◌, ◌++◌, map, refl, sym, ap, ◌∙◌, subst, Option, Some, None}
 use Rattle.std.specs.Option.{option_map}
 use Rattle.std.proofs.lemmas.List.{map-append}
-use Rattle.ps_meaning.specs.Values.{Value, Num, Flag, Text, Nil, Pointer, Vector, Procedure, Nothing}
+use Rattle.ps_heap.specs.Values.{Value, Num, Flag, Text, Nil, Pointer, Vector, Procedure, Nothing}
 use Rattle.reaching.specs.Reaching.{IsIn, at_start, by_step}
 use Rattle.reaching.proofs.Lists.{in-front, in-behind}
-use Rattle.database_meaning.specs.Tables.{Entry, entry_of, without_keys, by_strings, by_ints}
-use Rattle.database_meaning.specs.Objects.{Object, Structure, Elements, Scope, Keyed, object_at, pointers, values_of, parent_of, scope_ids, value_ids, values_ids, object_ids, next_in}
-use Rattle.database_meaning.specs.Databases.{Directory, every_root}
-use Rattle.database_meaning.specs.Held.{home_at, StoredHeap}
+use Rattle.ps_heap.specs.Tables.{Entry, entry_of, without_keys, by_strings, by_ints}
+use Rattle.ps_heap.specs.Objects.{Object, Structure, Elements, Scope, Keyed, object_at}
+use Rattle.ps_heap.specs.Scopes.{parent_in}
+use Rattle.ps_heap.specs.References.{pointers, values_of, scope_ids, value_ids, values_ids, object_ids, next_in}
+use Rattle.ps_heap.specs.Databases.{Directory, every_root}
+use Rattle.ps_heap.specs.Held.{home_at, StoredHeap}
 use Rattle.database_meaning.specs.Same.{renamed_value, renamed_entry, renamed, renamed_database, IsInHeap, IsSame}
 
 -- Members of mapped lists.
@@ -62,7 +64,7 @@ places-renamed f (Keyed without_keys) = refl
 places-renamed f (Keyed (by_strings entries)) = entries-renamed f entries
 places-renamed f (Keyed (by_ints entries)) = entries-renamed f entries
 
-parent-renamed : (f : ℕ → ℕ) (o : Object) → parent_of (Some (renamed f o)) ≡ option_map f (parent_of (Some o))
+parent-renamed : (f : ℕ → ℕ) (o : Object) → parent_in (Some (renamed f o)) ≡ option_map f (parent_in (Some o))
 parent-renamed f (Structure class fields) = refl
 parent-renamed f (Elements ty low elements) = refl
 parent-renamed f (Scope text parent names) = refl
@@ -71,10 +73,10 @@ parent-renamed f (Keyed table) = refl
 ids-renamed : (f : ℕ → ℕ) (o : Option Object) → object_ids (option_map (renamed f) o) ≡ map f (object_ids o)
 ids-renamed f None = refl
 ids-renamed f (Some o) =
-    let parents : scope_ids (parent_of (Some (renamed f o))) ≡ map f (scope_ids (parent_of (Some o))) = ap scope_ids (parent-renamed f o) ∙ scope-renamed f (parent_of (Some o)) in
+    let parents : scope_ids (parent_in (Some (renamed f o))) ≡ map f (scope_ids (parent_in (Some o))) = ap scope_ids (parent-renamed f o) ∙ scope-renamed f (parent_in (Some o)) in
     let places : values_ids (values_of (renamed f o)) ≡ map f (values_ids (values_of o)) = ap values_ids (places-renamed f o) ∙ values-renamed f (values_of o) in
     ap (λ xs. xs ++ values_ids (values_of (renamed f o))) parents
-    ∙ (ap (λ xs. map f (scope_ids (parent_of (Some o))) ++ xs) places ∙ sym (map-append f (scope_ids (parent_of (Some o))) (values_ids (values_of o))))
+    ∙ (ap (λ xs. map f (scope_ids (parent_in (Some o))) ++ xs) places ∙ sym (map-append f (scope_ids (parent_in (Some o))) (values_ids (values_of o))))
 
 -- Renaming twice, and by what keeps each id.
 

@@ -4,10 +4,10 @@ use Rattle.std.specs.Prelude.{not, ◌&&◌}
 use Rattle.std.proofs.lemmas.Bool.{cases_Bool, true≢false}
 use Rattle.reaching.specs.Reaching.{IsIn, is_in}
 use Rattle.reaching.proofs.Lists.{then_is, in-is_in, not_in}
-use Rattle.database_meaning.specs.Databases.{open_for_writing, is_there}
-use Rattle.database_meaning.specs.Held.{Held, StoredHeap, Place, object_of, home_at, weight_at, touched_once}
-use Rattle.database_meaning.specs.Objects.{object_at}
-use Rattle.database_meaning.specs.Commit.{is_writable, are_writable, is_empty, Decision, NotWritable, NothingToDo, Saves, saved, decision}
+use Rattle.ps_heap.specs.Databases.{open_for_writing, is_there}
+use Rattle.ps_heap.specs.Held.{Held, StoredHeap, Place, object_of, home_at, weight_at, touched_once}
+use Rattle.ps_heap.specs.Objects.{object_at}
+use Rattle.ps_heap.specs.Commit.{is_writable, are_writable, is_empty, Decision, NotWritable, NothingToDo, Saves, saved, decision}
 use Rattle.database_meaning.specs.Sound.{HasPlace, IsWritable, IsRefused}
 use Rattle.database_meaning.proofs.HomeLaws.{writable-in}
 

@@ -6,8 +6,8 @@ use Rattle.std.proofs.lemmas.Cmp.{int_cmp_total, nat_list_cmp_total}
 use Rattle.std.specs.Ordering.{int_cmp, is_eq}
 use Rattle.std.specs.declared.cmp.Ordering.{Ordering}
 use Rattle.std.specs.declared.cmp.Ordering.TheVariants.{Equal}
-use Rattle.ps_meaning.specs.Texts.{Yields, order_of}
-use Rattle.database_meaning.specs.Tables.{string_key, int_key, Entry, without_keys, by_strings, by_ints, found_under, with_under, AreInKeyOrder, IsInKeyOrder, entered, looked_up}
+use Rattle.ps_heap.specs.Texts.{Yields, order_of}
+use Rattle.ps_heap.specs.Tables.{string_key, int_key, Entry, without_keys, by_strings, by_ints, found_under, with_under, AreInKeyOrder, IsInKeyOrder, entered, looked_up}
 use Rattle.database_meaning.specs.TableLaws.{EnteredIsFound, OthersStay, KeysStayInOrder, KindsStay, AreFiniteMaps}
 use Rattle.database_meaning.proofs.EntryLaws.{with_under_rising, found_entered, found_removed, other_entered, other_removed, next_is_least}
 

@@ -1,13 +1,14 @@
 -- What is so of commits.
 use Rattle.std.specs.Prelude.{◌≡◌, ◌≢◌, ◌⊎◌, ◌↔◌, ℕ, ◌<◌, List, [], length, Some}
-use Rattle.ps_meaning.specs.Values.{Value}
-use Rattle.ps_meaning.specs.Texts.{Yields}
+use Rattle.ps_heap.specs.Values.{Value}
+use Rattle.ps_heap.specs.Texts.{Yields}
 use Rattle.reaching.specs.Reaching.{IsIn}
-use Rattle.database_meaning.specs.Tables.{Key}
-use Rattle.database_meaning.specs.Objects.{Object, value_ids, object_ids}
-use Rattle.database_meaning.specs.Held.{Held, Reply, StoredHeap, home_at, started, counting, with_object, assigned_part, touched_once, touching}
-use Rattle.database_meaning.specs.Commit.{IsNewlyReached, newly_reached, first_database, NotWritable, NothingToDo, Saves, saved, decision}
-use Rattle.database_meaning.specs.Calls.{enter_call, asks_to_create, asks_to_open, create_answer, open_answer, commit_call}
+use Rattle.ps_heap.specs.Tables.{Key}
+use Rattle.ps_heap.specs.Objects.{Object}
+use Rattle.ps_heap.specs.References.{value_ids, object_ids}
+use Rattle.ps_heap.specs.Held.{Held, Reply, StoredHeap, home_at, started, counting, with_object, assigned_part, touched_once, touching}
+use Rattle.ps_heap.specs.Commit.{IsNewlyReached, newly_reached, first_database, NotWritable, NothingToDo, Saves, saved, decision}
+use Rattle.ps_heap.specs.Calls.{enter_call, asks_to_create, asks_to_open, create_answer, open_answer, commit_call}
 use Rattle.database_meaning.specs.Same.{IsSame}
 use Rattle.database_meaning.specs.Sound.{IsCommitted, IsWritable, IsRefused, IsSound, AreThere, IsClosed, IsClosedButAssigned, AreHomed, IsRight}
 

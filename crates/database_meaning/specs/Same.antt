@@ -1,12 +1,13 @@
 -- When two heaps that were kept are the same but for the ids of their objects.
 use Rattle.std.specs.Prelude.{◌≡◌, ℕ, map}
 use Rattle.std.specs.Option.{option_map}
-use Rattle.ps_meaning.specs.Values.{Value, Pointer, Vector, Procedure}
+use Rattle.ps_heap.specs.Values.{Value, Pointer, Vector, Procedure}
 use Rattle.reaching.specs.Reaching.{IsIn, Reached}
-use Rattle.database_meaning.specs.Tables.{Entry, entry_of, Table, without_keys, by_strings, by_ints}
-use Rattle.database_meaning.specs.Objects.{Object, Structure, Elements, Scope, Keyed, object_at, next_in}
-use Rattle.database_meaning.specs.Databases.{Database, every_root}
-use Rattle.database_meaning.specs.Held.{home_at, StoredHeap}
+use Rattle.ps_heap.specs.Tables.{Entry, entry_of, Table, without_keys, by_strings, by_ints}
+use Rattle.ps_heap.specs.Objects.{Object, Structure, Elements, Scope, Keyed, object_at}
+use Rattle.ps_heap.specs.References.{next_in}
+use Rattle.ps_heap.specs.Databases.{Database, every_root}
+use Rattle.ps_heap.specs.Held.{home_at, StoredHeap}
 
 -- An object in which each id is another one.
 

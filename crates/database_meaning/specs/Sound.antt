@@ -1,9 +1,10 @@
 -- What is so of all that a run holds, and when a heap is closed.
 use Rattle.std.specs.Prelude.{◌≡◌, ◌⊎◌, ℕ, ◌<◌, List, [], ◌∷◌, length, Option, Some}
 use Rattle.reaching.specs.Reaching.{IsIn}
-use Rattle.database_meaning.specs.Objects.{Heap, next_in}
-use Rattle.database_meaning.specs.Databases.{open_for_writing}
-use Rattle.database_meaning.specs.Held.{Held, Place, object_of, home_at, StoredHeap, reached_from_roots}
+use Rattle.ps_heap.specs.Objects.{Heap}
+use Rattle.ps_heap.specs.References.{next_in}
+use Rattle.ps_heap.specs.Databases.{open_for_writing}
+use Rattle.ps_heap.specs.Held.{Held, Place, object_of, home_at, StoredHeap, reached_from_roots}
 
 -- a place stands in a list
 abbrev pub HasPlace : Place → List Place → Type 0

@@ -3,8 +3,8 @@ use Rattle.std.specs.Prelude.{◌≡◌, ◌≢◌, ◌⊎◌, ℕ, ℤ, false, 
 use Rattle.std.specs.Ordering.{int_cmp}
 use Rattle.std.specs.declared.cmp.Ordering.{Ordering}
 use Rattle.std.specs.declared.cmp.Ordering.TheVariants.{Less}
-use Rattle.ps_meaning.specs.Texts.{Yields, order_of}
-use Rattle.database_meaning.specs.Tables.{Key, is_same_key, Entry, Table, without_keys, by_strings, by_ints, next_of, AreInKeyOrder, IsInKeyOrder, entered, looked_up}
+use Rattle.ps_heap.specs.Texts.{Yields, order_of}
+use Rattle.ps_heap.specs.Tables.{Key, is_same_key, Entry, Table, without_keys, by_strings, by_ints, next_of, AreInKeyOrder, IsInKeyOrder, entered, looked_up}
 
 -- what was entered is found; where it was nothing, nothing is
 abbrev pub EnteredIsFound : Type 0

@@ -1,4 +1,4 @@
-//! What tables, databases and commits mean, as definitions over heaps. There is no code: rows and laws are proved of them.
+//! What is so of tables, databases and commits, over the definitions of `ps_heap`. There is no code.
 #![tactic(auto)]
 
 mod laws;

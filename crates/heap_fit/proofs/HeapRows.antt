@@ -2,19 +2,20 @@
 use Rattle.std.proofs.Common.{inl, inr, ◌⊎◌, ◌≡◌, ℕ, true, List, [], ◌∷◌, refl, pos, subst, sym, ◌∙◌, arith, Option, Some, None}
 use Rattle.std.specs.Prelude.{codes}
 use Rattle.std.proofs.lemmas.Bool.{true≢false}
-use Rattle.ps_soundness.specs.ps_meaning.ps_base.TyView as types
-use Rattle.ps_soundness.specs.ps_meaning.ps_base.declared.operator.Operator.TheVariants.{Add}
+use Rattle.ps_heap.specs.ps_base.TyView as types
+use Rattle.ps_heap.specs.ps_base.declared.operator.Operator.TheVariants.{Add}
 use Rattle.ps_soundness.specs.ps_program.declared.place.Place.TheVariants.{Kept}
 use Rattle.ps_soundness.specs.ps_program.Node.{none, more, BodyNode, body}
 use Rattle.ps_soundness.specs.ps_program.Node as node
 use Rattle.ps_soundness.specs.ps_type_text.Texts.{Field, class_text, IsNamed, is_name_byte}
 use Rattle.ps_soundness.specs.ps_typing.WellTyped as typed
-use Rattle.ps_soundness.specs.ps_meaning.Values.{Value, Num, Nil, Procedure, as_written}
-use Rattle.database_meaning.specs.reaching.Reaching.{IsIn, at_start, by_step}
-use Rattle.database_meaning.specs.Tables.{by_strings}
-use Rattle.database_meaning.specs.Objects.{Heap, Object, Structure, Scope, Keyed, object_at, values_of, next_in}
-use Rattle.database_meaning.specs.Databases.{every_root}
-use Rattle.database_meaning.specs.Held.{row, home_at, StoredHeap}
+use Rattle.ps_heap.specs.Values.{Value, Num, Nil, Procedure, as_written}
+use Rattle.ps_heap.specs.reaching.Reaching.{IsIn, at_start, by_step}
+use Rattle.ps_heap.specs.Tables.{by_strings}
+use Rattle.ps_heap.specs.Objects.{Heap, Object, Structure, Scope, Keyed, object_at}
+use Rattle.ps_heap.specs.References.{values_of, next_in}
+use Rattle.ps_heap.specs.Databases.{every_root}
+use Rattle.ps_heap.specs.Held.{row, home_at, StoredHeap}
 use Rattle.database_meaning.specs.Same.{IsInHeap}
 use Rattle.heap_fit.specs.Slots.{mentions}
 use Rattle.heap_fit.specs.Bodies.{whole, InScope, IsNameAt, IsFit, by_rule, name, set_name, a_clause, at_end, IsFitBody, of_params, unscoped}

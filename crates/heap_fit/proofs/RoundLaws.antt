@@ -2,9 +2,9 @@
 use Rattle.std.proofs.Common.{◌≡◌, ℕ, suc, ◌+◌, List, ◌∷◌, length, refl, sym, ◌∙◌, ap, subst, arith, Option, Some, None}
 use Rattle.std.specs.Prelude.{codes}
 use Rattle.ps_soundness.specs.ps_type_text.Texts.{Field, class_text}
-use Rattle.ps_soundness.specs.ps_meaning.Values.{Value}
-use Rattle.database_meaning.specs.Objects.{Heap, Scope, object_at}
-use Rattle.database_meaning.specs.Held.{StoredHeap}
+use Rattle.ps_heap.specs.Values.{Value}
+use Rattle.ps_heap.specs.Objects.{Heap, Scope, object_at}
+use Rattle.ps_heap.specs.Held.{StoredHeap}
 use Rattle.database_meaning.specs.Same.{IsInHeap}
 use Rattle.heap_fit.specs.Heaps.{AreRound, none_round, one_round, IsOut, here, further, IsFitScope, IsFitObject, IsFitHeap}
 

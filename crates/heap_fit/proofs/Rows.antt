@@ -1,20 +1,20 @@
 -- Slots, mentions, bodies and heaps that are fit, and some that aren't.
 use Rattle.std.proofs.Common.{inl, inr, ◌≡◌, ℕ, true, false, List, [], ◌∷◌, refl, pos, arith, Some, None}
 use Rattle.std.specs.Prelude.{codes, replicate}
-use Rattle.ps_soundness.specs.ps_meaning.ps_base.TyView.{TyView}
-use Rattle.ps_soundness.specs.ps_meaning.ps_base.TyView as types
-use Rattle.ps_soundness.specs.ps_meaning.ps_base.declared.line.Line.{Line}
-use Rattle.ps_soundness.specs.ps_meaning.ps_base.declared.operator.Operator.TheVariants.{Add}
+use Rattle.ps_heap.specs.ps_base.TyView.{TyView}
+use Rattle.ps_heap.specs.ps_base.TyView as types
+use Rattle.ps_heap.specs.ps_base.declared.line.Line.{Line}
+use Rattle.ps_heap.specs.ps_base.declared.operator.Operator.TheVariants.{Add}
 use Rattle.ps_soundness.specs.ps_program.declared.place.Place.TheVariants.{Plain, Kept}
 use Rattle.ps_soundness.specs.ps_program.Node.{Param, Node, Nodes, none, more, BodyNode, body}
 use Rattle.ps_soundness.specs.ps_program.Node as node
 use Rattle.ps_soundness.specs.ps_type_text.Texts.{Field}
 use Rattle.ps_soundness.specs.ps_typing.WellTyped.{Rule}
 use Rattle.ps_soundness.specs.ps_typing.WellTyped as typed
-use Rattle.ps_soundness.specs.ps_meaning.Texts.{is_string}
-use Rattle.ps_soundness.specs.ps_meaning.Values.{Num, Pointer}
-use Rattle.database_meaning.specs.Held.{row}
-use Rattle.database_meaning.specs.Objects.{Heap, Structure}
+use Rattle.ps_heap.specs.Texts.{is_string}
+use Rattle.ps_heap.specs.Values.{Num, Pointer}
+use Rattle.ps_heap.specs.Held.{row}
+use Rattle.ps_heap.specs.Objects.{Heap, Structure}
 use Rattle.heap_fit.specs.Slots.{slots_of, mentions}
 use Rattle.heap_fit.specs.Bodies.{Level, whole, InScope, IsNameAt, Declares, IsFit, by_rule, name, set_name, AreFit, AreItems, at_end, a_clause, a_value, IsFitBody, of_params, Opens, unscoped, HasSlots, AreApart}
 use Rattle.heap_fit.specs.Bodies as fit

@@ -1,10 +1,10 @@
 -- Which bodies are fit for the scopes round them: they have types, each name lies in a place of its own, whichever it is, and what is named is in scope.
 use Rattle.std.specs.Prelude.{◌≡◌, ◌≢◌, ℕ, ◌+◌, ◌<◌, ◌≤◌, true, false, if◌then◌else◌, Option, Some, None, List, [], ◌∷◌, ◌++◌, codes, length}
 use Rattle.std.specs.List.{AllByRecursion}
-use Rattle.ps_soundness.specs.ps_meaning.ps_base.TyView.{TyView}
-use Rattle.ps_soundness.specs.ps_meaning.ps_base.TyView as types
-use Rattle.ps_soundness.specs.ps_meaning.ps_base.Limits.{most_slots}
-use Rattle.ps_soundness.specs.ps_meaning.ps_base.declared.line.Line.{Line}
+use Rattle.ps_heap.specs.ps_base.TyView.{TyView}
+use Rattle.ps_heap.specs.ps_base.TyView as types
+use Rattle.ps_heap.specs.ps_base.Limits.{most_slots}
+use Rattle.ps_heap.specs.ps_base.declared.line.Line.{Line}
 use Rattle.ps_soundness.specs.ps_program.declared.place.Place.{Place}
 use Rattle.ps_soundness.specs.ps_program.declared.place.Place.TheVariants.{Plain, Kept}
 use Rattle.ps_soundness.specs.ps_program.Node.{Param, Node, Nodes, none, more, BodyNode, body}
@@ -15,12 +15,12 @@ use Rattle.ps_soundness.specs.ps_typing.Checking.{isnt_void}
 use Rattle.ps_soundness.specs.ps_typing.Library.{caller}
 use Rattle.ps_soundness.specs.ps_typing.Placing.{is_number}
 use Rattle.ps_soundness.specs.ps_typing.WellTyped.{At, Some_is, Local, IsLocal, IsOfType, Claim, ◌has◌, Rule, types_of_params}
-use Rattle.ps_soundness.specs.ps_meaning.Operators.{is_int}
-use Rattle.ps_soundness.specs.ps_meaning.Texts.{is_string}
+use Rattle.ps_heap.specs.Operators.{is_int}
+use Rattle.ps_heap.specs.Texts.{is_string}
 use Rattle.ps_soundness.specs.Running.{IsClassText}
 use Rattle.ps_soundness.specs.Valued.{IsValued}
-use Rattle.database_meaning.specs.Held.{row}
-use Rattle.database_meaning.specs.reaching.Reaching.{IsIn}
+use Rattle.ps_heap.specs.Held.{row}
+use Rattle.ps_heap.specs.reaching.Reaching.{IsIn}
 use Rattle.heap_fit.specs.Slots.{slots_of}
 
 -- a scope round a clause: its names, and the positions of those whose declarations came before the clause

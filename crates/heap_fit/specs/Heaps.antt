@@ -1,21 +1,22 @@
 -- Which heaps that were kept are fit: each place holds a value of the type that its text names, and each procedure is fit for the scopes round it.
 use Rattle.std.specs.Prelude.{◌≡◌, ◌≢◌, ◌⊎◌, ℕ, ℤ, ◌+◌, ◌≤◌, true, Option, Some, None, List, [], ◌∷◌, length, map, codes}
 use Rattle.std.specs.List.{AllByRecursion}
-use Rattle.ps_soundness.specs.ps_meaning.ps_base.TyView.{TyView}
-use Rattle.ps_soundness.specs.ps_meaning.ps_base.TyView as types
-use Rattle.ps_soundness.specs.ps_meaning.ps_base.Limits.{most_databases, most_database_name_bytes, most_password_bytes}
+use Rattle.ps_heap.specs.ps_base.TyView.{TyView}
+use Rattle.ps_heap.specs.ps_base.TyView as types
+use Rattle.ps_heap.specs.ps_base.Limits.{most_databases, most_database_name_bytes, most_password_bytes}
 use Rattle.ps_soundness.specs.ps_program.Node.{BodyNode}
 use Rattle.ps_soundness.specs.ps_type_text.Texts.{Field, type_text, class_text, IsNamed}
-use Rattle.ps_soundness.specs.ps_meaning.Operators.{is_int}
-use Rattle.ps_soundness.specs.ps_meaning.Texts.{is_string}
-use Rattle.ps_soundness.specs.ps_meaning.Values.{Value, Num, Flag, Text, Nil, Pointer, Vector, Procedure, as_written}
-use Rattle.ps_soundness.specs.ps_meaning.Objects.{is_vector}
+use Rattle.ps_heap.specs.Operators.{is_int}
+use Rattle.ps_heap.specs.Texts.{is_string}
+use Rattle.ps_heap.specs.Values.{Value, Num, Flag, Text, Nil, Pointer, Vector, Procedure, as_written}
+use Rattle.ps_heap.specs.Objects.{is_vector}
 use Rattle.ps_soundness.specs.Shapes.{type_of_body}
 use Rattle.ps_soundness.specs.Valued.{IsValued}
-use Rattle.database_meaning.specs.Tables.{Entry, Table, without_keys, by_strings, by_ints, IsInKeyOrder}
-use Rattle.database_meaning.specs.Objects.{Heap, Object, Structure, Elements, Scope, Keyed, object_at, values_of}
-use Rattle.database_meaning.specs.Databases.{Database, Directory}
-use Rattle.database_meaning.specs.Held.{StoredHeap, home_at}
+use Rattle.ps_heap.specs.Tables.{Entry, Table, without_keys, by_strings, by_ints, IsInKeyOrder}
+use Rattle.ps_heap.specs.Objects.{Heap, Object, Structure, Elements, Scope, Keyed, object_at}
+use Rattle.ps_heap.specs.References.{values_of}
+use Rattle.ps_heap.specs.Databases.{Database, Directory}
+use Rattle.ps_heap.specs.Held.{StoredHeap, home_at}
 use Rattle.database_meaning.specs.Same.{IsInHeap}
 use Rattle.heap_fit.specs.Slots.{mentions}
 use Rattle.heap_fit.specs.Bodies.{whole, IsFitBody}

@@ -1,8 +1,8 @@
 -- What is so of fit heaps.
 use Rattle.std.specs.Prelude.{◌≡◌, ℕ, Option, Some, List}
-use Rattle.ps_soundness.specs.ps_meaning.Values.{Value}
-use Rattle.database_meaning.specs.Objects.{Scope, object_at}
-use Rattle.database_meaning.specs.Held.{StoredHeap}
+use Rattle.ps_heap.specs.Values.{Value}
+use Rattle.ps_heap.specs.Objects.{Scope, object_at}
+use Rattle.ps_heap.specs.Held.{StoredHeap}
 use Rattle.database_meaning.specs.Same.{IsInHeap}
 use Rattle.heap_fit.specs.Heaps.{IsOut, IsFitHeap}
 

@@ -3,4 +3,5 @@ pub mod Bodies
 pub mod Heaps
 pub mod Laws
 pub use Rattle.ps_soundness.specs as ps_soundness
+pub use Rattle.ps_heap.specs as ps_heap
 pub use Rattle.database_meaning.specs as database_meaning

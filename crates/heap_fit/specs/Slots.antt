@@ -1,14 +1,14 @@
 -- The slots that a body takes on each stack, and which kept names it mentions.
 use Rattle.std.specs.Prelude.{ℕ, ◌+◌, Bool, false, ◌||◌, ◌&&◌, nat_eq, if◌then◌else◌, Option, Some, None, List, [], ◌∷◌, ◌++◌}
-use Rattle.ps_soundness.specs.ps_meaning.ps_base.TyView.{TyView}
-use Rattle.ps_soundness.specs.ps_meaning.ps_base.TyView as types
+use Rattle.ps_heap.specs.ps_base.TyView.{TyView}
+use Rattle.ps_heap.specs.ps_base.TyView as types
 use Rattle.ps_soundness.specs.ps_program.declared.place.Place.{Place}
 use Rattle.ps_soundness.specs.ps_program.declared.place.Place.TheVariants.{Plain, Kept}
 use Rattle.ps_soundness.specs.ps_program.Node.{Param, Node, BodyNode, body}
 use Rattle.ps_soundness.specs.ps_program.Node as node
 use Rattle.ps_soundness.specs.ps_program.Parts.{Part, operand, label, branch, literal, fold}
 use Rattle.ps_soundness.specs.ps_meaning.Frames.{stands_on}
-use Rattle.database_meaning.specs.Held.{row}
+use Rattle.ps_heap.specs.Held.{row}
 
 -- so many numbers from one on
 abbrev pub from : ℕ → ℕ → List ℕ

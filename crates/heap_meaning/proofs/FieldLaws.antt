@@ -7,9 +7,9 @@ use Rattle.proc_values.specs.obj_layout.declared.kind.Kind.TheVariants as kind
 use Rattle.proc_values.specs.obj_layout.declared.reference.Reference as reference
 use Rattle.proc_values.specs.swizzle.Joint.{Shown}
 use Rattle.heap_ops.specs.Structures.{IsOfClass, IsOfOther}
-use Rattle.proc_values.specs.ps_meaning.Values.{Value, Pointer, Nothing}
-use Rattle.proc_values.specs.ps_meaning.Texts.{Yields, Fails, is_same_text}
-use Rattle.proc_values.specs.ps_meaning.Objects.{Heap, Object, Structure, Elements, Scope, object_at, is_class, is_of, field_of, fields_in, with_field, with_object}
+use Rattle.proc_values.specs.ps_heap.Values.{Value, Pointer, Nothing}
+use Rattle.proc_values.specs.ps_heap.Texts.{Yields, Fails, is_same_text}
+use Rattle.proc_values.specs.ps_heap.Objects.{Heap, Object, Structure, Elements, Scope, Keyed, object_at, is_class, is_of, field_of, fields_in, with_field, with_object}
 use Rattle.heap_meaning.specs.Standing.{Seen, Pairing, IsStructure, IsLike, Both, Stands, IsOne}
 use Rattle.heap_meaning.proofs.PlaceLaws.{structure-class}
 
@@ -47,6 +47,7 @@ of-class seen heap pair n id it class one s p there is = of b.object b.means (su
         }
     of (Elements ty low elements) means like = let bad : kind.Vector ≡ kind.Structure = sym like.rows.kind_is ∙ is.kind in absurd (cc)
     of (Scope text parent names) means like = let bad : kind.Scope ≡ kind.Structure = sym like.kind_is ∙ is.kind in absurd (cc)
+    of (Keyed table) means like = absurd like
 
 -- an object of another class, or of none
 pub of-other : (seen : Seen) (heap : Heap) (pair : Pairing) (n : reference.Reference) (id : ℕ) (it : Shown) (class : List ℕ) → IsOne seen → Stands seen heap pair → pair n id → seen n it
@@ -61,6 +62,7 @@ of-other seen heap pair n id it class one s p there other = ap (λ (o : Option O
     of (Structure c fields) like (inr t) = other-text c class (λ e. t.2 (sym (structure-class seen pair it c t.0 fields one like t.1) ∙ e))
     of (Elements ty low elements) like other = refl
     of (Scope text parent names) like other = refl
+    of (Keyed table) like other = refl
 
 -- What `is` answers.
 pub is-class : (seen : Seen) (heap : Heap) (pair : Pairing) (n : reference.Reference) (id : ℕ) (it : Shown) (class : List ℕ) → IsOne seen → Stands seen heap pair → pair n id → seen n it

@@ -15,7 +15,7 @@ use Rattle.heap_ops.specs.heap_places.Places as places
 use Rattle.heap_ops.specs.heap_places.declared.value.Value as code
 use Rattle.heap_ops.specs.heap_places.declared.value.Value.TheVariants as held
 use Rattle.heap_ops.specs.Structures.{structure_damage}
-use Rattle.proc_values.specs.ps_meaning.Values.{Value, Nothing}
+use Rattle.proc_values.specs.ps_heap.Values.{Value, Nothing}
 use Rattle.heap_meaning.specs.Standing.{Seen, Pairing, StandsFor, IsWordOf, IsStructure}
 use Rattle.heap_meaning.specs.Denoting.{IsFor}
 use Rattle.heap_meaning.proofs.StandingLaws.{IsNumber, read-word}

@@ -4,7 +4,7 @@ use Rattle.std.proofs.lemmas.List.{length-set}
 use Rattle.proc_values.specs.obj_layout.declared.reference.Reference as reference
 use Rattle.proc_values.specs.swizzle.Joint.{Shown}
 use Rattle.proc_values.specs.swizzle.Changes.{Within, ChangedAt}
-use Rattle.proc_values.specs.ps_meaning.Objects.{Heap, Object, with_object, with_new, new_number}
+use Rattle.proc_values.specs.ps_heap.Objects.{Heap, Object, with_object, with_new, new_number}
 use Rattle.heap_meaning.specs.Standing.{Seen, Pairing, IsLike, Stands, IsOne, with_pair}
 use Rattle.heap_meaning.specs.Paired.{name_in, paired, StandsRow, and_name}
 use Rattle.heap_meaning.proofs.StandingLaws.{IsFixed, stands-within, stands-written, stands-made, like-more}

@@ -16,7 +16,7 @@ use Rattle.heap_ops.specs.heap_places.Words.{word_damage}
 use Rattle.heap_ops.specs.heap_places.Places.{Holds}
 use Rattle.heap_ops.specs.heap_places.declared.value.Value as code
 use Rattle.heap_ops.specs.heap_places.declared.value.Value.TheVariants as held
-use Rattle.proc_values.specs.ps_meaning.Values.{Value, Num, Flag, Text, Nil, Pointer, Vector, Procedure, Nothing}
+use Rattle.proc_values.specs.ps_heap.Values.{Value, Num, Flag, Text, Nil, Pointer, Vector, Procedure, Nothing}
 use Rattle.heap_meaning.specs.Standing.{Seen, Pairing, StandsFor, IsWordOf, AreFor, IsAs, IsStructure, IsOne}
 use Rattle.heap_meaning.specs.Denoting.{IsFor}
 use Rattle.heap_meaning.proofs.StandingLaws.{IsNumber, read-reference, read-word}

@@ -13,8 +13,8 @@ use Rattle.heap_ops.specs.heap_places.Words.{int_in, flag_in, int_word, flag_wor
 use Rattle.heap_ops.specs.heap_places.Places.{Holds}
 use Rattle.heap_ops.specs.heap_places.declared.value.Value as code
 use Rattle.heap_ops.specs.heap_places.declared.value.Value.TheVariants as held
-use Rattle.proc_values.specs.ps_meaning.Values.{Value, Nothing}
-use Rattle.proc_values.specs.ps_meaning.Scopes.{first_value}
+use Rattle.proc_values.specs.ps_heap.Values.{Value, Nothing}
+use Rattle.proc_values.specs.ps_heap.Scopes.{first_value}
 use Rattle.heap_meaning.specs.Standing.{Seen, Pairing, StandsFor, IsWordOf, AreFor, IsScope}
 use Rattle.heap_meaning.specs.Denoting.{IsFor}
 use Rattle.heap_meaning.proofs.StandingLaws.{IsNumber, read-reference, read-word, write-reference, write-word}

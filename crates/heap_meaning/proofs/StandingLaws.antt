@@ -14,8 +14,8 @@ use Rattle.proc_values.specs.text_forms.Forms.{forms_of, element_of, form_in, be
 use Rattle.heap_ops.specs.heap_places.Shapes.{IsText}
 use Rattle.proc_values.specs.ps_base.CodeUnit as units
 use Rattle.proc_values.specs.ps_base.CodeUnit.{UnitView, ConstantView, ConstantsView}
-use Rattle.proc_values.specs.ps_meaning.Values.{Value, Num, Flag, Text, Nil, Pointer, Vector, Procedure, Nothing, as_written, as_compiled}
-use Rattle.proc_values.specs.ps_meaning.Objects.{Heap, Object, Structure, Elements, Scope, object_at, with_object, with_new, new_number}
+use Rattle.proc_values.specs.ps_heap.Values.{Value, Num, Flag, Text, Nil, Pointer, Vector, Procedure, Nothing, as_written, as_compiled}
+use Rattle.proc_values.specs.ps_heap.Objects.{Heap, Object, Structure, Elements, Scope, Keyed, object_at, with_object, with_new, new_number}
 use Rattle.heap_meaning.specs.Units.{IsUnitSeen, AreSeen, IsConstantSeen}
 use Rattle.heap_meaning.specs.Standing.{Seen, Pairing, IsKindOf, StandsForScope, IsClosure, StandsFor, IsWordOf, AreFor, IsAs, IsLike, Both, Stands, IsOne, with_pair}
 
@@ -151,6 +151,7 @@ like-more seen now pair more it (Scope text parent names) fixed kinds pairs l = 
   is_parent = scope-more seen now pair more l.parent_name parent kinds pairs l.is_parent;
   are = are-more seen now pair more (forms_of text) l.names l.words names fixed kinds pairs l.are;
 }
+like-more seen now pair more it (Keyed table) fixed kinds pairs l = absurd l
 
 -- A reading, and whatever loses no object: the same pairing.
 pub stands-within : (seen now : Seen) (heap : Heap) (pair : Pairing) → Within seen now → Stands seen heap pair → Stands now heap pair
@@ -326,6 +327,7 @@ pub not-fixed : (seen : Seen) (pair : Pairing) (it : Shown) (object : Object) �
 not-fixed seen pair it (Structure class fields) l = subst IsFixed l.kind_is
 not-fixed seen pair it (Elements ty low elements) l = subst IsFixed l.rows.kind_is
 not-fixed seen pair it (Scope text parent names) l = subst IsFixed l.kind_is
+not-fixed seen pair it (Keyed table) l = absurd l
 
 -- where one object that may be written changed, those that may not stay
 pub fixed-changed : (seen now : Seen) (n : reference.Reference) (it new : Shown) → IsOne seen → seen n it → (IsFixed it.kind → ⊥) → ChangedAt seen n new now → Fixed seen now

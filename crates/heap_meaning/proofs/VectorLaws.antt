@@ -16,8 +16,8 @@ use Rattle.heap_ops.specs.heap_places.Places as places
 use Rattle.heap_ops.specs.heap_places.declared.value.Value as code
 use Rattle.heap_ops.specs.heap_places.declared.value.Value.TheVariants as held
 use Rattle.heap_ops.specs.Vectors.{count_of, low_of, index_of, vector_damage, subscript, of_bounds}
-use Rattle.proc_values.specs.ps_meaning.Values.{Value, Nothing}
-use Rattle.proc_values.specs.ps_meaning.Objects.{is_vector, place_of, place_from}
+use Rattle.proc_values.specs.ps_heap.Values.{Value, Nothing}
+use Rattle.proc_values.specs.ps_heap.Objects.{is_vector, place_of, place_from}
 use Rattle.heap_meaning.specs.Standing.{Seen, Pairing, IsWordOf, IsAs, IsVector}
 use Rattle.heap_meaning.specs.Denoting.{IsFor}
 use Rattle.heap_meaning.proofs.StandingLaws.{IsNumber}

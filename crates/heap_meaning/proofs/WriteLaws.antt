@@ -13,7 +13,7 @@ use Rattle.heap_ops.specs.heap_places.Words.{int_in, flag_in, int_word, flag_wor
 use Rattle.heap_ops.specs.heap_places.Filling.{refs_of, words_of, first_words, filled}
 use Rattle.heap_ops.specs.heap_places.declared.value.Value as code
 use Rattle.heap_ops.specs.heap_places.declared.value.Value.TheVariants as held
-use Rattle.proc_values.specs.ps_meaning.Values.{Value, Num, Flag, Text, Nil, Pointer, Vector, Procedure, Nothing}
+use Rattle.proc_values.specs.ps_heap.Values.{Value, Num, Flag, Text, Nil, Pointer, Vector, Procedure, Nothing}
 use Rattle.heap_meaning.specs.Standing.{Seen, Pairing, StandsFor, IsWordOf, AreFor, IsAs}
 use Rattle.heap_meaning.proofs.StandingLaws.{IsNumber, write-reference, write-word}
 

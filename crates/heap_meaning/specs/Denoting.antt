@@ -5,7 +5,7 @@ use Rattle.proc_values.specs.swizzle.Heap.{Heap}
 use Rattle.proc_values.specs.swizzle.Touch.{Denotes}
 use Rattle.heap_ops.specs.heap_places.declared.value.Value as code
 use Rattle.heap_ops.specs.heap_places.declared.value.Value.TheVariants as held
-use Rattle.proc_values.specs.ps_meaning.Values.{Value, Num, Flag}
+use Rattle.proc_values.specs.ps_heap.Values.{Value, Num, Flag}
 use Rattle.heap_meaning.specs.Standing.{Seen, Pairing, StandsForScope, StandsFor}
 
 -- an object of the area, or none, by a name that stands for a value

@@ -5,7 +5,7 @@ pub mod Paired
 pub use Rattle.proc_values.specs.ps_base as ps_base
 pub use Rattle.proc_values.specs.text_forms as text_forms
 pub use Rattle.proc_values.specs.ps_outside as ps_outside
-pub use Rattle.proc_values.specs.ps_meaning as ps_meaning
+pub use Rattle.proc_values.specs.ps_heap as ps_heap
 pub use Rattle.proc_values.specs.obj_area as obj_area
 pub use Rattle.proc_values.specs.obj_layout as obj_layout
 pub use Rattle.proc_values.specs.swizzle as swizzle

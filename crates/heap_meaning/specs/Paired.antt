@@ -2,7 +2,7 @@
 -- a row of names is a pairing that grows at its end.
 use Rattle.std.specs.Prelude.{◌≡◌, ℕ, zero, suc, List, [], ◌∷◌, ◌++◌, length, Option, Some, None}
 use Rattle.proc_values.specs.obj_layout.declared.reference.Reference as reference
-use Rattle.proc_values.specs.ps_meaning.Objects.{Heap}
+use Rattle.proc_values.specs.ps_heap.Objects.{Heap}
 use Rattle.heap_meaning.specs.Standing.{Seen, Pairing, Stands}
 
 -- the name at a number

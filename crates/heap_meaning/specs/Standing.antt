@@ -14,8 +14,8 @@ use Rattle.proc_values.specs.text_forms.Forms.{forms_of, element_of}
 use Rattle.heap_ops.specs.heap_places.Words.{int_in, flag_in}
 use Rattle.heap_ops.specs.heap_places.Shapes.{IsText}
 use Rattle.proc_values.specs.Loaded.{IsFitUnit}
-use Rattle.proc_values.specs.ps_meaning.Values.{Value, Num, Flag, Text, Nil, Pointer, Vector, Procedure, as_compiled}
-use Rattle.proc_values.specs.ps_meaning.Objects.{Heap, Object, Structure, Elements, Scope, object_at, is_vector}
+use Rattle.proc_values.specs.ps_heap.Values.{Value, Num, Flag, Text, Nil, Pointer, Vector, Procedure, as_compiled}
+use Rattle.proc_values.specs.ps_heap.Objects.{Heap, Object, Structure, Elements, Scope, Keyed, object_at, is_vector}
 use Rattle.heap_meaning.specs.Units.{IsUnitSeen}
 
 -- what is seen: which object a name has
@@ -121,6 +121,8 @@ abbrev pub IsLike : Seen → Pairing → Shown → Object → Type 0
 IsLike seen pair it (Structure class fields) = IsStructure seen pair it class fields
 IsLike seen pair it (Elements ty low elements) = IsVector seen pair it ty low elements
 IsLike seen pair it (Scope text parent names) = IsScope seen pair it text parent names
+-- nothing seen stands for a table yet
+IsLike seen pair it (Keyed table) = ⊥
 
 -- The object of a name and that of the number that goes with it.
 pub record Both (seen : Seen) (heap : Heap) (pair : Pairing) (n : reference.Reference) (id : ℕ) : Type 0 where

@@ -4,7 +4,7 @@ use Rattle.std.specs.Prelude.{negsuc}
 use Rattle.std.proofs.lemmas.Bool.{cases_lt, eq-eqb}
 use Rattle.std.proofs.lemmas.Int.{to_z-of_z}
 use mir.Val.{SFits}
-use Rattle.heap_places.specs.ps_meaning.Objects.{is_vector}
+use Rattle.heap_places.specs.ps_heap.Objects.{is_vector}
 use Rattle.heap_places.specs.obj_layout.Stored.{damage}
 use Rattle.heap_places.specs.swizzle.Joint.{Shown}
 use Rattle.heap_places.specs.text_forms.declared.forms.Form.{Form}

@@ -3,7 +3,7 @@ use Rattle.std.proofs.Common.{arith, inl, inr, ◌≡◌, ◌≢◌, ℕ, ◌*�
 use Rattle.std.specs.Prelude.{negsuc, ◌-ℤ◌}
 use Rattle.std.proofs.lemmas.Bool.{ltb-true}
 use Rattle.heap_places.specs.ps_outside.Outside.{Outside}
-use Rattle.heap_places.specs.ps_meaning.Objects.{place_of, place_from}
+use Rattle.heap_places.specs.ps_heap.Objects.{place_of, place_from}
 use Rattle.heap_places.specs.obj_area.Words.{bytes_of}
 use Rattle.heap_places.specs.obj_layout.Stored.{Space}
 use Rattle.heap_places.specs.obj_layout.declared.kind.Kind.{Kind}

@@ -3,7 +3,7 @@ use Rattle.std.specs.Prelude.{◌≡◌, ◌⊎◌, ℕ, ◌+◌, ◌-◌, ◌^�
 use Rattle.ps_base.specs.Limits.{most_elements}
 use Rattle.ps_base.specs.declared.trap.Trap.{Trap}
 use Rattle.ps_base.specs.declared.trap.Trap.TheVariants as trap
-use Rattle.heap_places.specs.ps_meaning.Objects.{place_of, is_vector}
+use Rattle.heap_places.specs.ps_heap.Objects.{place_of, is_vector}
 use Rattle.heap_places.specs.ps_outside.Outside.{Outside}
 use Rattle.heap_places.specs.obj_layout.Kind.{kind_number}
 use Rattle.heap_places.specs.obj_layout.Stored.{Space, Damage, damage}
@@ -24,7 +24,7 @@ use Rattle.heap_places.specs.heap_texts.declared.fault.OpFault.{OpFault}
 use Rattle.heap_places.specs.heap_texts.declared.fault.OpFault.TheVariants as op
 use Rattle.heap_places.specs.declared.value.Value.{Value}
 use Rattle.heap_places.specs.declared.value.Value.TheVariants.{Num, Flag, Ref}
-use Rattle.heap_places.specs.ps_meaning.Values.{number_of, is_one}
+use Rattle.heap_places.specs.ps_heap.Values.{number_of, is_one}
 use Rattle.heap_places.specs.Shapes.{slot_of, word_in, IsText}
 use Rattle.heap_places.specs.Words.{int_in, word_damage}
 use Rattle.heap_places.specs.Places.{Holds, touched_by, NoText, NamesDamage, FailsFetch, fit_damage, assigned_value}

@@ -1,7 +1,7 @@
 //! The shape of a vector, as it is read of its object.
 ghost use Rattle.std.specs.Prelude.{◌≡◌, ◌+ℤ◌, ◌-ℤ◌, ◌+◌, ◌<◌, ◌^◌, pos, true, false, if◌then◌else◌, length, IfOk, OnOk, Some, None};
-ghost use Rattle.heap_places.specs.ps_meaning.Objects.{is_vector as is_vector_of, place_of};
-ghost use Rattle.heap_places.specs.ps_meaning.Operators.{is_int};
+ghost use Rattle.heap_places.specs.ps_heap.Objects.{is_vector as is_vector_of, place_of};
+ghost use Rattle.heap_places.specs.ps_heap.Operators.{is_int};
 ghost use Rattle.heap_places.specs.swizzle.Heap.{IsHeld};
 ghost use Rattle.heap_places.specs.swizzle.Joint.{shown_at};
 ghost use Rattle.heap_places.specs.text_forms.Forms.{is_number_form};

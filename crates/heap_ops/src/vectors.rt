@@ -1,5 +1,5 @@
 ghost use Rattle.std.specs.Prelude.{◌≡◌, ◌-ℤ◌, length, replicate, None, OnOk};
-ghost use Rattle.heap_places.specs.ps_meaning.Objects.{is_vector as is_vector_of, count_from};
+ghost use Rattle.heap_places.specs.ps_heap.Objects.{is_vector as is_vector_of, count_from};
 ghost use Rattle.heap_places.specs.swizzle.Heap.{IsHeld, Stands};
 ghost use Rattle.heap_places.specs.Places.{IsNear, NamesDamage, fit_damage};
 ghost use Rattle.heap_places.specs.Filling.{AreNear};

@@ -17,7 +17,7 @@ use Rattle.swizzle.proofs.TextLaws.{IsFit-text, length-text, text-written}
 use Rattle.heap_texts.specs.Texts.{GivesText, HoldsText, MakesText, StillTexts, blank_text, text_nums, text_object}
 use Rattle.heap_texts.specs.declared.fault.OpFault.{OpFault}
 use Rattle.heap_texts.specs.declared.fault.OpFault.TheVariants.{Swizzle, Trap}
-use Rattle.ps_meaning.specs.Texts.{Attempt, Yields, Fails}
+use Rattle.ps_heap.specs.Texts.{Attempt, Yields, Fails}
 
 -- its header and its size
 

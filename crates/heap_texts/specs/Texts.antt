@@ -6,7 +6,7 @@ use Rattle.swizzle.specs.declared.fault.SwizzleFault.{SwizzleFault}
 use Rattle.swizzle.specs.Objects.{Object}
 use Rattle.swizzle.specs.Heap.{Heap, IsHeld, IsMade, IsFull, header_at, blank}
 use Rattle.swizzle.specs.Text.{with_bytes_at}
-use Rattle.ps_meaning.specs.Texts.{Attempt, Yields, Fails}
+use Rattle.ps_heap.specs.Texts.{Attempt, Yields, Fails}
 use Rattle.heap_texts.specs.declared.fault.OpFault.{OpFault}
 use Rattle.heap_texts.specs.declared.fault.OpFault.TheVariants.{Trap, Swizzle}
 

@@ -4,6 +4,6 @@
 pub mod fault;
 pub mod make;
 
-pub use ps_meaning::text_forms;
+pub use ps_heap::text_forms;
 pub use swizzle;
 pub use swizzle::obj_layout;

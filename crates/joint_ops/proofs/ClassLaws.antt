@@ -16,9 +16,9 @@ use Rattle.heap_meaning.specs.text_forms.Forms.{forms_of, located_in}
 use Rattle.heap_meaning.specs.heap_texts.declared.fault.OpFault.TheVariants as op
 use Rattle.heap_meaning.specs.heap_places.Shapes.{IsText, slot_of}
 use Rattle.heap_meaning.specs.heap_ops.Structures.{IsOfOther, TellsClass, FailsClass, FailsFields, structure_damage}
-use Rattle.heap_meaning.specs.ps_meaning.Values.{Value, Num, Flag, Text, Nil, Pointer, Vector, Procedure, Nothing}
-use Rattle.heap_meaning.specs.ps_meaning.Texts.{Yields, is_same_text}
-use Rattle.heap_meaning.specs.ps_meaning.Objects.{Heap, Object, Structure, object_at, is_class, is_of}
+use Rattle.heap_meaning.specs.ps_heap.Values.{Value, Num, Flag, Text, Nil, Pointer, Vector, Procedure, Nothing}
+use Rattle.heap_meaning.specs.ps_heap.Texts.{Yields, is_same_text}
+use Rattle.heap_meaning.specs.ps_heap.Objects.{Heap, Object, Structure, object_at, is_class, is_of}
 use Rattle.heap_meaning.specs.Standing.{IsStructure}
 use Rattle.heap_meaning.specs.Paired.{paired}
 use Rattle.heap_meaning.proofs.FieldLaws.{same-text, other-text}

@@ -35,7 +35,7 @@ use Rattle.heap_meaning.specs.proc_values.Loaded.{IsUnit, AreNamed, IsConstant, 
 use Rattle.heap_meaning.proofs.of_proc_values.UnitLaws.{size-unit}
 use Rattle.heap_meaning.proofs.of_proc_values.LoadedLaws.{loaded-is}
 use Rattle.heap_meaning.proofs.of_proc_values.StayLaws.{keeps-load}
-use Rattle.heap_meaning.specs.ps_meaning.Objects.{Heap}
+use Rattle.heap_meaning.specs.ps_heap.Objects.{Heap}
 use Rattle.heap_meaning.specs.Units.{shown_code, IsUnitSeen, AreSeen, IsConstantSeen}
 use Rattle.heap_meaning.specs.Standing.{Seen}
 use Rattle.heap_meaning.proofs.StandingLaws.{Fixed, fixed-text, unit-more}

@@ -28,11 +28,11 @@ use Rattle.heap_meaning.specs.heap_places.Places.{assigned_value, Holds, FirstTe
 use Rattle.heap_meaning.specs.heap_places.declared.value.Value as code
 use Rattle.heap_meaning.proofs.of_heap_places.TouchedLaws.{text-seen}
 use Rattle.heap_meaning.specs.heap_ops.Vectors.{count_of, index_of, kind_damage, vector_damage, subscript, fitted, FailsVector, FailsElement, TellsLow, TellsHigh, GetsElement, SetsElement}
-use Rattle.heap_meaning.specs.ps_meaning.Operators.{is_int}
-use Rattle.heap_meaning.specs.ps_meaning.Values.{Value, Vector, Nothing}
-use Rattle.heap_meaning.specs.ps_meaning.Texts.{Yields, Fails}
-use Rattle.heap_meaning.specs.ps_meaning.Objects.{Heap, Object, Elements, is_vector, place_of, low_in, elements_in, type_in, found_at, put_at, with_object, with_element}
-use Rattle.heap_meaning.specs.ps_meaning.Objects as meaning
+use Rattle.heap_meaning.specs.ps_heap.Operators.{is_int}
+use Rattle.heap_meaning.specs.ps_heap.Values.{Value, Vector, Nothing}
+use Rattle.heap_meaning.specs.ps_heap.Texts.{Yields, Fails}
+use Rattle.heap_meaning.specs.ps_heap.Objects.{Heap, Object, Elements, is_vector, place_of, low_in, elements_in, type_in, found_at, put_at, with_object, with_element}
+use Rattle.heap_meaning.specs.ps_heap.Objects as meaning
 use Rattle.heap_meaning.specs.Standing.{Seen, Pairing, StandsFor, IsWordOf, IsVector}
 use Rattle.heap_meaning.specs.Paired.{paired}
 use Rattle.heap_meaning.proofs.StandingLaws.{IsNumber, read-word}

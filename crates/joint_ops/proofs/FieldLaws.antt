@@ -23,9 +23,9 @@ use Rattle.heap_meaning.specs.heap_places.Words.{word_damage}
 use Rattle.heap_meaning.specs.heap_places.Places.{touched_by, IsNear}
 use Rattle.heap_meaning.specs.heap_places.declared.value.Value as code
 use Rattle.heap_meaning.specs.heap_ops.Structures.{GetsField, FailsValue}
-use Rattle.heap_meaning.specs.ps_meaning.Values.{Value, Num, Flag, Text, Nil, Pointer, Vector, Procedure, Nothing}
-use Rattle.heap_meaning.specs.ps_meaning.Texts.{Attempt, Fails}
-use Rattle.heap_meaning.specs.ps_meaning.Objects.{Heap, field_of}
+use Rattle.heap_meaning.specs.ps_heap.Values.{Value, Num, Flag, Text, Nil, Pointer, Vector, Procedure, Nothing}
+use Rattle.heap_meaning.specs.ps_heap.Texts.{Attempt, Fails}
+use Rattle.heap_meaning.specs.ps_heap.Objects.{Heap, field_of}
 use Rattle.heap_meaning.specs.Standing.{Seen, Pairing, StandsFor, IsAs, IsStructure}
 use Rattle.heap_meaning.specs.Paired.{paired}
 use Rattle.heap_meaning.proofs.StandingLaws.{read-reference}

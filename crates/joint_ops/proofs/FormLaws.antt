@@ -15,8 +15,8 @@ use Rattle.heap_meaning.specs.heap_places.declared.value.Value as code
 use Rattle.heap_meaning.specs.heap_places.declared.value.Value.TheVariants as held
 use Rattle.heap_meaning.proofs.of_heap_places.WordLaws.{int-low, int-mid, int-high}
 use Rattle.heap_meaning.specs.heap_ops.Vectors.{fitted}
-use Rattle.heap_meaning.specs.ps_meaning.Operators.{is_int}
-use Rattle.heap_meaning.specs.ps_meaning.Values.{Value, Num, Flag, Text, Nil, Pointer, Vector, Procedure, Nothing}
+use Rattle.heap_meaning.specs.ps_heap.Operators.{is_int}
+use Rattle.heap_meaning.specs.ps_heap.Values.{Value, Num, Flag, Text, Nil, Pointer, Vector, Procedure, Nothing}
 use Rattle.heap_meaning.specs.Standing.{StandsFor}
 use Rattle.heap_meaning.specs.Paired.{paired}
 use Rattle.heap_meaning.proofs.WriteLaws.{AreOf}

@@ -32,12 +32,12 @@ use Rattle.heap_meaning.specs.heap_places.declared.value.Value as code
 use Rattle.heap_meaning.specs.heap_places.declared.value.Value.TheVariants as held
 use Rattle.heap_meaning.proofs.of_heap_places.FillingLaws.{rows-length, near-repeated}
 use Rattle.heap_meaning.specs.heap_ops.Vectors.{MakesVector}
-use Rattle.heap_meaning.specs.ps_meaning.Operators.{is_int}
-use Rattle.heap_meaning.specs.ps_meaning.Values.{Value, Text, Pointer, Vector}
-use Rattle.heap_meaning.specs.ps_meaning.Texts.{Yields}
-use Rattle.heap_meaning.specs.ps_meaning.Objects.{Heap, Object, Structure, Elements, new_number, is_vector, is_made, vector_of, filled_vector, count_from}
-use Rattle.heap_meaning.specs.ps_meaning.Objects as meaning
-use Rattle.heap_meaning.specs.ps_meaning.Weights.{own_weight}
+use Rattle.heap_meaning.specs.ps_heap.Operators.{is_int}
+use Rattle.heap_meaning.specs.ps_heap.Values.{Value, Text, Pointer, Vector}
+use Rattle.heap_meaning.specs.ps_heap.Texts.{Yields}
+use Rattle.heap_meaning.specs.ps_heap.Objects.{Heap, Object, Structure, Elements, new_number, is_vector, is_made, vector_of, filled_vector, count_from}
+use Rattle.heap_meaning.specs.ps_heap.Objects as meaning
+use Rattle.heap_meaning.specs.ps_heap.Weights.{own_weight}
 use Rattle.heap_meaning.specs.Standing.{StandsFor, IsKindOf, IsLike}
 use Rattle.heap_meaning.specs.Paired.{name_in, paired, and_name}
 use Rattle.heap_meaning.proofs.StandingLaws.{Pairs, like-more}

@@ -20,9 +20,9 @@ use Rattle.heap_meaning.specs.heap_places.Shapes.{slot_of}
 use Rattle.heap_meaning.specs.heap_places.declared.value.Value as code
 use Rattle.heap_meaning.specs.heap_places.declared.value.Value.TheVariants as held
 use Rattle.heap_meaning.specs.heap_ops.Structures.{SetsField}
-use Rattle.heap_meaning.specs.ps_meaning.Values.{Value, Num, Flag, Text, Nil, Pointer, Vector, Procedure, Nothing}
-use Rattle.heap_meaning.specs.ps_meaning.Texts.{Attempt, Fails}
-use Rattle.heap_meaning.specs.ps_meaning.Objects.{Heap, Structure, with_object, with_field}
+use Rattle.heap_meaning.specs.ps_heap.Values.{Value, Num, Flag, Text, Nil, Pointer, Vector, Procedure, Nothing}
+use Rattle.heap_meaning.specs.ps_heap.Texts.{Attempt, Fails}
+use Rattle.heap_meaning.specs.ps_heap.Objects.{Heap, Structure, with_object, with_field}
 use Rattle.heap_meaning.specs.Standing.{IsStructure}
 use Rattle.heap_meaning.specs.Paired.{paired}
 use Rattle.heap_meaning.proofs.FieldLaws.{field-put, no-field_put}

@@ -20,8 +20,8 @@ use Rattle.heap_meaning.specs.heap_places.Words.{int_word, flag_word}
 use Rattle.heap_meaning.specs.heap_places.Places.{with_value, assigned_value}
 use Rattle.heap_meaning.specs.heap_places.declared.value.Value as code
 use Rattle.heap_meaning.specs.heap_places.declared.value.Value.TheVariants as held
-use Rattle.heap_meaning.specs.ps_meaning.Values.{Value}
-use Rattle.heap_meaning.specs.ps_meaning.Objects.{Heap, Object, with_object}
+use Rattle.heap_meaning.specs.ps_heap.Values.{Value}
+use Rattle.heap_meaning.specs.ps_heap.Objects.{Heap, Object, with_object}
 use Rattle.heap_meaning.specs.Standing as standing
 use Rattle.heap_meaning.specs.Paired.{paired}
 use Rattle.heap_meaning.proofs.StandingLaws.{IsFixed, not-fixed, fixed-changed, kinds-changed, like-more}

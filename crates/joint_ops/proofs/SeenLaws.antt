@@ -30,9 +30,9 @@ use Rattle.heap_meaning.proofs.of_heap_places.PlaceLaws.{slot-name}
 use Rattle.heap_meaning.proofs.of_swizzle.FetchedLaws.{local-place}
 use Rattle.heap_meaning.proofs.of_swizzle.TouchLaws.{keeps-refl, rose_more}
 use Rattle.heap_meaning.proofs.of_proc_values.StayLaws.{keeps-code}
-use Rattle.heap_meaning.specs.ps_meaning.Values.{Value, Num, Flag, Text, Nil, Pointer, Vector, Procedure, Nothing, Routine, as_written, as_compiled}
-use Rattle.heap_meaning.specs.ps_meaning.Objects.{Heap, Object, Structure, Elements, Scope}
-use Rattle.heap_meaning.specs.ps_meaning.Objects as meaning
+use Rattle.heap_meaning.specs.ps_heap.Values.{Value, Num, Flag, Text, Nil, Pointer, Vector, Procedure, Nothing, Routine, as_written, as_compiled}
+use Rattle.heap_meaning.specs.ps_heap.Objects.{Heap, Object, Structure, Elements, Scope, Keyed}
+use Rattle.heap_meaning.specs.ps_heap.Objects as meaning
 use Rattle.heap_meaning.specs.Units.{IsUnitSeen}
 use Rattle.heap_meaning.specs.Standing.{Seen, Pairing, IsKindOf, StandsFor, IsAs, IsStructure, IsVector, IsLike, IsOne}
 use Rattle.heap_meaning.specs.Denoting.{DenotesValue, DenotesScope}
@@ -297,6 +297,7 @@ structure-at here outside of names at id h w p = let b = both-at here outside of
     cases (Structure class fields) means like = record { held = p.held; pair = p.pair; class = class; fields = fields; means = means; is = like }
     cases (Elements ty low elements) means like = let bad : kind.Structure ≡ kind.Vector = sym p.kind ∙ like.rows.kind_is in absurd (cc)
     cases (Scope text parent values) means like = let bad : kind.Structure ≡ kind.Scope = sym p.kind ∙ like.kind_is in absurd (cc)
+    cases (Keyed table) means like = absurd like
 
 pub record VectorAt (here : area.Heap) (outside : Outside Space) (of : Heap) (names : List reference.Reference) (at id : ℕ) : Type 0 where
   pub held : IsHeld here at
@@ -316,6 +317,7 @@ vector-at here outside of names at id h w p = let b = both-at here outside of na
     cases (Elements ty low elements) means like =
         record { held = p.held; pair = p.pair; ty = ty; low = low; elements = elements; means = means; is = like }
     cases (Scope text parent values) means like = let bad : kind.Vector ≡ kind.Scope = sym p.kind ∙ like.kind_is in absurd (cc)
+    cases (Keyed table) means like = absurd like
 
 -- The text that such an object refers to first.
 pub first-text : (a : Seen) (pair : Pairing) (it : Shown) (of : Kind) (text : List ℕ) (first : ℕ → List ℕ)

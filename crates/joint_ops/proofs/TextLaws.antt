@@ -22,9 +22,9 @@ use Rattle.heap_meaning.specs.heap_texts.Texts.{text_object, text_nums, wanted_o
 use Rattle.heap_meaning.specs.heap_texts.Texts as made
 use Rattle.heap_meaning.specs.heap_texts.declared.fault.OpFault.{OpFault}
 use Rattle.heap_meaning.specs.heap_texts.declared.fault.OpFault.TheVariants as op
-use Rattle.heap_meaning.specs.ps_meaning.Texts.{Attempt, Yields, Fails, join_of, part_of, string_of, is_string}
-use Rattle.heap_meaning.specs.ps_meaning.Objects.{Heap}
-use Rattle.heap_meaning.specs.ps_meaning.Weights.{text_weight}
+use Rattle.heap_meaning.specs.ps_heap.Texts.{Attempt, Yields, Fails, join_of, part_of, string_of, is_string}
+use Rattle.heap_meaning.specs.ps_heap.Objects.{Heap}
+use Rattle.heap_meaning.specs.ps_heap.Weights.{text_weight}
 use Rattle.heap_meaning.proofs.of_proc_values.WrittenLaws.{text-of_text}
 use Rattle.heap_meaning.specs.swizzle.Touch.{Keeps}
 use Rattle.joint_ops.specs.World.{IsWorld, Stands}

@@ -17,8 +17,8 @@ use Rattle.heap_meaning.specs.swizzle.Heap.{IsHeap, IsHeld, header_at, object_at
 use Rattle.heap_meaning.specs.swizzle.Joint.{shown_at, name_at}
 use Rattle.heap_meaning.specs.swizzle.Text.{text_at}
 use Rattle.heap_meaning.proofs.of_swizzle.NameLaws.{name_at-injective}
-use Rattle.heap_meaning.specs.ps_meaning.Values.{Value, Num, Flag, Text, Nil, Pointer, Vector, Procedure, Nothing}
-use Rattle.heap_meaning.specs.ps_meaning.Objects.{Heap, is_one_object}
+use Rattle.heap_meaning.specs.ps_heap.Values.{Value, Num, Flag, Text, Nil, Pointer, Vector, Procedure, Nothing}
+use Rattle.heap_meaning.specs.ps_heap.Objects.{Heap, is_one_object}
 use Rattle.heap_meaning.specs.Paired.{paired}
 use Rattle.joint_ops.specs.World.{IsWorld, DenotesIn}
 use Rattle.joint_ops.specs.Operands.{IsOfSort, IsByObject}

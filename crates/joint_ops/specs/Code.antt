@@ -12,8 +12,8 @@ use Rattle.heap_meaning.specs.swizzle.declared.fault.SwizzleFault.TheVariants.{A
 use Rattle.heap_meaning.specs.proc_values.Units.{unit_words}
 use Rattle.heap_meaning.specs.proc_values.Reading.{IsDamaged}
 use Rattle.heap_meaning.specs.proc_values.Loaded.{IsFitUnit, constant_numbered}
-use Rattle.heap_meaning.specs.ps_meaning.Values.{Text}
-use Rattle.heap_meaning.specs.ps_meaning.Objects.{Heap}
+use Rattle.heap_meaning.specs.ps_heap.Values.{Text}
+use Rattle.heap_meaning.specs.ps_heap.Objects.{Heap}
 use Rattle.joint_ops.specs.World.{IsWorld, DenotesIn, IsUnitIn, Stands, BreaksOff}
 
 -- how many bytes the objects of a unit have

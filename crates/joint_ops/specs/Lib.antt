@@ -4,7 +4,7 @@ pub mod Made
 pub mod Code
 pub use Rattle.heap_meaning.specs.text_forms as text_forms
 pub use Rattle.heap_meaning.specs.ps_outside as ps_outside
-pub use Rattle.heap_meaning.specs.ps_meaning as ps_meaning
+pub use Rattle.heap_meaning.specs.ps_heap as ps_heap
 pub use Rattle.heap_meaning.specs.obj_area as obj_area
 pub use Rattle.heap_meaning.specs.obj_layout as obj_layout
 pub use Rattle.heap_meaning.specs.swizzle as swizzle

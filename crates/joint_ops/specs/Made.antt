@@ -9,10 +9,10 @@ use Rattle.heap_meaning.specs.swizzle.declared.fault.SwizzleFault.{SwizzleFault}
 use Rattle.heap_meaning.specs.swizzle.declared.fault.SwizzleFault.TheVariants.{AreaFull}
 use Rattle.heap_meaning.specs.heap_texts.declared.fault.OpFault.{OpFault}
 use Rattle.heap_meaning.specs.heap_texts.declared.fault.OpFault.TheVariants as op
-use Rattle.heap_meaning.specs.ps_meaning.Values.{Value, Text}
-use Rattle.heap_meaning.specs.ps_meaning.Texts.{Attempt, Yields, Fails}
-use Rattle.heap_meaning.specs.ps_meaning.Objects.{Heap, Object, with_new, new_number}
-use Rattle.heap_meaning.specs.ps_meaning.Weights.{own_weight, text_weight}
+use Rattle.heap_meaning.specs.ps_heap.Values.{Value, Text}
+use Rattle.heap_meaning.specs.ps_heap.Texts.{Attempt, Yields, Fails}
+use Rattle.heap_meaning.specs.ps_heap.Objects.{Heap, Object, with_new, new_number}
+use Rattle.heap_meaning.specs.ps_heap.Weights.{own_weight, text_weight}
 use Rattle.joint_ops.specs.World.{IsWorld, DenotesIn, Carries, Stands}
 
 -- An object of so many bytes has so many words; where they are more than the greatest number of 32 bits, that one stands for them.

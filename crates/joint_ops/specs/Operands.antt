@@ -9,8 +9,8 @@ use Rattle.heap_meaning.specs.swizzle.Heap.{header_at}
 use Rattle.heap_meaning.specs.text_forms.declared.forms.Form.{Form}
 use Rattle.heap_meaning.specs.text_forms.Forms.{element_of}
 use Rattle.heap_meaning.specs.heap_places.declared.value.Value as code
-use Rattle.heap_meaning.specs.ps_meaning.Objects.{Heap, object_at, type_in}
-use Rattle.heap_meaning.specs.ps_meaning.Values.{Value, Text, Nil, Pointer, Vector, Procedure}
+use Rattle.heap_meaning.specs.ps_heap.Objects.{Heap, object_at, type_in}
+use Rattle.heap_meaning.specs.ps_heap.Values.{Value, Text, Nil, Pointer, Vector, Procedure}
 use Rattle.joint_ops.specs.World.{IsForIn, IsOfForm}
 use Rattle.joint_ops.specs.declared.values.Sort.{Sort}
 use Rattle.joint_ops.specs.declared.values.Sort.TheVariants as sort

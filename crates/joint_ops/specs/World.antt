@@ -20,10 +20,10 @@ use Rattle.heap_meaning.specs.heap_texts.declared.fault.OpFault.TheVariants as o
 use Rattle.heap_meaning.specs.heap_places.declared.value.Value as code
 use Rattle.heap_meaning.specs.heap_places.declared.value.Value.TheVariants as held
 use Rattle.heap_meaning.specs.proc_values.Loaded.{CodeStays}
-use Rattle.heap_meaning.specs.ps_meaning.Operators.{is_int}
-use Rattle.heap_meaning.specs.ps_meaning.Values.{Value}
-use Rattle.heap_meaning.specs.ps_meaning.Texts.{Attempt, Yields, Fails}
-use Rattle.heap_meaning.specs.ps_meaning.Objects.{Heap}
+use Rattle.heap_meaning.specs.ps_heap.Operators.{is_int}
+use Rattle.heap_meaning.specs.ps_heap.Values.{Value}
+use Rattle.heap_meaning.specs.ps_heap.Texts.{Attempt, Yields, Fails}
+use Rattle.heap_meaning.specs.ps_heap.Objects.{Heap}
 use Rattle.heap_meaning.specs.Units.{IsUnitSeen}
 use Rattle.heap_meaning.specs.Paired.{paired, StandsRow}
 use Rattle.heap_meaning.specs.Denoting.{DenotesValue, DenotesScope, IsFor}

@@ -8,7 +8,7 @@ ghost use Rattle.heap_meaning.specs.proc_values.Units.{IsCut, unit_objects};
 ghost use Rattle.heap_meaning.specs.swizzle.Heap.{IsHeld, header_at, top_of};
 ghost use Rattle.heap_meaning.specs.swizzle.Reading.{LeavesOutside};
 ghost use Rattle.heap_meaning.specs.swizzle.Touch.{Keeps};
-ghost use Rattle.heap_meaning.specs.ps_meaning.Objects as meaning;
+ghost use Rattle.heap_meaning.specs.ps_heap.Objects as meaning;
 ghost use Rattle.joint_ops.specs.World.{IsUnitIn, IsWorld, Stands, FailsAsReading};
 ghost use Rattle.joint_ops.specs.Code.{LoadsUnit, AnswersConstant};
 

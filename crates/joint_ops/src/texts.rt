@@ -6,9 +6,9 @@ ghost use Rattle.heap_meaning.specs.obj_layout.declared.reference.Reference.{Ref
 ghost use Rattle.heap_meaning.specs.swizzle.Heap.{IsHeld, header_at};
 ghost use Rattle.heap_meaning.specs.swizzle.Text.{text_at};
 ghost use Rattle.heap_meaning.specs.swizzle.Touch.{Keeps};
-ghost use Rattle.heap_meaning.specs.ps_meaning.Objects as meaning;
-ghost use Rattle.heap_meaning.specs.ps_meaning.Texts.{Yields, join_of, part_of, order_of, string_of};
-ghost use Rattle.heap_meaning.specs.ps_meaning.Values as meant;
+ghost use Rattle.heap_meaning.specs.ps_heap.Objects as meaning;
+ghost use Rattle.heap_meaning.specs.ps_heap.Texts.{Yields, join_of, part_of, order_of, string_of};
+ghost use Rattle.heap_meaning.specs.ps_heap.Values as meant;
 ghost use Rattle.joint_ops.specs.World.{IsWorld, DenotesIn};
 ghost use Rattle.joint_ops.specs.Made.{MakesText, BreaksAsMaking};
 

@@ -2,9 +2,9 @@
 ghost use Rattle.std.specs.Prelude.{◌≡◌, List, IfSome};
 ghost use Rattle.heap_meaning.specs.obj_layout.declared.reference.Reference.{Reference};
 ghost use Rattle.heap_meaning.specs.swizzle.Heap.{IsHeld};
-ghost use Rattle.heap_meaning.specs.ps_meaning.Objects.{is_one_object};
-ghost use Rattle.heap_meaning.specs.ps_meaning.Objects as meaning;
-ghost use Rattle.heap_meaning.specs.ps_meaning.Values as meant;
+ghost use Rattle.heap_meaning.specs.ps_heap.Objects.{is_one_object};
+ghost use Rattle.heap_meaning.specs.ps_heap.Objects as meaning;
+ghost use Rattle.heap_meaning.specs.ps_heap.Values as meant;
 ghost use Rattle.joint_ops.specs.World.{IsWorld, DenotesIn};
 ghost use Rattle.joint_ops.specs.Operands.{IsOfSort, IsSorted, IsByObject};
 

@@ -28,10 +28,10 @@ use Rattle.scopes.specs.heap_places.declared.value.Value.TheVariants as held
 use Rattle.scopes.specs.heap_ops.Vectors.{fitted}
 use Rattle.scopes.specs.Names as names_of
 use Rattle.scopes.specs.Names.{kind_damage, damage_by, scope_damage, name_damage, index_of, FailsName, FailsKept, GetsKept, SetsKept}
-use Rattle.joint_ops.specs.ps_meaning.Operators.{is_int}
-use Rattle.joint_ops.specs.ps_meaning.Values.{Value, Num, Flag, Text, Nil, Pointer, Vector, Procedure, Nothing, number_of, is_one}
-use Rattle.joint_ops.specs.ps_meaning.Objects.{Heap, Object, Scope, object_at, with_object, value_at, kept_as}
-use Rattle.joint_ops.specs.ps_meaning.Scopes.{scope_at, scope_out, names_in, name_in, with_name, with_name_in}
+use Rattle.joint_ops.specs.ps_heap.Operators.{is_int}
+use Rattle.joint_ops.specs.ps_heap.Values.{Value, Num, Flag, Text, Nil, Pointer, Vector, Procedure, Nothing, number_of, is_one}
+use Rattle.joint_ops.specs.ps_heap.Objects.{Heap, Object, Scope, object_at, with_object, value_at, kept_as}
+use Rattle.joint_ops.specs.ps_heap.Scopes.{scope_at, scope_out, names_in, name_in, with_name, with_name_in}
 use Rattle.joint_ops.specs.heap_meaning.Standing.{StandsFor, IsScope}
 use Rattle.joint_ops.specs.heap_meaning.Paired.{paired}
 use Rattle.joint_ops.proofs.of_heap_meaning.StandingLaws.{like-more}

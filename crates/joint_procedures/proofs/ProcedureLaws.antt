@@ -25,9 +25,9 @@ use Rattle.scopes.specs.heap_places.Shapes.{slot_of, shape_damage}
 use Rattle.joint_ops.proofs.of_heap_places.TouchedLaws.{kinds-same}
 use Rattle.joint_ops.specs.proc_values.Loaded.{IsFitUnit}
 use Rattle.scopes.specs.closures.Closures.{closure_of, closure_damage, IsOther, FailsPart, HasNoCode, TellsCode, TellsScope}
-use Rattle.joint_ops.specs.ps_meaning.Values.{Procedure, as_compiled}
-use Rattle.joint_ops.specs.ps_meaning.Objects.{Heap}
-use Rattle.joint_ops.specs.ps_meaning.Weights.{closure_weight}
+use Rattle.joint_ops.specs.ps_heap.Values.{Procedure, as_compiled}
+use Rattle.joint_ops.specs.ps_heap.Objects.{Heap}
+use Rattle.joint_ops.specs.ps_heap.Weights.{closure_weight}
 use Rattle.joint_ops.specs.heap_meaning.Standing.{StandsForScope, IsClosure}
 use Rattle.joint_ops.specs.heap_meaning.Units.{IsUnitSeen}
 use Rattle.joint_ops.specs.heap_meaning.Paired.{paired}

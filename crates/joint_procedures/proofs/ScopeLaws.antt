@@ -28,10 +28,10 @@ use Rattle.scopes.specs.Making as making
 use Rattle.scopes.specs.Making.{scope_object, scope_words}
 use Rattle.scopes.specs.Way.{way_damage, TellsParent, LeadsOver, end_of, EndsEarly, GoesOut}
 use Rattle.scopes.proofs.WayLaws.{not-damaged}
-use Rattle.joint_ops.specs.ps_meaning.Values.{Value, Text}
-use Rattle.joint_ops.specs.ps_meaning.Objects.{Heap, Object, Structure, Elements, Scope, object_at}
-use Rattle.joint_ops.specs.ps_meaning.Scopes.{first_value, new_scope, scope_at, parent_in, scope_out}
-use Rattle.joint_ops.specs.ps_meaning.Weights.{own_weight}
+use Rattle.joint_ops.specs.ps_heap.Values.{Value, Text}
+use Rattle.joint_ops.specs.ps_heap.Objects.{Heap, Object, Structure, Elements, Scope, Keyed, object_at}
+use Rattle.joint_ops.specs.ps_heap.Scopes.{first_value, new_scope, scope_at, parent_in, scope_out}
+use Rattle.joint_ops.specs.ps_heap.Weights.{own_weight}
 use Rattle.joint_ops.specs.heap_meaning.Standing.{IsKindOf, StandsForScope, IsScope, IsLike}
 use Rattle.joint_ops.specs.heap_meaning.Paired.{paired}
 use Rattle.joint_ops.proofs.of_heap_meaning.StandingLaws.{scope-more}
@@ -162,6 +162,7 @@ module _ (here : area.Heap) (outside : Outside Space) (of : Heap) (names : List 
       cases (Structure class fields) means like scope = let bad : kind.Scope ≡ kind.Structure = sym scope ∙ like.kind_is in absurd (cc)
       cases (Elements ty low elements) means like scope = let bad : kind.Scope ≡ kind.Vector = sym scope ∙ like.rows.kind_is in absurd (cc)
       cases (Scope text parent values) means like scope = record { text = text; parent = parent; values = values; means = means; is = like }
+      cases (Keyed table) means like scope = absurd like
 
 -- an object that denotes a scope
 pub record ScopeAt (here : area.Heap) (outside : Outside Space) (of : Heap) (names : List reference.Reference) (at : ℕ) (within : Option ℕ) : Type 0 where

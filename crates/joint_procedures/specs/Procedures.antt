@@ -12,9 +12,9 @@ use Rattle.joint_ops.specs.swizzle.Touch.{Denotes}
 use Rattle.joint_ops.specs.heap_places.Shapes.{slot_of}
 use Rattle.joint_ops.specs.swizzle.declared.fault.SwizzleFault.{SwizzleFault}
 use Rattle.joint_ops.specs.proc_values.Loaded.{IsFitUnit}
-use Rattle.joint_ops.specs.ps_meaning.Values.{Procedure, as_compiled}
-use Rattle.joint_ops.specs.ps_meaning.Objects.{Heap}
-use Rattle.joint_ops.specs.ps_meaning.Weights.{closure_weight}
+use Rattle.joint_ops.specs.ps_heap.Values.{Procedure, as_compiled}
+use Rattle.joint_ops.specs.ps_heap.Objects.{Heap}
+use Rattle.joint_ops.specs.ps_heap.Weights.{closure_weight}
 use Rattle.joint_ops.specs.World.{DenotesIn, DenotesScopeIn, IsUnitIn, Stands, BreaksOff}
 use Rattle.joint_ops.specs.Made.{IsShort}
 

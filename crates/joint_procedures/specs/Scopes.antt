@@ -19,12 +19,11 @@ use Rattle.scopes.specs.heap_places.declared.value.Value.TheVariants as held
 use Rattle.scopes.specs.heap_places.Places.{assigned_value}
 use Rattle.scopes.specs.heap_ops.Vectors.{fitted}
 use Rattle.scopes.specs.Names.{index_of}
-use Rattle.joint_ops.specs.ps_meaning.Operators.{is_int}
-use Rattle.joint_ops.specs.ps_meaning.Values.{Value}
-use Rattle.joint_ops.specs.ps_meaning.Objects.{Heap, Object, Scope, with_new, new_number}
-use Rattle.joint_ops.specs.ps_meaning.Scopes.{scope_at, scope_out}
-use Rattle.joint_ops.specs.ps_meaning.Meaning.{kept_name, with_kept_name}
-use Rattle.joint_ops.specs.ps_meaning.Weights.{own_weight}
+use Rattle.joint_ops.specs.ps_heap.Operators.{is_int}
+use Rattle.joint_ops.specs.ps_heap.Values.{Value}
+use Rattle.joint_ops.specs.ps_heap.Objects.{Heap, Object, Scope, with_new, new_number}
+use Rattle.joint_ops.specs.ps_heap.Scopes.{scope_at, scope_out, kept_name, with_kept_name}
+use Rattle.joint_ops.specs.ps_heap.Weights.{own_weight}
 use Rattle.joint_ops.specs.World.{IsWorld, DenotesScopeIn, IsForIn, IsOfForm, Carries, Stands, BreaksOff}
 use Rattle.joint_ops.specs.Made.{IsShort}
 

@@ -8,7 +8,7 @@ use Rattle.joint_ops.specs.obj_layout.declared.reference.Reference.{Reference}
 use Rattle.joint_ops.specs.swizzle.Heap as area
 use Rattle.joint_ops.specs.swizzle.declared.fault.SwizzleFault.{SwizzleFault}
 use Rattle.joint_ops.specs.proc_values.Loaded.{IsFitUnit, constant_numbered}
-use Rattle.joint_ops.specs.ps_meaning.Values.{Text}
+use Rattle.joint_ops.specs.ps_heap.Values.{Text}
 use Rattle.joint_ops.specs.World.{DenotesIn, IsUnitIn}
 use Rattle.joint_ops.specs.Code.{AnswersConstant}
 

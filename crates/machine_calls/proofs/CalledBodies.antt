@@ -14,8 +14,8 @@ use Rattle.machine_core.specs.swizzle.Reading.{LeavesOutside}
 use Rattle.machine_core.specs.swizzle.Touch.{Keeps}
 use Rattle.machine_core.specs.swizzle.declared.fault.SwizzleFault.{SwizzleFault}
 use Rattle.machine_core.specs.proc_values.Reading.{IsPlaceOf}
-use Rattle.machine_core.specs.ps_meaning.Objects.{Heap}
-use Rattle.machine_core.specs.ps_meaning.Values.{Value, Num, Flag, Text, Nil, Pointer, Vector, Procedure, Nothing, as_compiled, as_written}
+use Rattle.machine_core.specs.ps_heap.Objects.{Heap}
+use Rattle.machine_core.specs.ps_heap.Values.{Value, Num, Flag, Text, Nil, Pointer, Vector, Procedure, Nothing, as_compiled, as_written}
 use Rattle.machine_core.specs.ps_stepping.Config.{Config, frame_in, frame_words}
 use Rattle.machine_core.specs.ps_stepping.Steps.{Step, Stuck}
 use Rattle.machine_core.specs.ps_stepping.Objects.{pop_nums}

@@ -12,8 +12,8 @@ use Rattle.machine_core.specs.swizzle.Reading.{LeavesOutside}
 use Rattle.machine_core.specs.swizzle.Touch.{Keeps}
 use Rattle.machine_core.specs.swizzle.declared.fault.SwizzleFault.{SwizzleFault}
 use Rattle.machine_core.specs.proc_values.Loaded.{IsFitUnit, constant_numbered}
-use Rattle.machine_core.specs.ps_meaning.Objects.{Heap}
-use Rattle.machine_core.specs.ps_meaning.Values.{Text}
+use Rattle.machine_core.specs.ps_heap.Objects.{Heap}
+use Rattle.machine_core.specs.ps_heap.Values.{Text}
 use Rattle.machine_core.specs.ps_stepping.Config.{Config, constants_in, constant_at}
 use Rattle.machine_core.specs.ps_stepping.Steps.{Step, Stuck, text_in, with_text}
 use Rattle.machine_core.specs.ps_stepping.Procedures.{procedure_of, closure}

@@ -9,8 +9,8 @@ use Rattle.machine_core.specs.swizzle.Heap as area
 use Rattle.machine_core.specs.swizzle.Heap.{IsHeld}
 use Rattle.machine_core.specs.swizzle.Touch.{Keeps}
 use Rattle.machine_core.specs.swizzle.declared.fault.SwizzleFault.{SwizzleFault}
-use Rattle.machine_core.specs.ps_meaning.Objects.{Heap, Object}
-use Rattle.machine_core.specs.ps_meaning.Scopes.{scope_at}
+use Rattle.machine_core.specs.ps_heap.Objects.{Heap, Object}
+use Rattle.machine_core.specs.ps_heap.Scopes.{scope_at}
 use Rattle.machine_core.specs.ps_stepping.Config.{Config}
 use Rattle.machine_core.specs.ps_stepping.Steps.{on}
 use Rattle.machine_core.specs.ps_stepping.Procedures.{leave_scope, of_scope}

@@ -15,11 +15,11 @@ use Rattle.machine_core.specs.text_forms.Forms.{forms_of, form_in}
 use Rattle.machine_core.specs.heap_places.Places.{IsNear}
 use Rattle.machine_core.specs.heap_places.declared.value.Value as code
 use Rattle.machine_core.specs.heap_places.declared.value.Value.TheVariants as held
-use Rattle.machine_core.specs.ps_meaning.Objects.{Heap, Object, Structure, Elements, Scope}
-use Rattle.machine_core.specs.ps_meaning.Scopes.{scope_at, scope_out}
-use Rattle.machine_core.specs.ps_meaning.Meaning.{on_heap, kept_name, with_kept_name}
-use Rattle.machine_core.specs.ps_meaning.Values.{Value, Num, Flag, word_of, number_of}
-use Rattle.machine_core.specs.ps_meaning.Values as value
+use Rattle.machine_core.specs.ps_heap.Objects.{Heap, Object, Structure, Elements, Scope, Keyed}
+use Rattle.machine_core.specs.ps_heap.Scopes.{scope_at, scope_out, kept_name, with_kept_name}
+use Rattle.machine_core.specs.ps_meaning.Meaning.{on_heap}
+use Rattle.machine_core.specs.ps_heap.Values.{Value, Num, Flag, word_of, number_of}
+use Rattle.machine_core.specs.ps_heap.Values as value
 use Rattle.machine_core.specs.ps_stepping.Config.{Config}
 use Rattle.machine_core.specs.ps_stepping.Steps.{Step, Stuck, push_num, push_ref, pop_num, pop_ref}
 use Rattle.machine_core.specs.ps_stepping.Objects.{changed, when_number, when_reference}
@@ -73,6 +73,7 @@ module _ (up name : ℕ) (c : Config) (s : Step) where
       at None is = refl
       at (Some (Structure class fields)) is = refl
       at (Some (Elements ty low elements)) is = refl
+      at (Some (Keyed table)) is = refl
       at (Some (Scope text parent values)) is = formed text parent values (form_in (forms_of text) name) is refl
 
   reference-none : ((f : Form) → HasName c.store.heap c.scope up name f → when_reference (Some f) s ≡ Stuck) → reference_kept up name c s ≡ Stuck
@@ -87,6 +88,7 @@ module _ (up name : ℕ) (c : Config) (s : Step) where
       at None is = refl
       at (Some (Structure class fields)) is = refl
       at (Some (Elements ty low elements)) is = refl
+      at (Some (Keyed table)) is = refl
       at (Some (Scope text parent values)) is = formed text parent values (form_in (forms_of text) name) is refl
 
 -- outside of all scopes there is no name

@@ -1,5 +1,5 @@
 -- Scopes and procedures that are made by a machine.
-use Rattle.std.proofs.Common.{◌≡◌, ℕ, ◌+◌, ◌<◌, ◌≤◌, Bool, List, [], ◌∷◌, length, Option, Some, refl, sym, ap, ◌∙◌, arith}
+use Rattle.std.proofs.Common.{◌≡◌, ℕ, ◌+◌, ◌<◌, ◌≤◌, Bool, List, [], ◌∷◌, length, Option, Some, refl, sym, ap, ◌∙◌, arith, subst}
 use Rattle.std.specs.Prelude.{Result, Ok, Err, if◌then◌else◌}
 use Rattle.std.proofs.lemmas.Bool.{lt-ltb, le-ltb}
 use Rattle.ps_base.specs.CodeUnit.{UnitView}
@@ -11,11 +11,11 @@ use Rattle.machine_core.specs.swizzle.Heap.{IsHeld}
 use Rattle.machine_core.specs.swizzle.Touch.{Keeps}
 use Rattle.machine_core.specs.swizzle.declared.fault.SwizzleFault.{SwizzleFault}
 use Rattle.machine_core.specs.proc_values.Loaded.{IsFitUnit}
-use Rattle.machine_core.specs.ps_meaning.Values.{Text, Procedure, as_compiled}
-use Rattle.machine_core.specs.ps_meaning.Objects.{Heap, new_number}
-use Rattle.machine_core.specs.ps_meaning.Scopes.{new_scope}
+use Rattle.machine_core.specs.ps_heap.Values.{Text, Procedure, as_compiled}
+use Rattle.machine_core.specs.ps_heap.Objects.{Heap, new_number}
+use Rattle.machine_core.specs.ps_heap.Scopes.{new_scope}
 use Rattle.machine_core.specs.ps_meaning.Meaning.{and_object, and_closure}
-use Rattle.machine_core.specs.ps_meaning.Weights.{own_weight, closure_weight}
+use Rattle.machine_core.specs.ps_heap.Weights.{own_weight, closure_weight}
 use Rattle.machine_core.specs.ps_stepping.Config.{Config, frame_words, frame_in}
 use Rattle.machine_core.specs.ps_stepping.Steps.{Stuck, on, push_ref}
 use Rattle.machine_core.specs.joint_ops.World.{IsWorld, DenotesIn, DenotesScopeIn, IsUnitIn}
@@ -35,7 +35,6 @@ use Rattle.machine_calls.specs.inside.Making.{MakesScopeOf, MakesProcedureOf, in
 use Rattle.machine_calls.proofs.Current.{IsCurrent}
 use Rattle.machine_calls.proofs.Fetching.{broken, sound-broken, names-kept, done-behind}
 use Rattle.machine_core.proofs.of_swizzle.ReadingLaws.{leaves-none}
-use Rattle.std.proofs.Common.{subst}
 
 module _ (outside : Outside Space) (m : Machine) (now : area.Heap) (within : Option ℕ) (in_it : IsCurrent outside m within) where
   -- A scope.

@@ -1,6 +1,7 @@
 pub mod inside
 pub use Rattle.machine_core.specs.text_forms as text_forms
 pub use Rattle.machine_core.specs.ps_outside as ps_outside
+pub use Rattle.machine_core.specs.ps_heap as ps_heap
 pub use Rattle.machine_core.specs.ps_meaning as ps_meaning
 pub use Rattle.machine_core.specs.ps_stepping as ps_stepping
 pub use Rattle.machine_core.specs.obj_layout as obj_layout

@@ -6,7 +6,7 @@ use Rattle.joint_ops.specs.ps_outside.Outside.{Outside}
 use Rattle.joint_ops.specs.obj_layout.Stored.{Space}
 use Rattle.joint_ops.specs.obj_layout.declared.reference.Reference.{Reference}
 use Rattle.joint_ops.specs.swizzle.Heap as area
-use Rattle.ps_stepping.specs.ps_meaning.Values.{Value, Nil}
+use Rattle.ps_stepping.specs.ps_heap.Values.{Value, Nil}
 use Rattle.ps_stepping.specs.Config.{Config}
 use Rattle.ps_stepping.specs.Steps.{Step, Stuck, pop_num_of, pop_ref_of}
 use Rattle.ps_stepping.specs.Objects.{pop_nums, pop_refs}

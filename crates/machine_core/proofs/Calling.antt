@@ -9,10 +9,11 @@ use Rattle.ps_base.specs.declared.trap.Trap.TheVariants.{TooDeep}
 use Rattle.joint_ops.specs.ps_outside.Outside.{Outside}
 use Rattle.joint_ops.specs.obj_layout.Stored.{Space}
 use Rattle.joint_ops.specs.obj_layout.declared.reference.Reference.{Reference}
-use Rattle.ps_stepping.specs.ps_meaning.Event.{Trapped, OutOfTurns, Turn}
+use Rattle.ps_stepping.specs.ps_heap.Ends.{Trapped, OutOfTurns}
+use Rattle.ps_stepping.specs.ps_meaning.Event.{Turn}
 use Rattle.ps_stepping.specs.ps_meaning.Evaluation.{most_calls}
 use Rattle.ps_stepping.specs.ps_meaning.Meaning.{Store, with_turns, spent}
-use Rattle.ps_stepping.specs.ps_meaning.Values.{Nil}
+use Rattle.ps_stepping.specs.ps_heap.Values.{Nil}
 use Rattle.ps_stepping.specs.Config.{Config}
 use Rattle.ps_stepping.specs.Steps.{Step, Goes, Stops, Stuck}
 use Rattle.ps_stepping.specs.Objects.{pop_nums}

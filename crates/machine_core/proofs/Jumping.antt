@@ -6,9 +6,10 @@ use Rattle.ps_base.specs.declared.line.Line.{Line}
 use Rattle.ps_base.specs.declared.trap.Trap.TheVariants.{Bounds}
 use Rattle.joint_ops.specs.ps_outside.Outside.{Outside}
 use Rattle.joint_ops.specs.obj_layout.Stored.{Space}
-use Rattle.ps_stepping.specs.ps_meaning.Event.{Event, Turn, Trapped, outputs}
+use Rattle.ps_stepping.specs.ps_heap.Ends.{Trapped}
+use Rattle.ps_stepping.specs.ps_meaning.Event.{Event, Turn, outputs}
 use Rattle.ps_stepping.specs.ps_meaning.Meaning.{Store, with_turns, spent}
-use Rattle.ps_stepping.specs.ps_meaning.Operators.{is_same}
+use Rattle.ps_stepping.specs.ps_heap.Operators.{is_same}
 use Rattle.ps_stepping.specs.ps_meaning.Evaluation.{goes_on}
 use Rattle.ps_stepping.specs.Config.{Config, frame_in}
 use Rattle.ps_stepping.specs.Machine.{Step, Goes, Stops, Stuck, on, forward, turn_to, started, for_start, counted, for_next, is_num_slot}

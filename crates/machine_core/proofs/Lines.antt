@@ -5,7 +5,7 @@ use Rattle.std.proofs.lemmas.List.{drop_all, drop-drop, length-drop}
 use Rattle.std.proofs.lemmas.Bool.{le-leb, lt-leb, eq-eqb, eqb-true}
 use Rattle.std.proofs.Math.Dec.{leb-suc-suc}
 use lib.Dec.{leb}
-use Rattle.ps_stepping.specs.ps_meaning.Texts.{line_of, behind_line, is_at_end}
+use Rattle.ps_stepping.specs.ps_heap.Texts.{line_of, behind_line, is_at_end}
 
 -- a line is the first of its bytes
 pub line-is : (bytes : List ℕ) → take (length (line_of bytes)) bytes ≡ line_of bytes

@@ -8,9 +8,9 @@ use Rattle.ps_base.specs.declared.code_unit.Frame.{Frame}
 use Rattle.joint_ops.specs.ps_outside.Outside.{Outside}
 use Rattle.joint_ops.specs.obj_layout.Stored.{Space}
 use Rattle.joint_ops.specs.obj_layout.declared.reference.Reference.{Reference}
-use Rattle.ps_stepping.specs.ps_meaning.Operators.{Answer}
+use Rattle.ps_stepping.specs.ps_heap.Operators.{Answer}
 use Rattle.ps_stepping.specs.ps_meaning.Meaning.{with_local}
-use Rattle.ps_stepping.specs.ps_meaning.Values.{Value, number_of}
+use Rattle.ps_stepping.specs.ps_heap.Values.{Value, number_of}
 use Rattle.ps_stepping.specs.Config.{Config, frame_words, frame_in}
 use Rattle.ps_stepping.specs.Machine.{Step, Goes, Stuck, pop_num_of, pop_num, pop_ref_of, pop_ref, pop_two, put_num, push_num, push_ref, answered, two_nums, test, on, is_num_slot, is_ref_slot, with_num, with_ref}
 use Rattle.joint_ops.specs.World.{DenotesIn}

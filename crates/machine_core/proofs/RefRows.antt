@@ -7,7 +7,7 @@ use Rattle.joint_ops.specs.ps_outside.Outside.{Outside}
 use Rattle.joint_ops.specs.obj_layout.Stored.{Space}
 use Rattle.joint_ops.specs.obj_layout.declared.reference.Reference.{Reference}
 use Rattle.joint_ops.specs.swizzle.Heap as area
-use Rattle.ps_stepping.specs.ps_meaning.Values.{Value}
+use Rattle.ps_stepping.specs.ps_heap.Values.{Value}
 use Rattle.ps_stepping.specs.ps_meaning.Meaning.{with_local}
 use Rattle.joint_ops.specs.World.{DenotesIn}
 use Rattle.machine_core.specs.Holding.{IsRefRow, AreDenoted, object_in}

@@ -12,7 +12,7 @@ use Rattle.joint_ops.specs.ps_outside.Outside.{Outside}
 use Rattle.joint_ops.specs.obj_layout.Stored.{Space}
 use Rattle.joint_ops.specs.obj_layout.declared.reference.Reference.{Reference}
 use Rattle.ps_stepping.specs.Config.{Config, Caller}
-use Rattle.ps_stepping.specs.ps_meaning.Event.{Done}
+use Rattle.ps_stepping.specs.ps_heap.Ends.{Done}
 use Rattle.ps_stepping.specs.Machine.{resumed, come_back, returned}
 use Rattle.ps_stepping.specs.Procedures.{num_back, ref_back}
 use Rattle.ps_stepping.specs.Steps.{Step, Stops, pop_num, pop_ref, push_num, push_ref}

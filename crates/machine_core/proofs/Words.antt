@@ -5,7 +5,7 @@ use Rattle.joint_ops.specs.obj_layout.Stored.{Space}
 use Rattle.joint_ops.specs.obj_layout.declared.reference.Reference.{Reference}
 use Rattle.joint_ops.specs.swizzle.Heap as area
 use Rattle.joint_ops.specs.swizzle.Heap.{IsHeap}
-use Rattle.ps_stepping.specs.ps_meaning.Values.{Value, Nil}
+use Rattle.ps_stepping.specs.ps_heap.Values.{Value, Nil}
 use Rattle.joint_ops.specs.World.{DenotesIn, DenotesScopeIn}
 use Rattle.joint_ops.proofs.of_heap_ops.LayoutLaws.{held-from}
 use Rattle.machine_core.specs.Holding.{object_in, word_of}

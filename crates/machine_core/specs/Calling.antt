@@ -8,7 +8,7 @@ use Rattle.joint_ops.specs.obj_layout.declared.reference.Reference.{Reference}
 use Rattle.joint_ops.specs.swizzle.Heap as area
 use Rattle.joint_ops.specs.proc_values.Loaded.{IsFitUnit}
 use Rattle.joint_ops.specs.proc_values.Reading.{IsPlaceOf}
-use Rattle.ps_stepping.specs.ps_meaning.Values.{Value}
+use Rattle.ps_stepping.specs.ps_heap.Values.{Value}
 use Rattle.ps_stepping.specs.Config.{Caller, Config, frame_in}
 use Rattle.ps_stepping.specs.Machine.{resumed}
 use Rattle.ps_stepping.specs.Steps.{Step, Stuck, pop_ref}

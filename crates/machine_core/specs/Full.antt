@@ -7,10 +7,10 @@ use Rattle.joint_ops.specs.swizzle.declared.fault.SwizzleFault.{SwizzleFault}
 use Rattle.joint_ops.specs.swizzle.declared.fault.SwizzleFault.TheVariants.{AreaFull, Vault}
 use Rattle.joint_ops.specs.World.{IsStored}
 use Rattle.joint_ops.specs.Made.{AreWords}
-use Rattle.ps_stepping.specs.ps_meaning.Values.{Value, Routine, Text, Pointer, Vector, Procedure}
-use Rattle.ps_stepping.specs.ps_meaning.Objects.{Object, new_number}
+use Rattle.ps_stepping.specs.ps_heap.Values.{Value, Routine, Text, Pointer, Vector, Procedure}
+use Rattle.ps_stepping.specs.ps_heap.Objects.{Object, new_number}
 use Rattle.ps_stepping.specs.ps_meaning.Meaning.{Store, and_object, and_text, and_closure}
-use Rattle.ps_stepping.specs.ps_meaning.Weights.{own_weight, text_weight, closure_weight}
+use Rattle.ps_stepping.specs.ps_heap.Weights.{own_weight, text_weight, closure_weight}
 use Rattle.ps_stepping.specs.Config.{Config}
 use Rattle.ps_stepping.specs.Steps.{Step, Goes, Stuck}
 

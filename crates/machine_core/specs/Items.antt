@@ -5,7 +5,7 @@ use Rattle.joint_ops.specs.obj_layout.declared.kind.Kind.TheVariants.{Text}
 use Rattle.joint_ops.specs.swizzle.Heap as area
 use Rattle.joint_ops.specs.swizzle.Heap.{IsHeld, header_at}
 use Rattle.joint_ops.specs.swizzle.Text.{text_at}
-use Rattle.ps_stepping.specs.ps_meaning.Values.{flag_text}
+use Rattle.ps_stepping.specs.ps_heap.Values.{flag_text}
 use Rattle.ps_stepping.specs.ps_meaning.Meaning.{in_places}
 use Rattle.machine_core.specs.declared.stepped.Item.{Item}
 use Rattle.machine_core.specs.declared.stepped.Item.TheVariants as item

@@ -10,6 +10,7 @@ pub mod Stepped
 pub mod Calling
 pub mod Reading
 pub mod inside
+pub use Rattle.ps_stepping.specs.ps_heap as ps_heap
 pub use Rattle.ps_stepping.specs.ps_meaning as ps_meaning
 pub use Rattle.ps_stepping.specs as ps_stepping
 pub use Rattle.joint_ops.specs.text_forms as text_forms

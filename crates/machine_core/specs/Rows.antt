@@ -4,7 +4,7 @@ use Rattle.joint_ops.specs.ps_outside.Outside.{Outside}
 use Rattle.joint_ops.specs.obj_layout.Stored.{Space}
 use Rattle.joint_ops.specs.obj_layout.declared.reference.Reference.{Reference}
 use Rattle.joint_ops.specs.swizzle.Heap as area
-use Rattle.ps_stepping.specs.ps_meaning.Values.{Value}
+use Rattle.ps_stepping.specs.ps_heap.Values.{Value}
 use Rattle.joint_ops.specs.World.{DenotesIn}
 
 -- what a word on the stack of references names: 0 is none, and any other the object of the area that begins there

@@ -2,7 +2,8 @@
 use Rattle.std.specs.Prelude.{◌≡◌, ℕ, List, [], ◌∷◌}
 use Rattle.joint_ops.specs.ps_outside.Outside.{Outside}
 use Rattle.joint_ops.specs.obj_layout.Stored.{Space}
-use Rattle.ps_stepping.specs.ps_meaning.Event.{End, Done, Trapped, OutOfTurns, Event, Turn, outputs}
+use Rattle.ps_stepping.specs.ps_heap.Ends.{End, Done, Trapped, OutOfTurns}
+use Rattle.ps_stepping.specs.ps_meaning.Event.{Event, Turn, outputs}
 use Rattle.ps_stepping.specs.ps_meaning.Meaning.{some_out}
 use Rattle.ps_stepping.specs.Config.{Config}
 use Rattle.ps_stepping.specs.Machine.{Step, Goes, Stops, Stuck, Steps}

@@ -1,6 +1,6 @@
 //! Where a run ends.
 ghost use Rattle.std.specs.Prelude.{◌≡◌};
-ghost use Rattle.ps_stepping.specs.ps_meaning.Event.{Trapped};
+ghost use Rattle.ps_stepping.specs.ps_heap.Ends.{Trapped};
 ghost use Rattle.ps_stepping.specs.Machine.{Stops};
 ghost use Rattle.machine_core.specs.Holding.{IsSound};
 ghost use Rattle.machine_core.specs.declared.run_end.RunEnd.TheVariants as in_code;

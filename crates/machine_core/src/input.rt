@@ -1,5 +1,5 @@
 ghost use Rattle.std.specs.Prelude.{◌≡◌, length};
-ghost use Rattle.ps_stepping.specs.ps_meaning.Texts.{line_of, behind_line, is_at_end as is_at_end_of};
+ghost use Rattle.ps_stepping.specs.ps_heap.Texts.{line_of, behind_line, is_at_end as is_at_end_of};
 
 use std::marker::Model;
 

@@ -1,6 +1,6 @@
 ghost use Rattle.std.specs.Prelude.{◌≡◌, if◌then◌else◌, ◌≢◌};
 ghost use Rattle.ps_stepping.specs.ps_meaning.Meaning.{spent};
-ghost use Rattle.ps_stepping.specs.ps_meaning.Values.{is_one as is_one_of};
+ghost use Rattle.ps_stepping.specs.ps_heap.Values.{is_one as is_one_of};
 ghost use Rattle.ps_stepping.specs.Machine.{on, forward as forward_of, back as back_of, turn_to as turn_to_of, pop_num as pop_num_of};
 ghost use Rattle.machine_core.specs.Holding.{IsSound};
 ghost use Rattle.machine_core.specs.Stepped.{Takes};

@@ -1,10 +1,9 @@
-ghost use Rattle.std.specs.Prelude.{◌≡◌, not, if◌then◌else◌, ◌≢◌};
-ghost use Rattle.ps_stepping.specs.ps_meaning.Answers.{answer_of};
-ghost use Rattle.ps_stepping.specs.ps_meaning.Operators.{neg_of, arith_of, relation_of};
-ghost use Rattle.ps_stepping.specs.ps_meaning.Values.{is_one as is_one_of, number_of};
+ghost use Rattle.std.specs.Prelude.{◌≡◌, not, if◌then◌else◌, ◌≢◌, length, ◌<◌, ◌≤◌, ◌+◌};
+ghost use Rattle.ps_stepping.specs.ps_heap.Answers.{answer_of};
+ghost use Rattle.ps_stepping.specs.ps_heap.Operators.{neg_of, arith_of, relation_of};
+ghost use Rattle.ps_stepping.specs.ps_heap.Values.{is_one as is_one_of, number_of};
 ghost use Rattle.ps_stepping.specs.Config.{frame_words};
 ghost use Rattle.ps_stepping.specs.Machine.{on, put_num as put_num_of, push_num as push_num_of, push_ref as push_ref_of, pop_num as pop_num_of, pop_ref as pop_ref_of, is_num_slot, is_ref_slot, with_num, with_ref, answered as answered_of, one_num as one_num_of, two_nums as two_nums_of, test as test_of, Stuck};
-ghost use Rattle.std.specs.Prelude.{length, ◌<◌, ◌≤◌, ◌+◌};
 ghost use Rattle.machine_core.specs.Holding.{IsSound};
 ghost use Rattle.machine_core.specs.Stepped.{Takes};
 ghost use Rattle.machine_core.specs.inside.Taking.{TakesTwo, TakesRef};
@@ -22,7 +21,7 @@ use joint_ops::obj_layout::vault::Vault;
 use ps_base::line::Line;
 use ps_base::operator::{Operator, Relation};
 use ps_base::trap::Trap;
-use ps_stepping::ps_meaning::operators;
+use ps_stepping::ps_heap::operators;
 
 /// Pushes a local among the numbers.
 #[inline(always)]

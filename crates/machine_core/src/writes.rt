@@ -1,8 +1,8 @@
 ghost use Rattle.std.specs.Prelude.{◌≡◌, Option, Some, None, ◌≢◌};
 ghost use Rattle.std.specs.Fmt.{signed_decimal};
 ghost use Rattle.ps_base.specs.declared.trap.Trap.TheVariants.{Abort};
-ghost use Rattle.ps_stepping.specs.ps_meaning.Event.{Trapped};
-ghost use Rattle.ps_stepping.specs.ps_meaning.Values.{is_one as is_one_of, flag_text};
+ghost use Rattle.ps_stepping.specs.ps_heap.Ends.{Trapped};
+ghost use Rattle.ps_stepping.specs.ps_heap.Values.{is_one as is_one_of, flag_text};
 ghost use Rattle.ps_stepping.specs.ps_meaning.Meaning.{is_width as is_width_of};
 ghost use Rattle.ps_stepping.specs.Machine.{Stops, written as written_of, write_num as write_num_of};
 ghost use Rattle.machine_core.specs.Holding.{IsSound};

@@ -10,7 +10,7 @@ use Rattle.machine_core.specs.swizzle.declared.fault.SwizzleFault.{SwizzleFault}
 use Rattle.machine_core.specs.heap_texts.declared.fault.OpFault.{OpFault}
 use Rattle.machine_core.specs.heap_texts.declared.fault.OpFault.TheVariants as op
 use Rattle.machine_core.specs.proc_values.Reading.{IsDamaged}
-use Rattle.machine_core.specs.ps_meaning.Texts.{Attempt, Fails}
+use Rattle.machine_core.specs.ps_heap.Texts.{Attempt, Fails}
 use Rattle.machine_core.specs.ps_stepping.Steps.{Step, Stops, Stuck, attempted}
 use Rattle.machine_core.specs.joint_ops.World.{BreaksOff}
 use Rattle.machine_core.specs.declared.machine.Machine.{Machine}

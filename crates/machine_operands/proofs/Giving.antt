@@ -17,12 +17,12 @@ use Rattle.machine_core.specs.heap_places.declared.value.Value as code
 use Rattle.machine_core.specs.heap_places.declared.value.Value.TheVariants as held
 use Rattle.machine_core.specs.heap_texts.declared.fault.OpFault.{OpFault}
 use Rattle.machine_core.specs.heap_texts.declared.fault.OpFault.TheVariants as op
-use Rattle.machine_core.specs.ps_meaning.Values.{Value, Text, Num, Flag, word_of, number_of}
-use Rattle.machine_core.specs.ps_meaning.Values as value
-use Rattle.machine_core.specs.ps_meaning.Texts.{Attempt, Yields, Fails}
-use Rattle.machine_core.specs.ps_meaning.Objects.{Heap, Object, new_number}
+use Rattle.machine_core.specs.ps_heap.Values.{Value, Text, Num, Flag, word_of, number_of}
+use Rattle.machine_core.specs.ps_heap.Values as value
+use Rattle.machine_core.specs.ps_heap.Texts.{Attempt, Yields, Fails}
+use Rattle.machine_core.specs.ps_heap.Objects.{Heap, Object, new_number}
 use Rattle.machine_core.specs.ps_meaning.Meaning.{Store, and_text, and_object, on_heap}
-use Rattle.machine_core.specs.ps_meaning.Weights.{text_weight, own_weight}
+use Rattle.machine_core.specs.ps_heap.Weights.{text_weight, own_weight}
 use Rattle.machine_core.specs.ps_stepping.Config.{Config, frame_words, frame_in}
 use Rattle.machine_core.specs.ps_stepping.Steps.{Step, Goes, Stuck, on, attempted, push_num, push_ref}
 use Rattle.machine_core.specs.ps_stepping.Objects.{make_text, make, changed, when_number, when_reference}
@@ -39,8 +39,7 @@ use Rattle.machine_core.specs.Stepped.{Does, Takes}
 use Rattle.machine_core.specs.inside.Taking.{TakesRef}
 use Rattle.machine_core.proofs.Carrying.{held-more, read-holds, short-full, does-behind, size-behind}
 use Rattle.machine_core.proofs.Popping.{refs_taken}
-use Rattle.machine_operands.specs.Giving.{failed_of, failed_in, broken_of, broken_in, IsNaming, structures, vectors, EndsSoundly}
-use Rattle.machine_operands.specs.Giving.{GivesText, GivesObject, GivesStructure, GivesNumber, GivesReference, GivesBound, GivesFlag, Changes}
+use Rattle.machine_operands.specs.Giving.{failed_of, failed_in, broken_of, broken_in, IsNaming, structures, vectors, EndsSoundly, GivesText, GivesObject, GivesStructure, GivesNumber, GivesReference, GivesBound, GivesFlag, Changes}
 use Rattle.machine_operands.proofs.Breaking.{does-same, damaged-goes, failed-making, failed-soundly, broken-soundly, trap-does, off-does, failed-code, broken-code}
 
 -- Where the stack of references is full, nothing is pushed.

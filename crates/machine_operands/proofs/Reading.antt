@@ -11,8 +11,8 @@ use Rattle.machine_core.specs.swizzle.Heap.{IsHeld, Stands as AllStand}
 use Rattle.machine_core.specs.swizzle.Touch.{Keeps}
 use Rattle.machine_core.specs.swizzle.declared.fault.SwizzleFault.{SwizzleFault}
 use Rattle.machine_core.specs.proc_values.Loaded.{constant_numbered}
-use Rattle.machine_core.specs.ps_meaning.Values.{Value}
-use Rattle.machine_core.specs.ps_meaning.Objects.{Heap}
+use Rattle.machine_core.specs.ps_heap.Values.{Value}
+use Rattle.machine_core.specs.ps_heap.Objects.{Heap}
 use Rattle.machine_core.specs.ps_stepping.Config.{Config, constants_in, constant_at}
 use Rattle.machine_core.specs.ps_stepping.Steps.{Step, Stuck, text_in, with_text}
 use Rattle.machine_core.specs.joint_ops.World.{IsWorld, DenotesIn, IsUnitIn, Stands}

@@ -5,7 +5,7 @@ use Rattle.machine_core.specs.ps_outside.Outside.{Outside}
 use Rattle.machine_core.specs.obj_layout.Stored.{Space}
 use Rattle.machine_core.specs.obj_layout.declared.reference.Reference.{Reference}
 use Rattle.machine_core.specs.swizzle.Touch.{Keeps}
-use Rattle.machine_core.specs.ps_meaning.Values.{Value, Text}
+use Rattle.machine_core.specs.ps_heap.Values.{Value, Text}
 use Rattle.machine_core.specs.ps_stepping.Config.{Config, constants_in, constant_at}
 use Rattle.machine_core.specs.ps_stepping.Steps.{Step, with_text}
 use Rattle.machine_core.specs.joint_ops.World.{DenotesIn, Carries}

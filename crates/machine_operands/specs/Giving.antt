@@ -16,9 +16,9 @@ use Rattle.machine_core.specs.heap_texts.declared.fault.OpFault.{OpFault}
 use Rattle.machine_core.specs.heap_texts.declared.fault.OpFault.TheVariants as op
 use Rattle.machine_core.specs.proc_values.Reading.{IsDamaged}
 use Rattle.ps_base.specs.declared.line.Line.{Line}
-use Rattle.machine_core.specs.ps_meaning.Values.{Value, Pointer, Vector, word_of, number_of}
-use Rattle.machine_core.specs.ps_meaning.Texts.{Attempt, Yields}
-use Rattle.machine_core.specs.ps_meaning.Objects.{Heap, Object}
+use Rattle.machine_core.specs.ps_heap.Values.{Value, Pointer, Vector, word_of, number_of}
+use Rattle.machine_core.specs.ps_heap.Texts.{Attempt, Yields}
+use Rattle.machine_core.specs.ps_heap.Objects.{Heap, Object}
 use Rattle.machine_core.specs.ps_stepping.Config.{Config}
 use Rattle.machine_core.specs.ps_stepping.Steps.{Step, Stuck, attempted, push_num, push_ref}
 use Rattle.machine_core.specs.ps_stepping.Objects.{make, make_text, changed, when_number, when_reference}

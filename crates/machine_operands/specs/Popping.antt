@@ -6,7 +6,7 @@ use Rattle.machine_core.specs.obj_layout.declared.reference.Reference.{Reference
 use Rattle.machine_core.specs.obj_layout.declared.kind.Kind.{Kind}
 use Rattle.machine_core.specs.swizzle.Heap as area
 use Rattle.machine_core.specs.swizzle.Heap.{IsHeld, header_at}
-use Rattle.machine_core.specs.ps_meaning.Values.{Value, Text, Vector}
+use Rattle.machine_core.specs.ps_heap.Values.{Value, Text, Vector}
 use Rattle.machine_core.specs.ps_stepping.Config.{Config}
 use Rattle.machine_core.specs.ps_stepping.Steps.{Step, Stuck, pop_ref, pop_text}
 use Rattle.machine_core.specs.ps_stepping.Objects.{pop_object, pop_denoting, pop_vector, type_of}

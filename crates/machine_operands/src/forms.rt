@@ -3,8 +3,8 @@ ghost use Rattle.machine_core.specs.obj_layout.declared.reference.Reference.{Ref
 ghost use Rattle.machine_core.specs.swizzle.Heap.{Heap};
 ghost use Rattle.machine_core.specs.heap_places.Places.{IsNear};
 ghost use Rattle.machine_core.specs.text_forms.Forms.{is_number_form};
-ghost use Rattle.machine_core.specs.ps_meaning.Values.{Num};
-ghost use Rattle.machine_core.specs.ps_meaning.Objects.{kept_as as kept_as_of};
+ghost use Rattle.machine_core.specs.ps_heap.Values.{Num};
+ghost use Rattle.machine_core.specs.ps_heap.Objects.{kept_as as kept_as_of};
 ghost use Rattle.machine_core.specs.joint_ops.World.{IsForIn, IsOfForm};
 
 use machine_core::joint_ops::Value;

@@ -12,7 +12,8 @@ use Rattle.machine_core.specs.swizzle.declared.fault.SwizzleFault.TheVariants.{A
 use Rattle.machine_core.proofs.of_swizzle.KeptLaws.{held_is}
 use Rattle.machine_core.proofs.of_swizzle.ObjectLaws.{split}
 use Rattle.machine_core.proofs.of_swizzle.TextLaws.{length-text}
-use Rattle.machine_core.specs.ps_meaning.Event.{Event, Turn, outputs, output_of, report_of}
+use Rattle.machine_core.specs.ps_heap.Ends.{report_of}
+use Rattle.machine_core.specs.ps_meaning.Event.{Event, Turn, outputs, output_of}
 use Rattle.machine_core.specs.ps_meaning.Meaning.{some_out}
 use Rattle.machine_core.specs.ps_stepping.Config.{Config, code_in}
 use Rattle.machine_core.specs.ps_stepping.Machine.{Step, Goes, Steps}

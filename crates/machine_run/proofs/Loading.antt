@@ -14,7 +14,7 @@ use Rattle.machine_core.specs.swizzle.Heap.{top_of, fresh_heap}
 use Rattle.machine_core.specs.swizzle.Objects.{size_of}
 use Rattle.machine_core.specs.swizzle.declared.fault.SwizzleFault.{SwizzleFault}
 use Rattle.machine_core.specs.swizzle.declared.fault.SwizzleFault.TheVariants.{AreaFull}
-use Rattle.machine_core.specs.ps_meaning.Values.{Nil}
+use Rattle.machine_core.specs.ps_heap.Values.{Nil}
 use Rattle.machine_core.specs.ps_stepping.Config.{frame_words, frame_in}
 use Rattle.machine_core.specs.heap_texts.Texts.{wanted_of}
 use Rattle.machine_core.specs.proc_values.Units.{IsCut, unit_objects}

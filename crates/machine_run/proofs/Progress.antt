@@ -13,22 +13,20 @@ use Rattle.ps_base.specs.declared.operator.Relation.{Relation}
 use Rattle.ps_base.specs.declared.operator.Relation.TheVariants as relation
 use Rattle.ps_base.specs.declared.instr.Instr.{Instr}
 use Rattle.ps_base.specs.declared.instr.Instr.TheVariants.{Int, True, False, Text, Nil, GetM, GetP, SetM, SetP, KeptM, KeptP, KeepM, KeepP, Scope, Leave, Jump, JumpFalse, Again, And, Or, Not, Neg, Add, Sub, Mul, Div, Rem, EqM, NeM, LtM, LeM, GtM, GeM, EqP, NeP, EqT, NeT, LtT, LeT, GtT, GeT, Join, Part, Is, Make, FieldM, FieldP, SetFieldM, SetFieldP, FillM, FillP, ListM, ListP, ElemM, ElemP, SetElemM, SetElemP, Lwb, Upb, Closure, Call, Return, Lib, WriteI, WriteB, WriteT, Abort, ForStart, ForNext, ScanT, ScanI, ScanMore, DupM, DupP, DropM, DropP, JumpTrue}
-use Rattle.machine_core.specs.ps_meaning.Operators.{Answer, Gives, Traps, is_same, neg_of, arith_of, relation_of}
+use Rattle.machine_core.specs.ps_heap.Operators.{Answer, Gives, Traps, is_same, neg_of, arith_of, relation_of}
 use Rattle.machine_core.specs.ps_meaning.Event.{Event, count_of}
-use Rattle.machine_core.specs.ps_meaning.Values.{Value, Num, as_written, as_compiled, word_of, number_of, is_one, flag_text}
-use Rattle.machine_core.specs.ps_meaning.Values as value
-use Rattle.machine_core.specs.ps_meaning.Meaning.{is_width, in_places, some_out, with_turns, on_heap, and_object, and_text, and_closure, on_input, kept_name, with_kept_name}
-use Rattle.machine_core.specs.ps_meaning.Texts.{Attempt, Yields, Fails, join_of, part_of, line_read, behind_line, is_at_end}
-use Rattle.machine_core.specs.ps_meaning.Objects.{Heap, Object, Structure, Elements, Scope as ScopeOf, new_number, is_class, field_of, with_field, vector_of, filled_vector, with_element, low_of, high_of}
-use Rattle.machine_core.specs.ps_meaning.Objects.{element_of as element_at}
-use Rattle.machine_core.specs.ps_meaning.Scopes.{new_scope, scope_at, scope_out}
+use Rattle.machine_core.specs.ps_heap.Values.{Value, Num, as_written, as_compiled, word_of, number_of, is_one, flag_text}
+use Rattle.machine_core.specs.ps_heap.Values as value
+use Rattle.machine_core.specs.ps_heap.Scopes.{kept_name, with_kept_name, new_scope, scope_at, scope_out}
+use Rattle.machine_core.specs.ps_meaning.Meaning.{is_width, in_places, some_out, with_turns, on_heap, and_object, and_text, and_closure, on_input}
+use Rattle.machine_core.specs.ps_heap.Texts.{Attempt, Yields, Fails, join_of, part_of, line_read, behind_line, is_at_end}
+use Rattle.machine_core.specs.ps_heap.Objects.{Heap, Object, Structure, Elements, Scope as ScopeOf, Keyed, new_number, is_class, field_of, with_field, vector_of, filled_vector, with_element, low_of, high_of, element_of as element_at}
 use Rattle.machine_core.specs.ps_meaning.Evaluation.{most_calls, goes_on, kept_as, kept_elements, text_relation, object_relation}
 use Rattle.machine_core.specs.text_forms.declared.forms.Form.{Form}
 use Rattle.machine_core.specs.text_forms.declared.forms.Form.TheVariants as form
 use Rattle.machine_core.specs.text_forms.Forms.{forms_of, form_in, element_of}
 use Rattle.machine_core.specs.ps_stepping.Steps.{text_of, text_in, attempted}
-use Rattle.machine_core.specs.ps_stepping.Objects.{holding, changed, make, make_text, denoting_of, object_of, pop_fields, when_number, when_reference, type_of, of_type, pop_nums, pop_refs, library, read_line, text_length, int_text, compare_texts, compare_objects, pop_vector}
-use Rattle.machine_core.specs.ps_stepping.Objects.{bound as bound_of}
+use Rattle.machine_core.specs.ps_stepping.Objects.{holding, changed, make, make_text, denoting_of, object_of, pop_fields, when_number, when_reference, type_of, of_type, pop_nums, pop_refs, library, read_line, text_length, int_text, compare_texts, compare_objects, pop_vector, bound as bound_of}
 use Rattle.machine_core.specs.ps_stepping.Procedures.{of_scope, enter_scope, leave_scope, kept_num, kept_ref, keep_num, keep_ref, procedure_of, unit_called, takes_refs, in_turn, call}
 use Rattle.machine_core.specs.ps_stepping.Config.{Config, Caller, frame_words, code_in, constants_in, frame_in, constant_at}
 use Rattle.machine_core.specs.ps_stepping.Machine.{Step, Goes, Stops, Stuck, Steps, at_instruction, at_nothing, acts, on, put_num, push_num, push_ref, pop_num_of, pop_ref_of, is_num_slot, is_ref_slot, with_num, with_ref, forward, turn_to, back, answered, test, written, pop_width, push_text, started, counted, come_back, returned}
@@ -304,6 +302,7 @@ lower_of_scope : (b : Bound) (found : Option Object) (next : List ℕ → Option
 lower_of_scope b (Some (ScopeOf of parent names)) next f = f of parent
 lower_of_scope b (Some (Structure class fields)) next f = tt
 lower_of_scope b (Some (Elements ty low elements)) next f = tt
+lower_of_scope b (Some (Keyed table)) next f = tt
 lower_of_scope b None next f = tt
 
 drops_enter : (own k : ℕ) (c : Config) → Ahead own c → Drops own c (enter_scope k c)

@@ -5,7 +5,8 @@ use Rattle.vault_output.specs.obj_layout.Stored.{Space}
 use Rattle.vault_output.specs.obj_layout.declared.vault.VaultFault.TheVariants.{Device, Output, Full, Damaged}
 use Rattle.machine_core.specs.swizzle.declared.fault.SwizzleFault.{SwizzleFault}
 use Rattle.machine_core.specs.swizzle.declared.fault.SwizzleFault.TheVariants.{AreaFull, Vault}
-use Rattle.machine_core.specs.ps_meaning.Event.{Event, outputs, report_of}
+use Rattle.machine_core.specs.ps_heap.Ends.{report_of}
+use Rattle.machine_core.specs.ps_meaning.Event.{Event, outputs}
 use Rattle.machine_core.specs.ps_stepping.Config.{Config}
 use Rattle.machine_core.specs.ps_stepping.Machine.{Step, Stops, Steps}
 use Rattle.machine_core.specs.ps_stepping.Path.{Reaches}

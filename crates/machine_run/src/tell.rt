@@ -2,7 +2,7 @@
 ghost use Rattle.std.specs.Prelude.{◌≡◌, ◌++◌, OnOk, IfErr};
 ghost use Rattle.vault_output.specs.obj_layout.Storing.{SameNumbers};
 ghost use Rattle.vault_output.specs.obj_layout.declared.vault.VaultFault.TheVariants as vault_fault;
-ghost use Rattle.machine_core.specs.ps_meaning.Event.{report_of, Trapped, OutOfTurns, trap_number as number_of};
+ghost use Rattle.machine_core.specs.ps_heap.Ends.{report_of, Trapped, OutOfTurns, trap_number as number_of};
 ghost use Rattle.machine_core.specs.ps_meaning.Meaning.{in_places};
 ghost use Rattle.vault_output.specs.Sending.{Sends};
 ghost use Rattle.machine_core.specs.Stepped.{end_of, text_of, IsItem};

@@ -6,7 +6,7 @@ use Rattle.machine_core.specs.ps_outside.Outside.{Outside}
 use Rattle.machine_core.specs.obj_layout.Stored.{Space}
 use Rattle.machine_core.specs.obj_layout.declared.kind.Kind.TheVariants as kind
 use Rattle.machine_core.specs.swizzle.Reading.{LeavesOutside}
-use Rattle.machine_core.specs.ps_meaning.Values.{Text}
+use Rattle.machine_core.specs.ps_heap.Values.{Text}
 use Rattle.machine_core.specs.ps_stepping.Config.{Config, constants_in, constant_at}
 use Rattle.machine_core.specs.ps_stepping.Steps.{Step, push_ref, text_in}
 use Rattle.machine_core.specs.ps_stepping.Machine.{push_text}

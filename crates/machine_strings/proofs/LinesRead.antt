@@ -5,9 +5,9 @@ use Rattle.ps_base.specs.declared.trap.Trap.TheVariants.{NoInput}
 use Rattle.machine_core.specs.ps_outside.Outside.{Outside}
 use Rattle.machine_core.specs.obj_layout.Stored.{Space}
 use Rattle.machine_core.specs.obj_layout.declared.reference.Reference.{Reference}
-use Rattle.machine_core.specs.ps_meaning.Event.{Trapped}
+use Rattle.machine_core.specs.ps_heap.Ends.{Trapped}
 use Rattle.machine_core.specs.ps_meaning.Meaning.{on_input}
-use Rattle.machine_core.specs.ps_meaning.Texts.{Attempt, Fails, line_of, behind_line, line_read, string_of, is_at_end}
+use Rattle.machine_core.specs.ps_heap.Texts.{Attempt, Fails, line_of, behind_line, line_read, string_of, is_at_end}
 use Rattle.machine_core.specs.ps_stepping.Config.{Config}
 use Rattle.machine_core.specs.ps_stepping.Steps.{Stops, attempted}
 use Rattle.machine_core.specs.ps_stepping.Objects.{holding, make_text, read_line}

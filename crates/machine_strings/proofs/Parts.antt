@@ -9,8 +9,8 @@ use Rattle.machine_core.specs.swizzle.Heap as area
 use Rattle.machine_core.specs.swizzle.Heap.{IsHeld}
 use Rattle.machine_core.specs.swizzle.Touch.{Keeps}
 use Rattle.machine_core.specs.heap_texts.declared.fault.OpFault.{OpFault}
-use Rattle.machine_core.specs.ps_meaning.Values.{Text}
-use Rattle.machine_core.specs.ps_meaning.Texts.{Attempt}
+use Rattle.machine_core.specs.ps_heap.Values.{Text}
+use Rattle.machine_core.specs.ps_heap.Texts.{Attempt}
 use Rattle.machine_core.specs.ps_stepping.Config.{Config}
 use Rattle.machine_core.specs.ps_stepping.Steps.{Step, attempted, pop_text}
 use Rattle.machine_core.specs.ps_stepping.Objects.{make_text}

@@ -3,7 +3,7 @@
 ghost use Rattle.std.specs.Prelude.{◌≡◌, ◌≢◌, ℕ, List};
 ghost use Rattle.machine_core.specs.obj_layout.Storing.{SameNumbers};
 ghost use Rattle.machine_core.specs.swizzle.Reading.{LeavesOutside};
-ghost use Rattle.machine_core.specs.ps_meaning.Texts.{order_of};
+ghost use Rattle.machine_core.specs.ps_heap.Texts.{order_of};
 ghost use Rattle.machine_core.specs.ps_meaning.Evaluation.{text_relation};
 ghost use Rattle.machine_core.specs.ps_stepping.Config.{constants_in, constant_at};
 ghost use Rattle.machine_core.specs.ps_stepping.Machine.{push_text as push_text_of, write_text as write_text_of};

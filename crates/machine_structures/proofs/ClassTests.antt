@@ -10,9 +10,9 @@ use Rattle.machine_core.specs.swizzle.Reading.{LeavesOutside}
 use Rattle.machine_core.specs.swizzle.Touch.{Keeps}
 use Rattle.machine_core.specs.heap_ops.Outcomes.{UnlessFault}
 use Rattle.machine_core.specs.heap_texts.declared.fault.OpFault.{OpFault}
-use Rattle.machine_core.specs.ps_meaning.Objects.{Heap, is_class}
-use Rattle.machine_core.specs.ps_meaning.Texts.{Yields}
-use Rattle.machine_core.specs.ps_meaning.Values.{Value, number_of}
+use Rattle.machine_core.specs.ps_heap.Objects.{Heap, is_class}
+use Rattle.machine_core.specs.ps_heap.Texts.{Yields}
+use Rattle.machine_core.specs.ps_heap.Values.{Value, number_of}
 use Rattle.machine_core.specs.ps_stepping.Config.{Config}
 use Rattle.machine_core.specs.ps_stepping.Steps.{Step, push_num}
 use Rattle.machine_core.specs.ps_stepping.Objects.{is_of_class, pop_object}

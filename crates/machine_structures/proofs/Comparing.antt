@@ -6,8 +6,8 @@ use Rattle.machine_core.specs.obj_layout.Stored.{Space}
 use Rattle.machine_core.specs.obj_layout.declared.reference.Reference.{Reference}
 use Rattle.machine_core.specs.swizzle.Heap as area
 use Rattle.machine_core.specs.ps_meaning.Evaluation.{object_relation}
-use Rattle.machine_core.specs.ps_meaning.Objects.{Heap, is_one_object}
-use Rattle.machine_core.specs.ps_meaning.Values.{Value, Nil, number_of}
+use Rattle.machine_core.specs.ps_heap.Objects.{Heap, is_one_object}
+use Rattle.machine_core.specs.ps_heap.Values.{Value, Nil, number_of}
 use Rattle.machine_core.specs.ps_stepping.Steps.{push_num, push_ref}
 use Rattle.machine_core.specs.ps_stepping.Objects.{compare_objects, pop_denoting}
 use Rattle.machine_core.specs.joint_ops.World.{DenotesIn, IsWorld}

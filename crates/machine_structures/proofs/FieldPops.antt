@@ -7,8 +7,8 @@ use Rattle.machine_core.specs.text_forms.declared.forms.Form.TheVariants as form
 use Rattle.machine_core.specs.text_forms.declared.forms.Rows.{Rows}
 use Rattle.machine_core.specs.text_forms.Forms.{rows_of, one_more}
 use Rattle.machine_core.proofs.of_text_forms.Places.{rows_of-last}
-use Rattle.machine_core.specs.ps_meaning.Objects.{kept_as}
-use Rattle.machine_core.specs.ps_meaning.Values.{Value, Num}
+use Rattle.machine_core.specs.ps_heap.Objects.{kept_as}
+use Rattle.machine_core.specs.ps_heap.Values.{Value, Num}
 use Rattle.machine_core.specs.ps_stepping.Config.{Config}
 use Rattle.machine_core.specs.ps_stepping.Steps.{Step, Stuck, pop_num_of, pop_ref_of}
 use Rattle.machine_core.specs.ps_stepping.Objects.{pop_fields}

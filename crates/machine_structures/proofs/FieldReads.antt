@@ -18,10 +18,10 @@ use Rattle.machine_core.specs.heap_ops.Outcomes.{UnlessFault}
 use Rattle.machine_core.specs.heap_places.declared.value.Value as code
 use Rattle.machine_core.specs.heap_texts.declared.fault.OpFault.{OpFault}
 use Rattle.machine_core.specs.heap_texts.declared.fault.OpFault.TheVariants as op
-use Rattle.machine_core.specs.ps_meaning.Event.{Trapped}
-use Rattle.machine_core.specs.ps_meaning.Objects.{Heap, field_of}
-use Rattle.machine_core.specs.ps_meaning.Texts.{Attempt, Yields}
-use Rattle.machine_core.specs.ps_meaning.Values.{Value, Num, Flag, Text, Nil, Pointer, Vector, Procedure, Nothing}
+use Rattle.machine_core.specs.ps_heap.Ends.{Trapped}
+use Rattle.machine_core.specs.ps_heap.Objects.{Heap, field_of}
+use Rattle.machine_core.specs.ps_heap.Texts.{Attempt, Yields}
+use Rattle.machine_core.specs.ps_heap.Values.{Value, Num, Flag, Text, Nil, Pointer, Vector, Procedure, Nothing}
 use Rattle.machine_core.specs.ps_stepping.Config.{Config, constants_in, constant_at}
 use Rattle.machine_core.specs.ps_stepping.Steps.{Step, Stops, attempted, pop_ref, text_in}
 use Rattle.machine_core.specs.ps_stepping.Objects.{object_of, pop_object}

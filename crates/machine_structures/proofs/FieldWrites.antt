@@ -21,11 +21,11 @@ use Rattle.machine_core.specs.heap_places.declared.value.Value.TheVariants as he
 use Rattle.machine_core.specs.heap_texts.declared.fault.OpFault.{OpFault}
 use Rattle.machine_core.specs.heap_texts.declared.fault.OpFault.TheVariants as op
 use Rattle.machine_core.specs.proc_values.Reading.{IsDamaged}
-use Rattle.machine_core.specs.ps_meaning.Event.{Trapped}
+use Rattle.machine_core.specs.ps_heap.Ends.{Trapped}
 use Rattle.machine_core.specs.ps_meaning.Meaning.{on_heap}
-use Rattle.machine_core.specs.ps_meaning.Objects.{Heap, with_field, kept_as}
-use Rattle.machine_core.specs.ps_meaning.Texts.{Attempt, Yields}
-use Rattle.machine_core.specs.ps_meaning.Values.{Value, Num, Flag, Text, Nil, Pointer, Vector, Procedure, Nothing}
+use Rattle.machine_core.specs.ps_heap.Objects.{Heap, with_field, kept_as}
+use Rattle.machine_core.specs.ps_heap.Texts.{Attempt, Yields}
+use Rattle.machine_core.specs.ps_heap.Values.{Value, Num, Flag, Text, Nil, Pointer, Vector, Procedure, Nothing}
 use Rattle.machine_core.specs.ps_stepping.Config.{Config, constants_in, constant_at}
 use Rattle.machine_core.specs.ps_stepping.Steps.{Step, Stops, Stuck, attempted, pop_num, pop_ref, text_in}
 use Rattle.machine_core.specs.ps_stepping.Objects.{object_of, pop_object, changed, set_field_num, set_field_ref}

@@ -14,7 +14,7 @@ use Rattle.machine_core.specs.heap_places.Filling.{AreNear}
 use Rattle.machine_core.specs.heap_places.Places.{IsNear}
 use Rattle.machine_core.specs.heap_places.declared.value.Value as code
 use Rattle.machine_core.specs.heap_places.declared.value.Value.TheVariants as held
-use Rattle.machine_core.specs.ps_meaning.Values.{Value, Num, Flag, is_one}
+use Rattle.machine_core.specs.ps_heap.Values.{Value, Num, Flag, is_one}
 use Rattle.machine_core.specs.joint_ops.World.{DenotesIn, IsForIn, IsOfForm}
 use Rattle.machine_core.specs.joint_ops.Operands.{AreForIn}
 use Rattle.machine_core.specs.objects.Makes.{AreRowsFor}

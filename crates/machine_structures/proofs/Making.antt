@@ -23,9 +23,9 @@ use Rattle.machine_core.specs.heap_ops.Outcomes.{UnlessFault}
 use Rattle.machine_core.specs.heap_places.declared.value.Value as code
 use Rattle.machine_core.specs.heap_texts.declared.fault.OpFault.{OpFault}
 use Rattle.machine_core.specs.ps_meaning.Meaning.{and_object}
-use Rattle.machine_core.specs.ps_meaning.Objects.{Heap, Structure, new_number}
-use Rattle.machine_core.specs.ps_meaning.Texts.{Yields}
-use Rattle.machine_core.specs.ps_meaning.Values.{Value, Text, Pointer}
+use Rattle.machine_core.specs.ps_heap.Objects.{Heap, Structure, new_number}
+use Rattle.machine_core.specs.ps_heap.Texts.{Yields}
+use Rattle.machine_core.specs.ps_heap.Values.{Value, Text, Pointer}
 use Rattle.machine_core.specs.ps_stepping.Config.{Config, frame_words, constants_in, constant_at}
 use Rattle.machine_core.specs.ps_stepping.Steps.{Step, Stuck, text_in}
 use Rattle.machine_core.specs.ps_stepping.Objects.{make, make_structure}

@@ -14,7 +14,7 @@ use Rattle.machine_core.specs.frame_stack.Frames.{Frames}
 use Rattle.machine_core.specs.text_forms.declared.forms.Form.{Form}
 use Rattle.machine_core.specs.text_forms.Forms.{rows_of}
 use Rattle.machine_core.specs.heap_places.declared.value.Value as code
-use Rattle.machine_core.specs.ps_meaning.Values.{Value}
+use Rattle.machine_core.specs.ps_heap.Values.{Value}
 use Rattle.machine_core.specs.ps_stepping.Config.{Config}
 use Rattle.machine_core.specs.ps_stepping.Steps.{Step, Stuck}
 use Rattle.machine_core.specs.ps_stepping.Objects.{pop_fields}

@@ -15,8 +15,8 @@ use Rattle.machine_core.specs.text_forms.declared.forms.Form.{Form}
 use Rattle.machine_core.specs.text_forms.declared.forms.Form.TheVariants as form
 use Rattle.machine_core.specs.text_forms.declared.forms.Located.{Located}
 use Rattle.machine_core.specs.text_forms.Forms.{forms_of, located_in}
-use Rattle.machine_core.specs.ps_meaning.Event.{Trapped}
-use Rattle.machine_core.specs.ps_meaning.Values.{Value}
+use Rattle.machine_core.specs.ps_heap.Ends.{Trapped}
+use Rattle.machine_core.specs.ps_heap.Values.{Value}
 use Rattle.machine_core.specs.ps_stepping.Steps.{Step, Stops}
 use Rattle.machine_core.specs.joint_ops.World.{DenotesIn, IsUnitIn}
 use Rattle.machine_core.specs.joint_ops.Operands.{IsOfSort}

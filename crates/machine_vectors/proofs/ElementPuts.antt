@@ -22,13 +22,12 @@ use Rattle.machine_core.specs.heap_ops.Outcomes.{UnlessFault}
 use Rattle.machine_core.specs.heap_ops.Vectors.{fitted}
 use Rattle.machine_core.specs.heap_texts.declared.fault.OpFault.{OpFault}
 use Rattle.machine_core.specs.heap_texts.declared.fault.OpFault.TheVariants as op
-use Rattle.machine_core.specs.ps_meaning.Operators.{is_int}
-use Rattle.machine_core.specs.ps_meaning.Values.{Value, Num, Vector, is_one}
-use Rattle.machine_core.specs.ps_meaning.Event.{Trapped}
-use Rattle.machine_core.specs.ps_meaning.Texts.{Attempt, Yields, Fails}
-use Rattle.machine_core.specs.ps_meaning.Objects.{Heap, Object, kept_as, with_element, object_at, low_in, elements_in, place_of, found_at, put_at}
-use Rattle.machine_core.specs.ps_meaning.Objects.{element_of as element_at}
-use Rattle.machine_core.specs.ps_meaning.Objects as meaning
+use Rattle.machine_core.specs.ps_heap.Operators.{is_int}
+use Rattle.machine_core.specs.ps_heap.Values.{Value, Num, Vector, is_one}
+use Rattle.machine_core.specs.ps_heap.Ends.{Trapped}
+use Rattle.machine_core.specs.ps_heap.Texts.{Attempt, Yields, Fails}
+use Rattle.machine_core.specs.ps_heap.Objects.{Heap, Object, kept_as, with_element, object_at, low_in, elements_in, place_of, found_at, put_at, element_of as element_at}
+use Rattle.machine_core.specs.ps_heap.Objects as meaning
 use Rattle.machine_core.specs.ps_stepping.Config.{Config}
 use Rattle.machine_core.specs.ps_stepping.Steps.{Step, Stops, Stuck, attempted, pop_num}
 use Rattle.machine_core.specs.ps_stepping.Objects.{type_of, pop_vector, when_number, when_reference, changed, set_element_ref}

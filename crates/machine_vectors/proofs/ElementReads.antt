@@ -16,10 +16,9 @@ use Rattle.machine_core.specs.heap_places.declared.value.Value as code
 use Rattle.machine_core.specs.heap_places.declared.value.Value.TheVariants as held
 use Rattle.machine_core.specs.heap_ops.Outcomes.{UnlessFault}
 use Rattle.machine_core.specs.heap_texts.declared.fault.OpFault.{OpFault}
-use Rattle.machine_core.specs.ps_meaning.Values.{Value, Vector, word_of}
-use Rattle.machine_core.specs.ps_meaning.Texts.{Attempt, Yields}
-use Rattle.machine_core.specs.ps_meaning.Objects.{Heap, Object, Structure, Elements, Scope, object_at, type_in}
-use Rattle.machine_core.specs.ps_meaning.Objects.{element_of as element_at}
+use Rattle.machine_core.specs.ps_heap.Values.{Value, Vector, word_of}
+use Rattle.machine_core.specs.ps_heap.Texts.{Attempt, Yields}
+use Rattle.machine_core.specs.ps_heap.Objects.{Heap, Object, Structure, Elements, Scope, Keyed, object_at, type_in, element_of as element_at}
 use Rattle.machine_core.specs.ps_stepping.Config.{Config}
 use Rattle.machine_core.specs.ps_stepping.Steps.{Step, Stuck, attempted, push_num}
 use Rattle.machine_core.specs.ps_stepping.Objects.{type_of, type_of_object, pop_vector, when_number, when_reference}
@@ -46,6 +45,7 @@ typed-form heap id ty is = of (object_at heap id) is
     of (Some (Elements text low elements)) is = ap element_of (let same : text ≡ ty = cc in same)
     of (Some (Structure class fields)) is = absurd (cc)
     of (Some (Scope text parent values)) is = absurd (cc)
+    of (Some (Keyed table)) is = absurd (cc)
     of None is = absurd (cc)
 
 -- Whether a form is of the row that an instruction wants.

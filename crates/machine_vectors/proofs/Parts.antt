@@ -8,7 +8,7 @@ use Rattle.machine_core.specs.swizzle.Heap as area
 use Rattle.machine_core.specs.swizzle.Touch.{Keeps}
 use Rattle.machine_core.specs.heap_ops.Outcomes.{UnlessFault}
 use Rattle.machine_core.specs.heap_texts.declared.fault.OpFault.{OpFault}
-use Rattle.machine_core.specs.ps_meaning.Values.{Value}
+use Rattle.machine_core.specs.ps_heap.Values.{Value}
 use Rattle.machine_core.specs.ps_stepping.Config.{Config}
 use Rattle.machine_core.specs.ps_stepping.Steps.{Step, Stuck}
 use Rattle.machine_core.specs.joint_ops.World.{DenotesIn}

@@ -8,7 +8,7 @@ use Rattle.machine_core.specs.obj_layout.declared.reference.Reference.{Reference
 use Rattle.machine_core.specs.swizzle.Reading.{LeavesOutside}
 use Rattle.machine_core.specs.text_forms.declared.forms.Form.{Form}
 use Rattle.machine_core.specs.text_forms.Forms.{element_of}
-use Rattle.machine_core.specs.ps_meaning.Values.{Text}
+use Rattle.machine_core.specs.ps_heap.Values.{Text}
 use Rattle.machine_core.specs.ps_stepping.Config.{Config}
 use Rattle.machine_core.specs.ps_stepping.Steps.{Step, Stuck, text_in, with_text}
 use Rattle.machine_core.specs.joint_ops.World.{DenotesIn}

@@ -13,8 +13,8 @@ use Rattle.machine_core.specs.text_forms.Forms.{element_of, is_number_form}
 use Rattle.machine_core.specs.heap_places.declared.value.Value as code
 use Rattle.machine_core.specs.heap_places.declared.value.Value.TheVariants as held
 use Rattle.machine_core.specs.heap_texts.declared.fault.OpFault.{OpFault}
-use Rattle.machine_core.specs.ps_meaning.Values.{Value, Num, Text, Vector}
-use Rattle.machine_core.specs.ps_meaning.Objects.{Heap, kept_as, filled_vector}
+use Rattle.machine_core.specs.ps_heap.Values.{Value, Num, Text, Vector}
+use Rattle.machine_core.specs.ps_heap.Objects.{Heap, kept_as, filled_vector}
 use Rattle.machine_core.specs.ps_stepping.Config.{Config}
 use Rattle.machine_core.specs.ps_stepping.Steps.{Step, attempted, pop_num, pop_ref}
 use Rattle.machine_core.specs.ps_stepping.Objects.{make}

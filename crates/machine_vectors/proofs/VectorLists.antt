@@ -14,8 +14,8 @@ use Rattle.machine_core.specs.text_forms.declared.forms.Form.TheVariants as form
 use Rattle.machine_core.specs.text_forms.Forms.{element_of, is_number_form}
 use Rattle.machine_core.specs.heap_places.declared.value.Value as code
 use Rattle.machine_core.specs.heap_texts.declared.fault.OpFault.{OpFault}
-use Rattle.machine_core.specs.ps_meaning.Values.{Value, Text, Vector}
-use Rattle.machine_core.specs.ps_meaning.Objects.{Heap, vector_of}
+use Rattle.machine_core.specs.ps_heap.Values.{Value, Text, Vector}
+use Rattle.machine_core.specs.ps_heap.Objects.{Heap, vector_of}
 use Rattle.machine_core.specs.ps_stepping.Config.{Config}
 use Rattle.machine_core.specs.ps_stepping.Steps.{Step, attempted, pop_num}
 use Rattle.machine_core.specs.ps_stepping.Objects.{make, pop_nums, pop_refs}

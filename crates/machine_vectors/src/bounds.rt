@@ -1,7 +1,7 @@
 //! Instructions that push a bound of a vector.
 ghost use Rattle.machine_core.specs.obj_layout.Storing.{SameNumbers};
 ghost use Rattle.machine_core.specs.swizzle.Reading.{LeavesOutside};
-ghost use Rattle.machine_core.specs.ps_meaning.Objects.{low_of, high_of};
+ghost use Rattle.machine_core.specs.ps_heap.Objects.{low_of, high_of};
 ghost use Rattle.machine_core.specs.ps_stepping.Objects.{bound as bound_of};
 ghost use Rattle.machine_core.specs.Failing.{FailsAsReading};
 ghost use Rattle.machine_core.specs.Holding.{IsSound};

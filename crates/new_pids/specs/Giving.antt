@@ -10,8 +10,8 @@ use Rattle.joint_ops.specs.swizzle.Heap as area
 use Rattle.joint_ops.specs.swizzle.Heap.{IsHeap, IsHeld, header_at, object_at, local_of}
 use Rattle.joint_ops.specs.swizzle.Joint.{name_at}
 use Rattle.joint_ops.specs.swizzle.Numbered.{GivesPid}
-use Rattle.joint_ops.specs.ps_meaning.Values.{Value}
-use Rattle.joint_ops.specs.ps_meaning.Objects.{Heap}
+use Rattle.joint_ops.specs.ps_heap.Values.{Value}
+use Rattle.joint_ops.specs.ps_heap.Objects.{Heap}
 use Rattle.renames.specs.Renames.{Renames}
 use Rattle.joint_ops.specs.World.{IsStored, seen, IsWorld, DenotesIn, DenotesScopeIn, IsUnitIn}
 

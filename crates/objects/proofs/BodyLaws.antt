@@ -13,8 +13,8 @@ use Rattle.joint_ops.specs.swizzle.Touch.{Keeps, Denotes}
 use Rattle.joint_ops.specs.swizzle.Joint.{shown_at}
 use Rattle.joint_ops.specs.heap_places.Shapes.{slot_of}
 use Rattle.joint_ops.specs.proc_values.Reading.{IsPlaceOf}
-use Rattle.joint_ops.specs.ps_meaning.Values.{Procedure, as_compiled}
-use Rattle.joint_ops.specs.ps_meaning.Objects.{Heap}
+use Rattle.joint_ops.specs.ps_heap.Values.{Procedure, as_compiled}
+use Rattle.joint_ops.specs.ps_heap.Objects.{Heap}
 use Rattle.joint_ops.specs.World.{IsWorld, DenotesIn}
 use Rattle.joint_ops.proofs.SeenLaws.{breaks-earlier, nothing-done}
 use Rattle.joint_ops.proofs.RewriteLaws.{stands-then}

@@ -13,9 +13,9 @@ use Rattle.joint_ops.specs.swizzle.Touch.{Keeps}
 use Rattle.joint_ops.specs.text_forms.Forms.{forms_of}
 use Rattle.joint_ops.specs.heap_texts.declared.fault.OpFault.{OpFault}
 use Rattle.joint_ops.specs.heap_places.declared.value.Value as given
-use Rattle.joint_ops.specs.ps_meaning.Texts.{Yields}
-use Rattle.joint_ops.specs.ps_meaning.Objects.{Heap, Structure, is_class}
-use Rattle.joint_ops.specs.ps_meaning.Values.{Value, Text, Pointer}
+use Rattle.joint_ops.specs.ps_heap.Texts.{Yields}
+use Rattle.joint_ops.specs.ps_heap.Objects.{Heap, Structure, is_class}
+use Rattle.joint_ops.specs.ps_heap.Values.{Value, Text, Pointer}
 use Rattle.joint_ops.specs.World.{IsWorld, DenotesIn, IsUnitIn, Stands, Answers}
 use Rattle.joint_ops.specs.Operands.{AreForIn}
 use Rattle.joint_ops.specs.Made.{Makes}

@@ -26,11 +26,11 @@ use Rattle.joint_ops.proofs.of_heap_places.PlaceLaws.{nums_below, refs_below, sl
 use Rattle.joint_ops.specs.heap_ops.Outcomes.{UnlessFault}
 use Rattle.joint_ops.specs.heap_ops.Vectors.{index_of, fitted, GetsElement, SetsElement}
 use Rattle.joint_ops.proofs.of_heap_ops.VectorLaws.{below-count, element-place, element-row, gets, sets}
-use Rattle.joint_ops.specs.ps_meaning.Values.{number_of, is_one}
-use Rattle.joint_ops.specs.ps_meaning.Objects as meaning
-use Rattle.joint_ops.specs.ps_meaning.Values as meant
-use Rattle.joint_ops.specs.ps_meaning.Operators.{is_int}
-use Rattle.joint_ops.specs.ps_meaning.Objects.{is_vector, place_of}
+use Rattle.joint_ops.specs.ps_heap.Values.{number_of, is_one}
+use Rattle.joint_ops.specs.ps_heap.Objects as meaning
+use Rattle.joint_ops.specs.ps_heap.Values as meant
+use Rattle.joint_ops.specs.ps_heap.Operators.{is_int}
+use Rattle.joint_ops.specs.ps_heap.Objects.{is_vector, place_of}
 use Rattle.objects.specs.declared.known_vectors.KnownVector.{KnownVector}
 use Rattle.joint_ops.specs.World.{IsWorld, DenotesIn, IsForIn, IsOfForm, Answers, Writes}
 use Rattle.joint_ops.specs.Operands.{form_in}

@@ -19,9 +19,9 @@ use Rattle.joint_ops.specs.heap_places.Shapes.{IsText, slot_of}
 use Rattle.joint_ops.specs.heap_places.declared.value.Value as code
 use Rattle.joint_ops.specs.heap_places.declared.value.Value.TheVariants as held
 use Rattle.joint_ops.specs.heap_ops.Vectors.{fitted, SetsElement}
-use Rattle.joint_ops.specs.ps_meaning.Operators.{is_int}
-use Rattle.joint_ops.specs.ps_meaning.Values.{Value, Num, Flag, Vector, Text, Nil, Pointer, Procedure, Nothing, number_of, is_one}
-use Rattle.joint_ops.specs.ps_meaning.Objects.{Heap, Object, kept_as, type_in, with_element}
+use Rattle.joint_ops.specs.ps_heap.Operators.{is_int}
+use Rattle.joint_ops.specs.ps_heap.Values.{Value, Num, Flag, Vector, Text, Nil, Pointer, Procedure, Nothing, number_of, is_one}
+use Rattle.joint_ops.specs.ps_heap.Objects.{Heap, Object, kept_as, type_in, with_element}
 use Rattle.joint_ops.specs.heap_meaning.Paired.{paired}
 use Rattle.joint_ops.specs.World.{IsWorld, DenotesIn, IsForIn, IsOfForm, Writes, seen}
 use Rattle.joint_ops.specs.Operands.{form_in}

@@ -9,9 +9,9 @@ use Rattle.joint_ops.proofs.of_swizzle.ReadingLaws.{reads-none}
 use Rattle.joint_ops.specs.text_forms.declared.forms.Form.{Form}
 use Rattle.joint_ops.specs.heap_places.Shapes.{slot_of}
 use Rattle.joint_ops.specs.heap_places.Places.{FirstText}
-use Rattle.joint_ops.specs.ps_meaning.Objects as meaning
-use Rattle.joint_ops.specs.ps_meaning.Texts.{Yields}
-use Rattle.joint_ops.specs.ps_meaning.Values.{Vector}
+use Rattle.joint_ops.specs.ps_heap.Objects as meaning
+use Rattle.joint_ops.specs.ps_heap.Texts.{Yields}
+use Rattle.joint_ops.specs.ps_heap.Values.{Vector}
 use Rattle.joint_ops.specs.World.{IsWorld, DenotesIn}
 use Rattle.joint_ops.specs.Operands.{form_in}
 use Rattle.joint_ops.proofs.SeenLaws.{vector-at, vector-denoted}

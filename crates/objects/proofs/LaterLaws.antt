@@ -8,8 +8,7 @@ use Rattle.joint_ops.specs.obj_layout.Stored.{Space}
 use Rattle.joint_ops.specs.obj_layout.declared.reference.Reference.{Reference}
 use Rattle.joint_ops.specs.swizzle.declared.fault.SwizzleFault.{SwizzleFault}
 use Rattle.joint_ops.specs.swizzle.Heap as area
-use Rattle.joint_ops.specs.swizzle.Heap.{IsHeap, IsHeld}
-use Rattle.joint_ops.specs.swizzle.Heap.{Stands as AllStand}
+use Rattle.joint_ops.specs.swizzle.Heap.{IsHeap, IsHeld, Stands as AllStand}
 use Rattle.joint_ops.proofs.of_heap_ops.ClassLaws.{stands-kept}
 use Rattle.joint_ops.proofs.of_heap_places.PlaceLaws.{stands_then}
 use Rattle.joint_ops.specs.swizzle.Text.{text_at}
@@ -23,10 +22,10 @@ use Rattle.joint_ops.specs.heap_texts.declared.fault.OpFault.{OpFault}
 use Rattle.joint_ops.specs.heap_texts.declared.fault.OpFault.TheVariants as op
 use Rattle.joint_ops.specs.heap_ops.Outcomes.{UnlessFault}
 use Rattle.joint_ops.specs.proc_values.Loaded.{constant_numbered}
-use Rattle.joint_ops.specs.ps_meaning.Texts.{Attempt}
+use Rattle.joint_ops.specs.ps_heap.Texts.{Attempt}
 use Rattle.joint_ops.specs.heap_places.declared.value.Value as held
-use Rattle.joint_ops.specs.ps_meaning.Objects.{Heap, field_of, with_field, kept_as}
-use Rattle.joint_ops.specs.ps_meaning.Values.{Value, Text}
+use Rattle.joint_ops.specs.ps_heap.Objects.{Heap, field_of, with_field, kept_as}
+use Rattle.joint_ops.specs.ps_heap.Values.{Value, Text}
 use Rattle.joint_ops.specs.World.{IsWorld, DenotesIn, IsForIn, IsOfForm, IsUnitIn, Stands, Answers, Writes, BreaksOff, BreaksAsReading}
 use Rattle.joint_ops.proofs.SeenLaws.{breaks-earlier, text-denoted}
 use Rattle.joint_ops.proofs.RewriteLaws.{stands-then, for-carried}

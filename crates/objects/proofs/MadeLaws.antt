@@ -14,9 +14,9 @@ use Rattle.joint_ops.specs.heap_texts.declared.fault.OpFault.TheVariants as op
 use Rattle.joint_ops.specs.heap_places.Filling.{AreNear}
 use Rattle.joint_ops.specs.heap_places.declared.value.Value as code
 use Rattle.joint_ops.specs.heap_ops.Outcomes.{UnlessFault}
-use Rattle.joint_ops.specs.ps_meaning.Values.{Value}
-use Rattle.joint_ops.specs.ps_meaning.Texts.{Attempt}
-use Rattle.joint_ops.specs.ps_meaning.Objects.{Heap, Object}
+use Rattle.joint_ops.specs.ps_heap.Values.{Value}
+use Rattle.joint_ops.specs.ps_heap.Texts.{Attempt}
+use Rattle.joint_ops.specs.ps_heap.Objects.{Heap, Object}
 use Rattle.joint_ops.specs.World.{Carries, Stands, BreaksAsReading}
 use Rattle.joint_ops.specs.Operands.{AreForIn}
 use Rattle.joint_ops.specs.Made.{Makes, BreaksAsMaking}

@@ -29,9 +29,9 @@ use Rattle.joint_ops.proofs.of_heap_places.PlaceLaws.{fails-damage}
 use Rattle.joint_ops.proofs.of_heap_places.WordLaws.{int-low, int-mid, int-high}
 use Rattle.joint_ops.specs.heap_ops.Vectors.{index_of, GetsElement}
 use Rattle.joint_ops.proofs.of_heap_ops.VectorLaws.{fails-element}
-use Rattle.joint_ops.specs.ps_meaning.Operators.{is_int}
-use Rattle.joint_ops.specs.ps_meaning.Values.{Value, Num, Flag, Vector, word_of, number_of}
-use Rattle.joint_ops.specs.ps_meaning.Objects as meaning
+use Rattle.joint_ops.specs.ps_heap.Operators.{is_int}
+use Rattle.joint_ops.specs.ps_heap.Values.{Value, Num, Flag, Vector, word_of, number_of}
+use Rattle.joint_ops.specs.ps_heap.Objects as meaning
 use Rattle.joint_ops.specs.World.{IsWorld, DenotesIn, IsForIn, IsOfForm, Answers}
 use Rattle.joint_ops.specs.Operands.{form_in}
 use Rattle.joint_ops.proofs.SeenLaws.{vector-at, vector-denoted}

@@ -6,12 +6,11 @@ use Rattle.joint_ops.specs.obj_layout.Stored.{Space}
 use Rattle.joint_ops.specs.obj_layout.declared.reference.Reference.{Reference}
 use Rattle.joint_ops.specs.obj_layout.declared.reference.Reference.TheVariants.{Pid, Local}
 use Rattle.joint_ops.specs.swizzle.Heap as area
-use Rattle.joint_ops.specs.swizzle.Heap.{IsHeap}
-use Rattle.joint_ops.specs.swizzle.Heap.{Stands as AllStand}
+use Rattle.joint_ops.specs.swizzle.Heap.{IsHeap, Stands as AllStand}
 use Rattle.joint_ops.specs.swizzle.Joint.{Shown}
 use Rattle.joint_ops.specs.swizzle.Touch.{Denotes}
 use Rattle.joint_ops.specs.heap_places.Shapes.{slot_of}
-use Rattle.joint_ops.specs.ps_meaning.Values.{Procedure, as_compiled}
+use Rattle.joint_ops.specs.ps_heap.Values.{Procedure, as_compiled}
 use Rattle.joint_ops.specs.proc_values.Loaded.{IsFitUnit}
 use Rattle.joint_ops.specs.World.{DenotesIn, IsUnitIn}
 use Rattle.joint_procedures.specs.Procedures.{HasSlot}

@@ -6,8 +6,7 @@ use Rattle.joint_ops.specs.obj_layout.Stored.{Space}
 use Rattle.joint_ops.specs.obj_layout.declared.kind.Kind.TheVariants as kind
 use Rattle.joint_ops.specs.obj_layout.declared.reference.Reference as reference
 use Rattle.joint_ops.specs.swizzle.Objects as area_objects
-use Rattle.joint_ops.specs.swizzle.Heap.{Heap, IsHeap, IsHeld, header_at, object_at, is_assigned, with_mark}
-use Rattle.joint_ops.specs.swizzle.Heap.{with_object as with_another}
+use Rattle.joint_ops.specs.swizzle.Heap.{Heap, IsHeap, IsHeld, header_at, object_at, is_assigned, with_mark, with_object as with_another}
 use Rattle.joint_ops.specs.swizzle.Joint.{Shown}
 use Rattle.joint_ops.specs.swizzle.Touch.{Keeps}
 use Rattle.joint_ops.proofs.of_swizzle.JointLaws.{object-replaced}
@@ -21,8 +20,8 @@ use Rattle.joint_ops.specs.heap_places.declared.value.Value as code
 use Rattle.joint_ops.specs.heap_places.declared.value.Value.TheVariants as held
 use Rattle.joint_ops.specs.heap_ops.Outcomes.{UnlessFault}
 use Rattle.joint_ops.specs.heap_ops.Structures.{SetsField}
-use Rattle.joint_ops.specs.ps_meaning.Values.{Value, Num, Flag, Text, Nil, Pointer, Vector, Procedure, Nothing, is_one, number_of}
-use Rattle.joint_ops.specs.ps_meaning.Objects.{kept_as}
+use Rattle.joint_ops.specs.ps_heap.Values.{Value, Num, Flag, Text, Nil, Pointer, Vector, Procedure, Nothing, is_one, number_of}
+use Rattle.joint_ops.specs.ps_heap.Objects.{kept_as}
 use Rattle.joint_ops.specs.World.{IsForIn, IsOfForm}
 use Rattle.joint_ops.proofs.PutLaws.{no-bytes}
 use Rattle.objects.specs.Lasting.{Lasts, UnlessBroken}

@@ -18,10 +18,10 @@ use Rattle.joint_ops.specs.heap_places.Shapes.{IsText, slot_of}
 use Rattle.joint_ops.specs.heap_places.Places.{HasPlace, HasRow, Holds, IsNear, assigned_value}
 use Rattle.joint_ops.specs.heap_places.declared.value.Value as held
 use Rattle.joint_ops.proofs.of_heap_places.PlaceLaws.{slot-name}
-use Rattle.joint_ops.specs.ps_meaning.Values.{Value, Pointer, Nothing}
-use Rattle.joint_ops.specs.ps_meaning.Objects as meaning
+use Rattle.joint_ops.specs.ps_heap.Values.{Value, Pointer, Nothing}
+use Rattle.joint_ops.specs.ps_heap.Objects as meaning
 use Rattle.joint_ops.specs.proc_values.Loaded.{constant_numbered}
-use Rattle.joint_ops.specs.ps_meaning.Objects.{Heap, Structure, with_object, kept_as}
+use Rattle.joint_ops.specs.ps_heap.Objects.{Heap, Structure, with_object, kept_as}
 use Rattle.joint_ops.specs.heap_meaning.Paired.{paired}
 use Rattle.joint_ops.proofs.of_heap_meaning.PlaceLaws.{text-one}
 use Rattle.joint_ops.proofs.of_heap_meaning.FieldLaws.{field-is, field-put}

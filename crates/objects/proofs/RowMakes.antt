@@ -21,11 +21,11 @@ use Rattle.joint_ops.specs.heap_places.declared.value.Value as code
 use Rattle.joint_ops.specs.heap_places.declared.value.Value.TheVariants as held
 use Rattle.joint_ops.specs.heap_places.Filling.{AreNear, Fills, refs_of, words_of, filled, filled_words}
 use Rattle.joint_ops.proofs.of_heap_places.FillingLaws.{rows-length}
-use Rattle.joint_ops.specs.ps_meaning.Operators.{is_int}
-use Rattle.joint_ops.specs.ps_meaning.Texts.{Yields}
-use Rattle.joint_ops.specs.ps_meaning.Values.{Value, Num, Flag, Text, Pointer, is_one}
-use Rattle.joint_ops.specs.ps_meaning.Objects.{Heap, Structure}
-use Rattle.joint_ops.specs.ps_meaning.Weights.{own_weight}
+use Rattle.joint_ops.specs.ps_heap.Operators.{is_int}
+use Rattle.joint_ops.specs.ps_heap.Texts.{Yields}
+use Rattle.joint_ops.specs.ps_heap.Values.{Value, Num, Flag, Text, Pointer, is_one}
+use Rattle.joint_ops.specs.ps_heap.Objects.{Heap, Structure}
+use Rattle.joint_ops.specs.ps_heap.Weights.{own_weight}
 use Rattle.joint_ops.specs.World.{IsWorld, DenotesIn, IsForIn}
 use Rattle.joint_ops.specs.Operands.{AreForIn}
 use Rattle.joint_ops.specs.Made.{Makes}

@@ -17,7 +17,7 @@ use Rattle.joint_ops.specs.heap_places.Places.{FirstText}
 use Rattle.joint_ops.specs.heap_ops.declared.shape.Shape.{Shape}
 use Rattle.joint_ops.specs.heap_ops.Vectors.{count_of, low_of, of_bounds, vector_damage, IsShaped, ReadsShape}
 use Rattle.joint_ops.proofs.of_heap_ops.VectorLaws.{below-count, read-vector}
-use Rattle.joint_ops.specs.ps_meaning.Objects.{is_vector, place_of}
+use Rattle.joint_ops.specs.ps_heap.Objects.{is_vector, place_of}
 use Rattle.objects.specs.Lasting.{Lasts}
 use Rattle.objects.specs.declared.known_vectors.KnownVector.{KnownVector}
 use Rattle.objects.specs.Vectors.{IsSo, AreSo, SaysNothing, ReachesElement, refs_of, nums_of}

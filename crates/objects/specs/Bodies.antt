@@ -10,7 +10,7 @@ use Rattle.joint_ops.specs.swizzle.Heap.{num_at}
 use Rattle.joint_ops.specs.swizzle.declared.fault.SwizzleFault.{SwizzleFault}
 use Rattle.joint_ops.specs.proc_values.Loaded.{IsFitUnit}
 use Rattle.joint_ops.specs.proc_values.Reading.{IsPlaceOf}
-use Rattle.joint_ops.specs.ps_meaning.Objects.{Heap}
+use Rattle.joint_ops.specs.ps_heap.Objects.{Heap}
 use Rattle.joint_ops.specs.World.{DenotesScopeIn, IsUnitIn, Stands, BreaksOff}
 use Rattle.joint_procedures.specs.Procedures.{HasSlot}
 use Rattle.joint_procedures.specs.Units.{IsFrameIn}

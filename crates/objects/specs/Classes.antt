@@ -14,9 +14,9 @@ use Rattle.joint_ops.specs.text_forms.declared.forms.Located.{Located}
 use Rattle.joint_ops.specs.text_forms.Forms.{forms_of, located_in}
 use Rattle.joint_ops.specs.heap_texts.declared.fault.OpFault.{OpFault}
 use Rattle.joint_ops.specs.heap_texts.declared.fault.OpFault.TheVariants as op
-use Rattle.joint_ops.specs.ps_meaning.Values.{Value, Text}
-use Rattle.joint_ops.specs.ps_meaning.Texts.{Attempt}
-use Rattle.joint_ops.specs.ps_meaning.Objects.{Heap, Object}
+use Rattle.joint_ops.specs.ps_heap.Values.{Value, Text}
+use Rattle.joint_ops.specs.ps_heap.Texts.{Attempt}
+use Rattle.joint_ops.specs.ps_heap.Objects.{Heap, Object}
 use Rattle.joint_ops.specs.Made.{Makes}
 use Rattle.joint_ops.specs.World.{DenotesIn, IsUnitIn, Stands, BreaksOff}
 

@@ -9,7 +9,7 @@ pub mod Classes
 pub mod Putting
 pub use Rattle.joint_ops.specs.text_forms as text_forms
 pub use Rattle.joint_ops.specs.ps_outside as ps_outside
-pub use Rattle.joint_ops.specs.ps_meaning as ps_meaning
+pub use Rattle.joint_ops.specs.ps_heap as ps_heap
 pub use Rattle.joint_ops.specs.obj_layout as obj_layout
 pub use Rattle.joint_ops.specs.swizzle as swizzle
 pub use Rattle.joint_ops.specs.heap_texts as heap_texts

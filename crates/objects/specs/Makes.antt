@@ -13,7 +13,7 @@ use Rattle.joint_ops.specs.text_forms.declared.forms.Form.{Form}
 use Rattle.joint_ops.specs.text_forms.declared.forms.Form.TheVariants as form
 use Rattle.joint_ops.specs.text_forms.Forms.{forms_of}
 use Rattle.joint_ops.specs.proc_values.Loaded.{constant_numbered}
-use Rattle.joint_ops.specs.ps_meaning.Values.{Value, Num, Flag, is_one}
+use Rattle.joint_ops.specs.ps_heap.Values.{Value, Num, Flag, is_one}
 use Rattle.joint_ops.specs.World.{DenotesIn}
 use Rattle.structure_rows.specs.Marks.{HasTooMany, TellRows}
 use Rattle.structure_rows.specs.Rows.{object_in}

@@ -15,7 +15,7 @@ use Rattle.joint_ops.specs.heap_texts.declared.fault.OpFault.{OpFault}
 use Rattle.joint_ops.specs.heap_texts.declared.fault.OpFault.TheVariants as op
 use Rattle.joint_ops.specs.heap_places.declared.value.Value as given
 use Rattle.joint_ops.specs.heap_places.declared.value.Value.TheVariants as held
-use Rattle.joint_ops.specs.ps_meaning.Values.{is_one, number_of}
+use Rattle.joint_ops.specs.ps_heap.Values.{is_one, number_of}
 use Rattle.joint_ops.specs.World.{IsUnitIn, IsOfForm}
 use Rattle.objects.specs.declared.known_fields.KnownField.{KnownField}
 use Rattle.objects.specs.declared.objects.fields.Put.{Put}

@@ -12,11 +12,11 @@ use Rattle.joint_ops.specs.heap_places.Shapes.{word_in}
 use Rattle.joint_ops.specs.heap_places.Words.{int_in, flag_in}
 use Rattle.joint_ops.specs.heap_places.Places.{Holds, HasRow}
 use Rattle.joint_ops.specs.heap_ops.Vectors.{HasType, fitted, index_of}
-use Rattle.joint_ops.specs.ps_meaning.Objects as meaning
-use Rattle.joint_ops.specs.ps_meaning.Objects.{is_vector, place_of}
-use Rattle.joint_ops.specs.ps_meaning.Texts.{Yields}
-use Rattle.joint_ops.specs.ps_meaning.Values as meant
-use Rattle.joint_ops.specs.ps_meaning.Values.{number_of}
+use Rattle.joint_ops.specs.ps_heap.Objects as meaning
+use Rattle.joint_ops.specs.ps_heap.Objects.{is_vector, place_of}
+use Rattle.joint_ops.specs.ps_heap.Texts.{Yields}
+use Rattle.joint_ops.specs.ps_heap.Values as meant
+use Rattle.joint_ops.specs.ps_heap.Values.{number_of}
 use Rattle.joint_ops.specs.Operands.{form_in}
 use Rattle.objects.specs.declared.known_vectors.KnownVector.{KnownVector}
 

@@ -8,8 +8,8 @@ ghost use Rattle.joint_ops.specs.proc_values.Loaded.{IsFitUnit};
 ghost use Rattle.joint_ops.specs.swizzle.Heap.{IsHeld, header_at};
 ghost use Rattle.joint_ops.specs.swizzle.Reading.{LeavesOutside};
 ghost use Rattle.joint_ops.specs.swizzle.Touch.{Keeps};
-ghost use Rattle.joint_ops.specs.ps_meaning.Objects as meaning;
-ghost use Rattle.joint_ops.specs.ps_meaning.Values as meant;
+ghost use Rattle.joint_ops.specs.ps_heap.Objects as meaning;
+ghost use Rattle.joint_ops.specs.ps_heap.Values as meant;
 ghost use Rattle.joint_ops.specs.World.{DenotesIn, IsUnitIn, IsWorld, FailsAsReading};
 ghost use Rattle.objects.specs.Bodies.{AnswersBody, HasBody, HasCode};
 

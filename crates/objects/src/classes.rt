@@ -8,7 +8,7 @@ ghost use Rattle.joint_ops.specs.proc_values.Reading.{IsDamaged};
 ghost use Rattle.joint_ops.specs.swizzle.Heap.{IsHeld, header_at};
 ghost use Rattle.joint_ops.specs.swizzle.Reading.{LeavesOutside};
 ghost use Rattle.joint_ops.specs.swizzle.Touch.{Keeps};
-ghost use Rattle.joint_ops.specs.ps_meaning.Objects as meaning;
+ghost use Rattle.joint_ops.specs.ps_heap.Objects as meaning;
 ghost use Rattle.joint_ops.specs.World.{IsUnitIn, IsWorld, Stands, FailsAsReading};
 ghost use Rattle.objects.specs.Classes.{AnswersClass};
 

@@ -5,8 +5,8 @@ ghost use Rattle.joint_ops.specs.swizzle.Joint.{shown_at};
 ghost use Rattle.joint_ops.specs.heap_places.Shapes.{word_in};
 ghost use Rattle.joint_ops.specs.heap_places.Words.{int_in};
 ghost use Rattle.joint_ops.specs.heap_ops.Vectors.{HasType};
-ghost use Rattle.joint_ops.specs.ps_meaning.Objects.{is_vector as is_vector_of, place_of};
-ghost use Rattle.joint_ops.specs.ps_meaning.Operators.{is_int};
+ghost use Rattle.joint_ops.specs.ps_heap.Objects.{is_vector as is_vector_of, place_of};
+ghost use Rattle.joint_ops.specs.ps_heap.Operators.{is_int};
 ghost use Rattle.objects.specs.Vectors.{AreSo, ReachesElement, IsSo, nums_of, refs_of};
 
 use joint_ops::heap_ops::shape::{Shape, place};

@@ -2,9 +2,9 @@
 ghost use Rattle.std.specs.Prelude.{◌≡◌, ◌≤◌, ◌+◌, ◌^◌, List, IfOk, IfSome};
 ghost use Rattle.joint_ops.specs.obj_layout.declared.reference.Reference.{Reference};
 ghost use Rattle.joint_ops.specs.swizzle.Heap.{IsHeap, IsHeld, fresh_heap, top_of};
-ghost use Rattle.joint_ops.specs.ps_meaning.Objects as meaning;
-ghost use Rattle.joint_ops.specs.ps_meaning.Objects.{is_one_object};
-ghost use Rattle.joint_ops.specs.ps_meaning.Values as meant;
+ghost use Rattle.joint_ops.specs.ps_heap.Objects as meaning;
+ghost use Rattle.joint_ops.specs.ps_heap.Objects.{is_one_object};
+ghost use Rattle.joint_ops.specs.ps_heap.Values as meant;
 ghost use Rattle.joint_ops.specs.World.{DenotesIn, IsWorld};
 ghost use Rattle.joint_ops.specs.Operands.{IsByObject, IsOfSort, IsSorted};
 

@@ -5,7 +5,7 @@ pub mod inside
 pub use Rattle.ps_base.specs as ps_base
 pub use Rattle.heap_texts.specs.text_forms as text_forms
 pub use Rattle.heap_texts.specs.ps_outside as ps_outside
-pub use Rattle.heap_texts.specs.ps_meaning as ps_meaning
+pub use Rattle.heap_texts.specs.ps_heap as ps_heap
 pub use Rattle.heap_texts.specs.obj_area as obj_area
 pub use Rattle.heap_texts.specs.obj_layout as obj_layout
 pub use Rattle.heap_texts.specs.swizzle as swizzle

@@ -15,7 +15,8 @@ use Rattle.ps_volumes.specs.ps_reports.declared.report.Report.{Report}
 use Rattle.ps_volumes.specs.ps_reports.Answering.{Answers, EndsIn}
 use Rattle.ps_volumes.specs.Attaching.{Keeps, KeepsVolume, IsWhyNone, line_of, status_of as status_of_cause}
 use Rattle.ps_volumes.specs.Making.{IsMakingDue}
-use Rattle.ps_meaning.specs.Event.{Event, outputs, status_of}
+use Rattle.ps_meaning.specs.ps_heap.Ends.{status_of}
+use Rattle.ps_meaning.specs.Event.{Event, outputs}
 use Rattle.ps_meaning.specs.Runs.{run_events, run_end}
 use Rattle.ps_causes.specs.Source.{IsProgram, IsSourceFault}
 use Rattle.ps_causes.specs.Filling.{area_size, FillsArea}

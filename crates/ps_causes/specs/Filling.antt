@@ -3,7 +3,7 @@ use Rattle.std.specs.Prelude.{◌≡◌, ℕ, ◌+◌, ◌*◌, ◌<◌, ◌≤�
 use Rattle.ps_built.specs.ps_program.Node.{BodyNode}
 use Rattle.ps_meaning.specs.Event.{Event}
 use Rattle.ps_meaning.specs.Runs.{run_events, fresh_store}
-use Rattle.ps_meaning.specs.Weights.{code_weight}
+use Rattle.ps_meaning.specs.ps_heap.Weights.{code_weight}
 use Rattle.ps_words.specs.Words.{RunOf}
 use Rattle.ps_unit_weights.specs.ps_gen.Units.{unit_of}
 use Rattle.ps_unit_weights.specs.proc_values.Units.{unit_objects}

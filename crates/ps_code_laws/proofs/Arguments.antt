@@ -13,8 +13,8 @@ use Rattle.ps_gen.specs.ps_emitter.Choices as choice
 use Rattle.ps_soundness.specs.Valued.{AllValued}
 use Rattle.ps_soundness.specs.Shapes.{AreOf}
 use Rattle.ps_typing_laws.specs.ps_typing.WellTyped.{types_of_params}
-use Rattle.ps_stepping.specs.ps_meaning.Values.{Value, Num, Nil, word_of}
-use Rattle.ps_stepping.specs.ps_meaning.Objects.{Heap}
+use Rattle.ps_stepping.specs.ps_heap.Values.{Value, Num, Nil, word_of}
+use Rattle.ps_stepping.specs.ps_heap.Objects.{Heap}
 use Rattle.ps_stepping.specs.ps_meaning.Meaning.{Frame, Store}
 use Rattle.ps_stepping.specs.ps_meaning.Frames.{stands_on, arguments_on}
 use Rattle.ps_stepping.specs.Config.{Config}

@@ -5,9 +5,9 @@ use Rattle.ps_gen.specs.ps_base.TyView as types
 use Rattle.ps_gen.specs.ps_base.CodeUnit.{ConstantView, text}
 use Rattle.ps_gen.specs.ps_base.declared.line.Line.{Line}
 use Rattle.ps_stepping.specs.text_forms.Classes.{form_of_type}
-use Rattle.ps_stepping.specs.ps_meaning.Values.{Value, Num, Text, Nil, Pointer, word_of}
-use Rattle.ps_stepping.specs.ps_meaning.Texts.{Attempt, Yields, Fails}
-use Rattle.ps_stepping.specs.ps_meaning.Objects.{Heap, Object, new_number}
+use Rattle.ps_stepping.specs.ps_heap.Values.{Value, Num, Text, Nil, Pointer, word_of}
+use Rattle.ps_stepping.specs.ps_heap.Texts.{Attempt, Yields, Fails}
+use Rattle.ps_stepping.specs.ps_heap.Objects.{Heap, Object, new_number}
 use Rattle.ps_stepping.specs.ps_meaning.Meaning.{Frame, Store, State, Meaning, give, stop, attempt, with_heap, put_heap, made, made_text, and_object, and_text}
 use Rattle.ps_stepping.specs.ps_meaning.Evaluation.{kept_as}
 use Rattle.ps_gen.specs.ps_emitter.Choices as choice

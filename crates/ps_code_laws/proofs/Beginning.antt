@@ -12,8 +12,8 @@ use Rattle.ps_typing_laws.specs.ps_typing.Placing.{is_number}
 use Rattle.ps_typing_laws.specs.ps_typing.Locals.{one_on, taken_by_params}
 use Rattle.ps_typing_laws.specs.ps_typing.WellTyped.{Env, Free, Local, behind_one, types_of_params, Takes}
 use Rattle.ps_typing_laws.specs.ps_typing.WellTyped as typed
-use Rattle.ps_stepping.specs.ps_meaning.Values.{Value, Nothing, word_of}
-use Rattle.ps_stepping.specs.ps_meaning.Objects.{Heap}
+use Rattle.ps_stepping.specs.ps_heap.Values.{Value, Nothing, word_of}
+use Rattle.ps_stepping.specs.ps_heap.Objects.{Heap}
 use Rattle.ps_stepping.specs.ps_meaning.Meaning.{Frame, give, ◌>>=◌, set}
 use Rattle.ps_stepping.specs.ps_meaning.Frames.{arguments_on, keep, keep_all}
 use Rattle.ps_gen.specs.Units.{kept_at, keeps, size_keeps}

@@ -11,10 +11,11 @@ use Rattle.ps_type_text.specs.Texts.{Field}
 use Rattle.ps_typing_laws.specs.ps_typing.Program.{bodies, first_complex}
 use Rattle.ps_typing_laws.specs.ps_typing.WellTyped.{types_of_params, IsBody, IsWellTyped}
 use Rattle.ps_typing_laws.specs.ps_typing.WellTyped as typed
-use Rattle.ps_stepping.specs.ps_meaning.Objects.{Heap}
-use Rattle.ps_stepping.specs.ps_meaning.Weights.{code_weight}
-use Rattle.ps_stepping.specs.ps_meaning.Event.{End, Event, Finish, Done}
-use Rattle.ps_stepping.specs.ps_meaning.Values.{Value}
+use Rattle.ps_stepping.specs.ps_heap.Objects.{Heap}
+use Rattle.ps_stepping.specs.ps_heap.Weights.{code_weight}
+use Rattle.ps_stepping.specs.ps_heap.Ends.{End, Done}
+use Rattle.ps_stepping.specs.ps_meaning.Event.{Event, Finish}
+use Rattle.ps_stepping.specs.ps_heap.Values.{Value}
 use Rattle.ps_stepping.specs.ps_meaning.Meaning.{Frame, Store, State, Outcome, Value_is, Ends, give, after, ◌>>=◌}
 use Rattle.ps_stepping.specs.ps_meaning.Frames.{arguments_on, frame_of_call, keep_all}
 use Rattle.ps_stepping.specs.ps_meaning.Calls.{body_meant, context}

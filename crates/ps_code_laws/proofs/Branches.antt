@@ -4,8 +4,8 @@ use Rattle.ps_gen.specs.ps_base.TyView.{TyView}
 use Rattle.ps_gen.specs.ps_base.TyView as types
 use Rattle.ps_gen.specs.ps_base.declared.operator.Relation.TheVariants as relation
 use Rattle.ps_gen.specs.ps_base.declared.instr.Instr.TheVariants as instr
-use Rattle.ps_stepping.specs.ps_meaning.Values.{Value, Flag, number_of, word_of, is_one}
-use Rattle.ps_stepping.specs.ps_meaning.Objects.{Heap}
+use Rattle.ps_stepping.specs.ps_heap.Values.{Value, Flag, number_of, word_of, is_one}
+use Rattle.ps_stepping.specs.ps_heap.Objects.{Heap}
 use Rattle.ps_stepping.specs.ps_meaning.Meaning.{Frame, Store, State, Outcome, Value_is, Ends, Meaning, give, after, ◌>>=◌, choose}
 use Rattle.ps_stepping.specs.ps_meaning.Evaluation.{is_equal}
 use Rattle.ps_gen.specs.ps_emitter.Choices as choice

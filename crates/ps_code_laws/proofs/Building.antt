@@ -17,8 +17,8 @@ use Rattle.ps_typing_laws.specs.ps_typing.WellTyped.{At, IsOfType, Some_is, Env,
 use Rattle.ps_typing_laws.specs.ps_typing.WellTyped as typed
 use Rattle.ps_typing_laws.specs.Counted.{Each}
 use Rattle.ps_typing_laws.proofs.Tracked.{limit, Grows, tree_grows, LocalsBelow, locals_grow, declared, track, track_all, track_items, all_grows}
-use Rattle.ps_stepping.specs.ps_meaning.Objects.{Heap}
-use Rattle.ps_stepping.specs.ps_meaning.Values.{Num}
+use Rattle.ps_stepping.specs.ps_heap.Objects.{Heap}
+use Rattle.ps_stepping.specs.ps_heap.Values.{Num}
 use Rattle.ps_stepping.specs.ps_meaning.Evaluation.{eval}
 use Rattle.ps_stepping.specs.ps_meaning.Meaning.{Outcome, Value_is, Ends}
 use Rattle.ps_stepping.specs.ps_meaning.Calls.{context}

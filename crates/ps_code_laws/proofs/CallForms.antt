@@ -9,8 +9,8 @@ use Rattle.ps_gen.specs.ps_base.declared.instr.Instr.TheVariants as instr
 use Rattle.ps_gen.specs.ps_program.Node.{Param, Node, body}
 use Rattle.ps_typing_laws.specs.ps_typing.Locals.{locals_on, taken_by_params}
 use Rattle.ps_typing_laws.specs.ps_typing.WellTyped.{types_of_params}
-use Rattle.ps_stepping.specs.ps_meaning.Values.{Value, Procedure, as_written, word_of}
-use Rattle.ps_stepping.specs.ps_meaning.Objects.{Heap}
+use Rattle.ps_stepping.specs.ps_heap.Values.{Value, Procedure, as_written, word_of}
+use Rattle.ps_stepping.specs.ps_heap.Objects.{Heap}
 use Rattle.ps_stepping.specs.ps_meaning.Meaning.{Frame, Store, Outcome, Value_is, Ends, back_to}
 use Rattle.ps_stepping.specs.ps_meaning.Frames.{arguments_on}
 use Rattle.ps_gen.specs.Units.{frame_of, unit_of}

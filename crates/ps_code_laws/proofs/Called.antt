@@ -23,9 +23,9 @@ use Rattle.ps_typing_laws.specs.Counted.{IsCounted}
 use Rattle.ps_typing_laws.proofs.Tracked.{params_tracked, LocalsBelow, track, track_body, limit_is}
 use Rattle.ps_gen.specs.ps_program.Parts.{Part as PartOf}
 use Rattle.ps_gen.proofs.of_ps_program.PartLemmas.{fold_parts}
-use Rattle.ps_stepping.specs.ps_meaning.Values.{Value}
-use Rattle.ps_stepping.specs.ps_meaning.Objects.{Heap, with_new, new_number}
-use Rattle.ps_stepping.specs.ps_meaning.Scopes.{new_scope}
+use Rattle.ps_stepping.specs.ps_heap.Values.{Value}
+use Rattle.ps_stepping.specs.ps_heap.Objects.{Heap, with_new, new_number}
+use Rattle.ps_stepping.specs.ps_heap.Scopes.{new_scope}
 use Rattle.ps_stepping.specs.ps_meaning.Meaning.{Frame, State, Outcome, Value_is, Ends, after, ◌>>=◌, enter, back_in, scoped, and_object}
 use Rattle.ps_stepping.specs.ps_meaning.Frames.{arguments_on, frame_of_call, keep_all}
 use Rattle.ps_stepping.specs.ps_meaning.Evaluation.{eval}

@@ -14,9 +14,10 @@ use Rattle.ps_typing_laws.specs.ps_typing.Locals.{locals_on, taken_by_params}
 use Rattle.ps_typing_laws.specs.ps_typing.WellTyped.{types_of_params, IsBody}
 use Rattle.ps_typing_laws.specs.Counted.{IsCounted}
 use Rattle.ps_typing_laws.proofs.Tracked.{track_body}
-use Rattle.ps_stepping.specs.ps_meaning.Event.{Turn, Trapped}
-use Rattle.ps_stepping.specs.ps_meaning.Values.{Value, Num, Nil, Procedure, as_written, word_of}
-use Rattle.ps_stepping.specs.ps_meaning.Objects.{Heap}
+use Rattle.ps_stepping.specs.ps_heap.Ends.{Trapped}
+use Rattle.ps_stepping.specs.ps_meaning.Event.{Turn}
+use Rattle.ps_stepping.specs.ps_heap.Values.{Value, Num, Nil, Procedure, as_written, word_of}
+use Rattle.ps_stepping.specs.ps_heap.Objects.{Heap}
 use Rattle.ps_stepping.specs.ps_meaning.Meaning.{Frame, Store, State, stop, after, ◌>>=◌, choose, back_to, in_frame, with_turns, turned, spent, take_turn}
 use Rattle.ps_stepping.specs.ps_meaning.Evaluation.{most_calls, call_meant}
 use Rattle.ps_stepping.specs.ps_meaning.Frames.{arguments_on, frame_of_call}

@@ -13,9 +13,9 @@ use Rattle.ps_gen.specs.ps_program.Node as node
 use Rattle.ps_typing_laws.specs.ps_typing.Checking.{is_equated, is_ordered, is_comparable, is_writable}
 use Rattle.ps_type_text.specs.Texts.{Field, class_text, IsNamed}
 use Rattle.ps_typing_laws.specs.ps_typing.WellTyped.{At, IsOfType, types_of_params}
-use Rattle.ps_stepping.specs.ps_meaning.Operators.{is_int}
-use Rattle.ps_stepping.specs.ps_meaning.Objects.{Heap}
-use Rattle.ps_stepping.specs.ps_meaning.Values.{Value}
+use Rattle.ps_stepping.specs.ps_heap.Operators.{is_int}
+use Rattle.ps_stepping.specs.ps_heap.Objects.{Heap}
+use Rattle.ps_stepping.specs.ps_heap.Values.{Value}
 use Rattle.ps_stepping.specs.ps_meaning.Evaluation.{eval, eval_all}
 use Rattle.ps_stepping.specs.ps_meaning.Calls.{context}
 use Rattle.ps_soundness.specs.Running.{IsScopeText, HasField}

@@ -4,9 +4,9 @@ use Rattle.ps_gen.specs.ps_base.TyView.{TyView}
 use Rattle.ps_gen.specs.ps_base.Instr.{width_of}
 use Rattle.ps_gen.specs.ps_base.declared.operator.Relation.{Relation}
 use Rattle.ps_gen.specs.ps_base.declared.operator.Relation.TheVariants as relation
-use Rattle.ps_stepping.specs.ps_meaning.Operators.{relation_of}
-use Rattle.ps_stepping.specs.ps_meaning.Values.{Value, Text, Nil, Pointer, Vector, number_of, word_of}
-use Rattle.ps_stepping.specs.ps_meaning.Objects.{Heap}
+use Rattle.ps_stepping.specs.ps_heap.Operators.{relation_of}
+use Rattle.ps_stepping.specs.ps_heap.Values.{Value, Text, Nil, Pointer, Vector, number_of, word_of}
+use Rattle.ps_stepping.specs.ps_heap.Objects.{Heap}
 use Rattle.ps_stepping.specs.ps_meaning.Meaning.{Frame, Store}
 use Rattle.ps_stepping.specs.ps_meaning.Evaluation.{text_relation, compares}
 use Rattle.ps_gen.specs.ps_emitter.Choices as choice

@@ -10,13 +10,12 @@ use Rattle.ps_gen.specs.ps_base.declared.operator.Relation.TheVariants as relati
 use Rattle.ps_stepping.specs.text_forms.declared.forms.Form.{Form}
 use Rattle.ps_stepping.specs.text_forms.declared.forms.Form.TheVariants as form
 use Rattle.ps_stepping.specs.text_forms.Forms.{forms_of, form_in, element_of}
-use Rattle.ps_stepping.specs.ps_meaning.Texts.{Attempt, Yields, Fails}
-use Rattle.ps_stepping.specs.ps_meaning.Values.{Value, Num, Flag, Nil, Pointer, Vector, Procedure, Nothing, word_of, is_one, flag_of}
-use Rattle.ps_stepping.specs.ps_meaning.Objects.{Heap, Object, Structure, Elements, Scope, object_at, with_object, with_new, new_number, value_at, kept_as, is_of, is_class, fields_in, field_of, with_field, place_of, is_vector, is_made, vector_of, count_from, filled_vector, low_in, elements_in, type_in, vector_in, found_at, put_at, with_element, low_of, high_of, is_one_object}
-use Rattle.ps_stepping.specs.ps_meaning.Objects.{element_of as element_at}
-use Rattle.ps_stepping.specs.ps_meaning.Scopes.{first_value, new_scope, scope_at, parent_in, names_in, scope_out, name_in, with_name_in, with_name}
-use Rattle.ps_stepping.specs.ps_meaning.Weights.{own_weight}
-use Rattle.ps_stepping.specs.ps_meaning.Meaning.{Store, and_object, kept_name, with_kept_name}
+use Rattle.ps_stepping.specs.ps_heap.Texts.{Attempt, Yields, Fails}
+use Rattle.ps_stepping.specs.ps_heap.Values.{Value, Num, Flag, Nil, Pointer, Vector, Procedure, Nothing, word_of, is_one, flag_of}
+use Rattle.ps_stepping.specs.ps_heap.Objects.{Heap, Object, Structure, Elements, Scope, Keyed, object_at, with_object, with_new, new_number, value_at, kept_as, is_of, is_class, fields_in, field_of, with_field, place_of, is_vector, is_made, vector_of, count_from, filled_vector, low_in, elements_in, type_in, vector_in, found_at, put_at, with_element, low_of, high_of, is_one_object, element_of as element_at}
+use Rattle.ps_stepping.specs.ps_heap.Scopes.{first_value, new_scope, scope_at, parent_in, names_in, scope_out, name_in, with_name_in, with_name, kept_name, with_kept_name}
+use Rattle.ps_stepping.specs.ps_heap.Weights.{own_weight}
+use Rattle.ps_stepping.specs.ps_meaning.Meaning.{Store, and_object}
 use Rattle.ps_stepping.specs.ps_meaning.Evaluation.{kept_elements, kept_all, object_relation}
 use Rattle.ps_code_laws.specs.Compiled.{compiled, compiled_all, compiled_object, compiled_heap, compiled_store}
 
@@ -85,6 +84,7 @@ pub weight_compiled : (object : Object) → own_weight (compiled_object object) 
 weight_compiled (Structure class fields) = ap (λ (n : ℕ). 48 + 8 * n) (length-map fields compiled)
 weight_compiled (Elements ty low elements) = ap (λ (n : ℕ). 56 + 8 * n) (length-map elements compiled)
 weight_compiled (Scope text parent names) = ap (λ (n : ℕ). 56 + 8 * n) (length-map names compiled)
+weight_compiled (Keyed table) = refl
 
 -- What an operation yields, compiled; a trap stays.
 
@@ -103,6 +103,7 @@ is_of_compiled : (found : Option Object) (class : List ℕ) → is_of (compiled_
 is_of_compiled None class = refl
 is_of_compiled (Some (Structure text fields)) class = refl
 is_of_compiled (Some (Elements ty low elements)) class = refl
+is_of_compiled (Some (Keyed table)) class = refl
 is_of_compiled (Some (Scope text parent names)) class = refl
 
 pub class_compiled : (heap : Heap) (v : Value) (class : List ℕ) → is_class (compiled_heap heap) (compiled v) class ≡ is_class heap v class
@@ -115,6 +116,7 @@ fields_compiled : (found : Option Object) → fields_in (compiled_found found) �
 fields_compiled None = refl
 fields_compiled (Some (Structure text fields)) = refl
 fields_compiled (Some (Elements ty low elements)) = refl
+fields_compiled (Some (Keyed table)) = refl
 fields_compiled (Some (Scope text parent names)) = refl
 
 field_found : (found : Option Object) (class : List ℕ) (n : ℕ) →
@@ -187,18 +189,21 @@ pub low_compiled : (found : Option Object) → low_in (compiled_found found) ≡
 low_compiled None = refl
 low_compiled (Some (Structure text fields)) = refl
 low_compiled (Some (Elements ty low elements)) = refl
+low_compiled (Some (Keyed table)) = refl
 low_compiled (Some (Scope text parent names)) = refl
 
 elements_compiled : (found : Option Object) → elements_in (compiled_found found) ≡ compiled_all (elements_in found)
 elements_compiled None = refl
 elements_compiled (Some (Structure text fields)) = refl
 elements_compiled (Some (Elements ty low elements)) = refl
+elements_compiled (Some (Keyed table)) = refl
 elements_compiled (Some (Scope text parent names)) = refl
 
 pub type_compiled : (found : Option Object) → type_in (compiled_found found) ≡ type_in found
 type_compiled None = refl
 type_compiled (Some (Structure text fields)) = refl
 type_compiled (Some (Elements ty low elements)) = refl
+type_compiled (Some (Keyed table)) = refl
 type_compiled (Some (Scope text parent names)) = refl
 
 count_compiled : (found : Option Object) → length (elements_in (compiled_found found)) ≡ length (elements_in found)
@@ -308,12 +313,14 @@ pub parent_compiled : (found : Option Object) → parent_in (compiled_found foun
 parent_compiled None = refl
 parent_compiled (Some (Structure text fields)) = refl
 parent_compiled (Some (Elements ty low elements)) = refl
+parent_compiled (Some (Keyed table)) = refl
 parent_compiled (Some (Scope text parent names)) = refl
 
 names_compiled : (found : Option Object) → names_in (compiled_found found) ≡ compiled_all (names_in found)
 names_compiled None = refl
 names_compiled (Some (Structure text fields)) = refl
 names_compiled (Some (Elements ty low elements)) = refl
+names_compiled (Some (Keyed table)) = refl
 names_compiled (Some (Scope text parent names)) = refl
 
 pub out_compiled : (heap : Heap) (scope : Option ℕ) (up : ℕ) → scope_out (compiled_heap heap) scope up ≡ scope_out heap scope up
@@ -341,6 +348,7 @@ name_put : (heap : Heap) (id : ℕ) (found : Option Object) (position : ℕ) (v 
 name_put heap id None position v = refl
 name_put heap id (Some (Structure text fields)) position v = refl
 name_put heap id (Some (Elements ty low elements)) position v = refl
+name_put heap id (Some (Keyed table)) position v = refl
 name_put heap id (Some (Scope text parent names)) position v =
     let kept = form_in (forms_of text) position in
     ap (λ (vs : List Value). with_object (compiled_heap heap) id (Scope text parent vs))

@@ -11,11 +11,12 @@ use Rattle.ps_gen.specs.ps_base.declared.trap.Trap.TheVariants.{TooLong}
 use Rattle.ps_gen.specs.ps_base.declared.instr.Instr.{Instr}
 use Rattle.ps_gen.specs.ps_base.declared.instr.Instr.TheVariants as instr
 use Rattle.ps_gen.specs.ps_program.declared.place.Place.TheVariants.{Plain}
-use Rattle.ps_stepping.specs.ps_meaning.Operators.{Answer, Gives, Traps}
-use Rattle.ps_stepping.specs.ps_meaning.Event.{End, Trapped, Event, Turn, OutOfTurns}
-use Rattle.ps_stepping.specs.ps_meaning.Values.{Value, Nothing, word_of, is_one, flag_of}
+use Rattle.ps_stepping.specs.ps_heap.Operators.{Answer, Gives, Traps}
+use Rattle.ps_stepping.specs.ps_heap.Ends.{End, Trapped, OutOfTurns}
+use Rattle.ps_stepping.specs.ps_meaning.Event.{Event, Turn}
+use Rattle.ps_stepping.specs.ps_heap.Values.{Value, Nothing, word_of, is_one, flag_of}
 use Rattle.ps_stepping.specs.ps_meaning.Meaning.{Frame, Store, State, Outcome, Value_is, Ends, Meaning, give, stop, after, ◌>>=◌, choose, answer, some_out, emit, in_places, is_width, written, with_turns, turned, spent, take_turn, with_local, get, set}
-use Rattle.ps_stepping.specs.ps_meaning.Objects.{Heap}
+use Rattle.ps_stepping.specs.ps_heap.Objects.{Heap}
 use Rattle.ps_stepping.specs.ps_meaning.Evaluation.{while_turns}
 use Rattle.ps_soundness.specs.Shapes.{IsOf, IsTypedHeap, Grows}
 use Rattle.ps_soundness.proofs.Growing.{grows_not, grows_then}

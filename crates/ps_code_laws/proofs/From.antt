@@ -1,8 +1,8 @@
 -- What code does from locals of which something is so.
 use Rattle.std.proofs.Common.{ℕ, ◌≤◌, ℤ, List, ◌++◌}
 use Rattle.ps_gen.specs.ps_base.TyView.{TyView}
-use Rattle.ps_stepping.specs.ps_meaning.Values.{Value}
-use Rattle.ps_stepping.specs.ps_meaning.Objects.{Heap}
+use Rattle.ps_stepping.specs.ps_heap.Values.{Value}
+use Rattle.ps_stepping.specs.ps_heap.Objects.{Heap}
 use Rattle.ps_stepping.specs.ps_meaning.Meaning.{Frame, State, Outcome, Value_is, Ends, Meaning, after, ◌>>=◌}
 use Rattle.ps_soundness.specs.Shapes.{IsOf, Grows}
 use Rattle.ps_soundness.proofs.Combining.{Standing}

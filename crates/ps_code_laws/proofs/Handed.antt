@@ -6,8 +6,8 @@ use Rattle.ps_gen.specs.ps_program.Node.{Param, body}
 use Rattle.ps_typing_laws.specs.ps_typing.Placing.{is_number}
 use Rattle.ps_typing_laws.specs.ps_typing.WellTyped.{Env, Free, Local, next_slot, behind_one, types_of_params, Takes}
 use Rattle.ps_typing_laws.specs.ps_typing.WellTyped as typed
-use Rattle.ps_stepping.specs.ps_meaning.Values.{Value, Num, Nil}
-use Rattle.ps_stepping.specs.ps_meaning.Objects.{Heap}
+use Rattle.ps_stepping.specs.ps_heap.Values.{Value, Num, Nil}
+use Rattle.ps_stepping.specs.ps_heap.Objects.{Heap}
 use Rattle.ps_stepping.specs.ps_meaning.Meaning.{Frame, local_of}
 use Rattle.ps_stepping.specs.ps_meaning.Frames.{arguments_on, frame_of_call}
 use Rattle.ps_soundness.specs.Shapes.{IsOf, AreLocals}

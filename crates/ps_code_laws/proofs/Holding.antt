@@ -11,12 +11,12 @@ use Rattle.ps_gen.specs.ps_program.declared.place.Place.TheVariants.{Plain, Kept
 use Rattle.ps_gen.specs.ps_program.Node.{Param, Node, Nodes, none, more, Arms, no_arms, more_arms, arm, BodyNode, body}
 use Rattle.ps_gen.specs.ps_program.Node as node
 use Rattle.ps_typing_laws.specs.ps_typing.Placing.{is_number}
-use Rattle.ps_stepping.specs.ps_meaning.Operators.{Answer, Gives, Traps, is_same}
-use Rattle.ps_stepping.specs.ps_meaning.Event.{End}
-use Rattle.ps_stepping.specs.ps_meaning.Values.{Value, Num, Flag, Text, Nil, Pointer, Vector, Procedure, Nothing, as_written, word_of, flag_of}
-use Rattle.ps_stepping.specs.ps_meaning.Texts.{Attempt, Yields, Fails, line_read, behind_line}
-use Rattle.ps_stepping.specs.ps_meaning.Objects.{Heap, Object, Structure, type_in, vector_in}
-use Rattle.ps_stepping.specs.ps_meaning.Scopes.{new_scope}
+use Rattle.ps_stepping.specs.ps_heap.Operators.{Answer, Gives, Traps, is_same}
+use Rattle.ps_stepping.specs.ps_heap.Ends.{End}
+use Rattle.ps_stepping.specs.ps_heap.Values.{Value, Num, Flag, Text, Nil, Pointer, Vector, Procedure, Nothing, as_written, word_of, flag_of}
+use Rattle.ps_stepping.specs.ps_heap.Texts.{Attempt, Yields, Fails, line_read, behind_line}
+use Rattle.ps_stepping.specs.ps_heap.Objects.{Heap, Object, Structure, type_in, vector_in}
+use Rattle.ps_stepping.specs.ps_heap.Scopes.{new_scope}
 use Rattle.ps_stepping.specs.ps_meaning.Meaning.{Frame, State, Outcome, Value_is, Ends, Meaning, give, stop, after, ◌>>=◌, choose, answer, attempt, with_heap, put_heap, made, made_text, made_procedure, with_input, put_input, enter, back_in, back_to, scoped, in_scope, in_frame, emit, in_places, is_width, written, with_turns, turned, take_turn, with_local, unbuilt, get, set}
 use Rattle.ps_stepping.specs.ps_meaning.Frames.{stands_on, arguments_on, frame_of_call, keep, keep_all}
 use Rattle.ps_stepping.specs.ps_meaning.Calls.{body_meant, call_within, context}

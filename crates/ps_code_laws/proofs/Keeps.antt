@@ -13,10 +13,10 @@ use Rattle.ps_typing_laws.specs.ps_typing.WellTyped.{Some_is, Env, Free, IsLocal
 use Rattle.ps_typing_laws.specs.ps_typing.WellTyped as typed
 use Rattle.ps_typing_laws.specs.Counted.{Each}
 use Rattle.ps_typing_laws.proofs.Tracked.{Grows, tree_grows, LocalsBelow, locals_grow, declared, track, track_all, all_grows}
-use Rattle.ps_stepping.specs.ps_meaning.Operators.{Answer, Gives, Traps, neg_of, arith_of, is_same}
-use Rattle.ps_stepping.specs.ps_meaning.Values.{Value, Num, Flag, Text, Nil, Pointer, Vector, Procedure, Nothing, as_written, word_of, flag_of, shown}
-use Rattle.ps_stepping.specs.ps_meaning.Texts.{Attempt, Yields, Fails, line_read, behind_line}
-use Rattle.ps_stepping.specs.ps_meaning.Objects.{Heap, Object}
+use Rattle.ps_stepping.specs.ps_heap.Operators.{Answer, Gives, Traps, neg_of, arith_of, is_same}
+use Rattle.ps_stepping.specs.ps_heap.Values.{Value, Num, Flag, Text, Nil, Pointer, Vector, Procedure, Nothing, as_written, word_of, flag_of, shown}
+use Rattle.ps_stepping.specs.ps_heap.Texts.{Attempt, Yields, Fails, line_read, behind_line}
+use Rattle.ps_stepping.specs.ps_heap.Objects.{Heap, Object}
 use Rattle.ps_stepping.specs.ps_meaning.Meaning.{Frame, Store, State, Outcome, Value_is, Ends, Meaning, give, stop, after, ◌>>=◌, choose, answer, attempt, with_heap, put_heap, made, made_text, made_procedure, with_input, put_input, enter, back_in, back_to, scoped, in_scope, in_frame, emit, in_places, is_width, written, turned, spent, take_turn, with_local, unbuilt, get, set}
 use Rattle.ps_stepping.specs.ps_meaning.Frames.{frame_of_call}
 use Rattle.ps_stepping.specs.ps_meaning.Evaluation.{Context, while_turns, Counting, goes_on, in_turn, for_turns, for_loop, for_meant, is_equal, make_meant, most_calls, call_meant, read_line, at_end, lib_meant, eval, eval_all, eval_each, eval_arms, eval_labels}

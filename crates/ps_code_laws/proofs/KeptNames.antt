@@ -7,10 +7,9 @@ use Rattle.ps_stepping.specs.text_forms.Forms.{forms_of, form_in}
 use Rattle.ps_stepping.specs.text_forms.Classes.{form_of_type}
 use Rattle.ps_stepping.proofs.of_text_forms.ClassForms.{class-told}
 use Rattle.ps_type_text.specs.Texts.{Field, class_text}
-use Rattle.ps_stepping.specs.ps_meaning.Values.{Value, Num, word_of}
-use Rattle.ps_stepping.specs.ps_meaning.Objects.{Heap, Object, Scope, object_at, with_object, kept_as}
-use Rattle.ps_stepping.specs.ps_meaning.Scopes.{scope_at, scope_out, with_name_in, with_name}
-use Rattle.ps_stepping.specs.ps_meaning.Meaning.{with_kept_name}
+use Rattle.ps_stepping.specs.ps_heap.Values.{Value, Num, word_of}
+use Rattle.ps_stepping.specs.ps_heap.Objects.{Heap, Object, Scope, object_at, with_object, kept_as}
+use Rattle.ps_stepping.specs.ps_heap.Scopes.{scope_at, scope_out, with_name_in, with_name, with_kept_name}
 use Rattle.ps_stepping.specs.Steps.{Step}
 use Rattle.ps_stepping.specs.Objects.{when_number, when_reference}
 use Rattle.ps_stepping.specs.Procedures.{of_scope}

@@ -7,12 +7,11 @@ use Rattle.ps_stepping.specs.text_forms.declared.forms.Form.{Form}
 use Rattle.ps_stepping.specs.text_forms.declared.forms.Form.TheVariants as form
 use Rattle.ps_stepping.specs.text_forms.Forms.{forms_of, form_in, element_of}
 use Rattle.ps_gen.specs.ps_program.Node.{BodyNode}
-use Rattle.ps_stepping.specs.ps_meaning.Values.{Value, Nil, Pointer, Vector}
-use Rattle.ps_stepping.specs.ps_meaning.Texts.{Attempt, Yields, Fails}
-use Rattle.ps_stepping.specs.ps_meaning.Objects.{Heap, Object, Structure, Elements, Scope, object_at, with_object, with_new, value_at, kept_as, is_of, fields_in, field_of, with_field, is_vector, is_made, vector_of, filled_vector, low_in, elements_in, type_in, vector_in, found_at, put_at, with_element}
-use Rattle.ps_stepping.specs.ps_meaning.Objects.{element_of as element_at}
-use Rattle.ps_stepping.specs.ps_meaning.Scopes.{first_value, scope_at, names_in, scope_out, name_in, with_name_in, with_name}
-use Rattle.ps_stepping.specs.ps_meaning.Meaning.{Frame, with_local, kept_name, with_kept_name}
+use Rattle.ps_stepping.specs.ps_heap.Values.{Value, Nil, Pointer, Vector}
+use Rattle.ps_stepping.specs.ps_heap.Texts.{Attempt, Yields, Fails}
+use Rattle.ps_stepping.specs.ps_heap.Objects.{Heap, Object, Structure, Elements, Scope, Keyed, object_at, with_object, with_new, value_at, kept_as, is_of, fields_in, field_of, with_field, is_vector, is_made, vector_of, filled_vector, low_in, elements_in, type_in, vector_in, found_at, put_at, with_element, element_of as element_at}
+use Rattle.ps_stepping.specs.ps_heap.Scopes.{first_value, scope_at, names_in, scope_out, name_in, with_name_in, with_name, kept_name, with_kept_name}
+use Rattle.ps_stepping.specs.ps_meaning.Meaning.{Frame, with_local}
 use Rattle.ps_stepping.specs.ps_meaning.Evaluation.{kept_all, kept_elements}
 use Rattle.ps_soundness.proofs.Fields.{all_set, all_same}
 use Rattle.ps_code_laws.specs.Literals.{ValueIs, ValuesAre, ObjectIs, HeapIs, FrameIs}
@@ -53,18 +52,21 @@ module _ (P : BodyNode → Type 0) where
   in_fields (Some (Structure class fields)) h = h
   in_fields (Some (Elements ty low elements)) h = tt
   in_fields (Some (Scope text parent names)) h = tt
+  in_fields (Some (Keyed table)) h = tt
 
   in_elements : (found : Option Object) → InFound found → AreLiterals (elements_in found)
   in_elements None h = tt
   in_elements (Some (Structure class fields)) h = tt
   in_elements (Some (Elements ty low elements)) h = h
   in_elements (Some (Scope text parent names)) h = tt
+  in_elements (Some (Keyed table)) h = tt
 
   in_names : (found : Option Object) → InFound found → AreLiterals (names_in found)
   in_names None h = tt
   in_names (Some (Structure class fields)) h = tt
   in_names (Some (Elements ty low elements)) h = tt
   in_names (Some (Scope text parent names)) h = h
+  in_names (Some (Keyed table)) h = tt
 
   in_scope_at : (heap : Heap) (scope : Option ℕ) → InHeap heap → InFound (scope_at heap scope)
   in_scope_at heap None h = tt
@@ -172,6 +174,7 @@ module _ (P : BodyNode → Type 0) where
   in_with_name_in heap id None position v h of is = h
   in_with_name_in heap id (Some (Structure class fields)) position v h of is = h
   in_with_name_in heap id (Some (Elements ty low elements)) position v h of is = h
+  in_with_name_in heap id (Some (Keyed table)) position v h of is = h
   in_with_name_in heap id (Some (Scope text parent names)) position v h of is =
       let kept = kept_as (form_in (forms_of text) position) v in
       all_set InObject heap id (Scope text parent (set names position kept)) h

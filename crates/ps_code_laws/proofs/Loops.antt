@@ -13,10 +13,10 @@ use Rattle.ps_gen.specs.ps_program.declared.place.Place.{Place}
 use Rattle.ps_gen.specs.ps_program.declared.place.Place.TheVariants.{Plain, Kept}
 use Rattle.ps_type_text.specs.Texts.{Field}
 use Rattle.ps_typing_laws.specs.ps_typing.WellTyped.{At as IsNth, IsOfType}
-use Rattle.ps_stepping.specs.ps_meaning.Operators.{is_int, is_same}
-use Rattle.ps_stepping.specs.ps_meaning.Objects.{Heap}
-use Rattle.ps_stepping.specs.ps_meaning.Event.{Trapped}
-use Rattle.ps_stepping.specs.ps_meaning.Values.{Value, Num, Nothing, word_of}
+use Rattle.ps_stepping.specs.ps_heap.Operators.{is_int, is_same}
+use Rattle.ps_stepping.specs.ps_heap.Objects.{Heap}
+use Rattle.ps_stepping.specs.ps_heap.Ends.{Trapped}
+use Rattle.ps_stepping.specs.ps_heap.Values.{Value, Num, Nothing, word_of}
 use Rattle.ps_stepping.specs.ps_meaning.Meaning.{Frame, Store, State, Outcome, Value_is, Ends, Meaning, give, stop, after, ◌>>=◌, choose, in_scope, with_turns, spent, take_turn, with_local, set}
 use Rattle.ps_stepping.specs.ps_meaning.Evaluation.{Counting, goes_on, in_turn, for_turns, for_loop, for_meant}
 use Rattle.ps_stepping.specs.Config.{Config, code_in, constants_in, constant_at, frame_in, IsAt}

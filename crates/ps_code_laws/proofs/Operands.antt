@@ -6,8 +6,8 @@ use Rattle.ps_gen.specs.ps_base.declared.instr.Instr.{Instr}
 use Rattle.ps_gen.specs.ps_program.Node.{Node}
 use Rattle.ps_gen.specs.ps_program.Parts.{Part}
 use Rattle.ps_gen.specs.ps_program.Slots.{reaches}
-use Rattle.ps_stepping.specs.ps_meaning.Values.{Value}
-use Rattle.ps_stepping.specs.ps_meaning.Objects.{Heap}
+use Rattle.ps_stepping.specs.ps_heap.Values.{Value}
+use Rattle.ps_stepping.specs.ps_heap.Objects.{Heap}
 use Rattle.ps_stepping.specs.ps_meaning.Meaning.{Meaning, ◌>>=◌}
 use Rattle.ps_stepping.specs.ps_meaning.Evaluation.{Context, eval}
 use Rattle.ps_stepping.specs.ps_meaning.Calls.{context}

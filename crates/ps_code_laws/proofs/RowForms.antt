@@ -15,8 +15,8 @@ use Rattle.ps_stepping.specs.text_forms.declared.forms.Form.TheVariants as form
 use Rattle.ps_stepping.specs.text_forms.Forms.{forms_of, element_of}
 use Rattle.ps_stepping.specs.text_forms.Classes.{form_of_type, form_of_field}
 use Rattle.ps_stepping.proofs.of_text_forms.ClassForms.{class-told}
-use Rattle.ps_stepping.specs.ps_meaning.Values.{Value, Num, Flag, Pointer, Vector, word_of}
-use Rattle.ps_stepping.specs.ps_meaning.Objects.{Heap, Structure, vector_of}
+use Rattle.ps_stepping.specs.ps_heap.Values.{Value, Num, Flag, Pointer, Vector, word_of}
+use Rattle.ps_stepping.specs.ps_heap.Objects.{Heap, Structure, vector_of}
 use Rattle.ps_stepping.specs.ps_meaning.Meaning.{Frame, Store, made}
 use Rattle.ps_stepping.specs.ps_meaning.Evaluation.{kept_as, kept_all, kept_elements, make_meant, elements_meant}
 use Rattle.ps_gen.specs.ps_emitter.Choices as choice

@@ -12,7 +12,7 @@ use Rattle.ps_gen.specs.ps_program.Node as node
 use Rattle.ps_type_text.specs.Texts.{Field, class_text, is_name_byte}
 use Rattle.ps_typing_laws.specs.ps_typing.WellTyped.{IsTyped, IsWellTyped}
 use Rattle.ps_typing_laws.specs.ps_typing.WellTyped as typed
-use Rattle.ps_stepping.specs.ps_meaning.Weights.{code_weight}
+use Rattle.ps_stepping.specs.ps_heap.Weights.{code_weight}
 use Rattle.ps_soundness.specs.Running.{IsScopeText, BodyRuns}
 use Rattle.ps_soundness.proofs.Telling.{Told}
 use Rattle.ps_stepping.specs.ps_meaning.Runs.{fresh_store, run_events}

@@ -8,11 +8,11 @@ use Rattle.ps_gen.specs.ps_base.declared.instr.Instr.TheVariants as instr
 use Rattle.ps_gen.specs.ps_program.declared.place.Place.TheVariants.{Kept}
 use Rattle.ps_gen.specs.ps_program.Node.{BodyNode}
 use Rattle.ps_type_text.specs.Texts.{Field}
-use Rattle.ps_stepping.specs.ps_meaning.Values.{Value, Procedure, as_written, word_of, number_of}
-use Rattle.ps_stepping.specs.ps_meaning.Texts.{line_read, behind_line, is_at_end}
-use Rattle.ps_stepping.specs.ps_meaning.Objects.{Heap, new_number}
-use Rattle.ps_stepping.specs.ps_meaning.Scopes.{new_scope}
-use Rattle.ps_stepping.specs.ps_meaning.Meaning.{Frame, Store, State, give, after, ◌>>=◌, made_text, made_procedure, with_input, put_input, enter, on_input, and_object, and_closure, kept_name, get, set}
+use Rattle.ps_stepping.specs.ps_heap.Values.{Value, Procedure, as_written, word_of, number_of}
+use Rattle.ps_stepping.specs.ps_heap.Texts.{line_read, behind_line, is_at_end}
+use Rattle.ps_stepping.specs.ps_heap.Objects.{Heap, new_number}
+use Rattle.ps_stepping.specs.ps_heap.Scopes.{new_scope, kept_name}
+use Rattle.ps_stepping.specs.ps_meaning.Meaning.{Frame, Store, State, give, after, ◌>>=◌, made_text, made_procedure, with_input, put_input, enter, on_input, and_object, and_closure, get, set}
 use Rattle.ps_stepping.specs.ps_meaning.Evaluation.{read_line, at_end}
 use Rattle.ps_gen.specs.Units.{unit_of}
 use Rattle.ps_stepping.specs.Config.{constants_in, constant_at}

@@ -6,9 +6,9 @@ use Rattle.ps_gen.specs.ps_base.declared.instr.Instr.TheVariants as instr
 use Rattle.ps_stepping.specs.text_forms.Forms.{forms_of}
 use Rattle.ps_type_text.specs.Texts.{Field}
 use Rattle.ps_typing_laws.specs.ps_typing.WellTyped.{Local}
-use Rattle.ps_stepping.specs.ps_meaning.Values.{Value}
-use Rattle.ps_stepping.specs.ps_meaning.Objects.{Heap, Object, Structure, Elements, Scope, object_at, with_new, new_number}
-use Rattle.ps_stepping.specs.ps_meaning.Scopes.{first_value, new_scope, scope_at}
+use Rattle.ps_stepping.specs.ps_heap.Values.{Value}
+use Rattle.ps_stepping.specs.ps_heap.Objects.{Heap, Object, Structure, Elements, Scope, Keyed, object_at, with_new, new_number}
+use Rattle.ps_stepping.specs.ps_heap.Scopes.{first_value, new_scope, scope_at}
 use Rattle.ps_stepping.specs.ps_meaning.Meaning.{Frame, Store, State, Outcome, Value_is, Ends, Meaning, after, ◌>>=◌, enter, back_in, scoped, and_object}
 use Rattle.ps_stepping.specs.Config.{constants_in, constant_at}
 use Rattle.ps_stepping.specs.Machine.{Step, on, act}
@@ -35,6 +35,7 @@ scope_kept : (bytes : List ℕ) (parent : Option ℕ) (names : List Value) (now 
     (others : List Value) × (now ≡ Scope bytes parent others)
 scope_kept bytes parent names (Structure class values) h = absurd h
 scope_kept bytes parent names (Elements other low values) h = absurd h
+scope_kept bytes parent names (Keyed table) h = absurd h
 scope_kept bytes parent names (Scope other round others) h =
     (others, ap (λ (t : List ℕ). Scope t round others) h.0 ∙ ap (λ (p : Option ℕ). Scope bytes p others) h.1)
 

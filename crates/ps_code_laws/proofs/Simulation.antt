@@ -20,13 +20,13 @@ use Rattle.ps_gen.specs.ps_program.Node as node
 use Rattle.ps_gen.specs.ps_program.Parts.{Part, operand, label, branch, fold_all, fold_arms}
 use Rattle.ps_gen.specs.ps_program.Slots.{reaches, depth}
 use Rattle.ps_typing_laws.specs.ps_typing.Checking.{isnt_void}
-use Rattle.ps_stepping.specs.ps_meaning.Operators.{neg_of, arith_of}
+use Rattle.ps_stepping.specs.ps_heap.Operators.{neg_of, arith_of}
 use Rattle.ps_soundness.specs.Shapes.{IsOf, AreOf, Grows}
 use Rattle.ps_soundness.proofs.Growing.{grows_not, grows_then, of_kept}
 use Rattle.ps_soundness.proofs.Combining.{Standing, sound_then}
-use Rattle.ps_stepping.specs.ps_meaning.Objects.{Heap}
-use Rattle.ps_stepping.specs.ps_meaning.Event.{Trapped}
-use Rattle.ps_stepping.specs.ps_meaning.Values.{Value, Num, Flag, Text, Nil, Procedure, Nothing, as_written, number_of, word_of, flag_of, bytes_of, shown}
+use Rattle.ps_stepping.specs.ps_heap.Objects.{Heap}
+use Rattle.ps_stepping.specs.ps_heap.Ends.{Trapped}
+use Rattle.ps_stepping.specs.ps_heap.Values.{Value, Num, Flag, Text, Nil, Procedure, Nothing, as_written, number_of, word_of, flag_of, bytes_of, shown}
 use Rattle.ps_stepping.specs.ps_meaning.Meaning.{Frame, Store, State, Meaning, give, after, ◌>>=◌, choose, answer, made_text, made_procedure, written, and_closure, set}
 use Rattle.ps_stepping.specs.ps_meaning.Evaluation.{compares, join_meant, part_meant, make_meant, elements_meant, fill_meant, set_field_meant, element_meant, set_element_meant, call_meant, eval, eval_all, eval_each, eval_arms, eval_labels}
 use Rattle.ps_gen.specs.ps_emitter.Choices as choice

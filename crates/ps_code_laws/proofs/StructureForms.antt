@@ -7,8 +7,8 @@ use Rattle.ps_gen.specs.ps_base.declared.line.Line.{Line}
 use Rattle.ps_gen.specs.ps_base.declared.instr.Instr.TheVariants as instr
 use Rattle.ps_stepping.specs.text_forms.declared.forms.Form.{Form}
 use Rattle.ps_stepping.specs.text_forms.Forms.{forms_of, form_in}
-use Rattle.ps_stepping.specs.ps_meaning.Values.{Value, Num, Flag, number_of, word_of}
-use Rattle.ps_stepping.specs.ps_meaning.Objects.{is_class, field_of, with_field}
+use Rattle.ps_stepping.specs.ps_heap.Values.{Value, Num, Flag, number_of, word_of}
+use Rattle.ps_stepping.specs.ps_heap.Objects.{is_class, field_of, with_field}
 use Rattle.ps_stepping.specs.ps_meaning.Meaning.{give, with_heap, put_heap}
 use Rattle.ps_stepping.specs.ps_meaning.Evaluation.{kept_as, field_meant, set_field_meant}
 use Rattle.ps_gen.specs.ps_emitter.Choices as choice

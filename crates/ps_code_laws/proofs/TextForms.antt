@@ -4,8 +4,8 @@ use Rattle.std.specs.Fmt.{signed_decimal}
 use Rattle.ps_gen.specs.ps_base.TyView as types
 use Rattle.ps_gen.specs.ps_base.declared.line.Line.{Line}
 use Rattle.ps_gen.specs.ps_base.declared.instr.Instr.TheVariants as instr
-use Rattle.ps_stepping.specs.ps_meaning.Values.{Value, Num, Text, word_of, bytes_of}
-use Rattle.ps_stepping.specs.ps_meaning.Texts.{join_of, part_of}
+use Rattle.ps_stepping.specs.ps_heap.Values.{Value, Num, Text, word_of, bytes_of}
+use Rattle.ps_stepping.specs.ps_heap.Texts.{join_of, part_of}
 use Rattle.ps_stepping.specs.ps_meaning.Meaning.{give, made_text}
 use Rattle.ps_stepping.specs.ps_meaning.Evaluation.{join_meant, part_meant}
 use Rattle.ps_soundness.specs.Shapes.{IsOf}

@@ -9,9 +9,8 @@ use Rattle.ps_type_text.specs.Texts.{type_text}
 use Rattle.ps_stepping.specs.text_forms.declared.forms.Form.{Form}
 use Rattle.ps_stepping.specs.text_forms.Forms.{element_of}
 use Rattle.ps_stepping.proofs.of_text_forms.ClassForms.{element-told}
-use Rattle.ps_stepping.specs.ps_meaning.Values.{Value, Num, Vector, word_of}
-use Rattle.ps_stepping.specs.ps_meaning.Objects.{Heap, filled_vector, vector_in, type_in, with_element, low_of, high_of}
-use Rattle.ps_stepping.specs.ps_meaning.Objects.{element_of as element_at}
+use Rattle.ps_stepping.specs.ps_heap.Values.{Value, Num, Vector, word_of}
+use Rattle.ps_stepping.specs.ps_heap.Objects.{Heap, filled_vector, vector_in, type_in, with_element, low_of, high_of, element_of as element_at}
 use Rattle.ps_stepping.specs.ps_meaning.Meaning.{give, with_heap, put_heap, made}
 use Rattle.ps_stepping.specs.ps_meaning.Evaluation.{kept_as, fill_meant, element_meant, set_element_meant, bound_meant}
 use Rattle.ps_gen.specs.ps_emitter.Choices as choice

@@ -1,8 +1,8 @@
 -- What the machine holds for what the meaning holds: each procedure is the unit of its body, and all else stays.
 use Rattle.std.specs.Prelude.{List, map}
 use Rattle.ps_gen.specs.Units.{unit_of}
-use Rattle.ps_stepping.specs.ps_meaning.Values.{Value, Procedure, Routine, as_written, as_compiled, word_of}
-use Rattle.ps_stepping.specs.ps_meaning.Objects.{Heap, Object, Structure, Elements, Scope}
+use Rattle.ps_stepping.specs.ps_heap.Values.{Value, Procedure, Routine, as_written, as_compiled, word_of}
+use Rattle.ps_stepping.specs.ps_heap.Objects.{Heap, Object, Structure, Elements, Scope, Keyed}
 use Rattle.ps_stepping.specs.ps_meaning.Meaning.{Frame, Store}
 use Rattle.ps_stepping.specs.Config.{Locals}
 
@@ -21,6 +21,7 @@ abbrev pub compiled_object : Object → Object
 compiled_object (Structure class fields) = Structure class (compiled_all fields)
 compiled_object (Elements ty low elements) = Elements ty low (compiled_all elements)
 compiled_object (Scope text parent names) = Scope text parent (compiled_all names)
+compiled_object (Keyed table) = Keyed table
 
 abbrev pub compiled_heap : Heap → Heap
 compiled_heap heap = map compiled_object heap

@@ -6,8 +6,8 @@ use Rattle.ps_gen.specs.ps_program.Node.{Node, Nodes, none, more, Arms, no_arms,
 use Rattle.ps_gen.specs.ps_program.Node as node
 use Rattle.ps_gen.specs.ps_program.Slots.{slot_count}
 use Rattle.ps_type_text.specs.Texts.{Field}
-use Rattle.ps_stepping.specs.ps_meaning.Values.{Value, Procedure, as_written}
-use Rattle.ps_stepping.specs.ps_meaning.Objects.{Heap, Object, Structure, Elements, Scope}
+use Rattle.ps_stepping.specs.ps_heap.Values.{Value, Procedure, as_written}
+use Rattle.ps_stepping.specs.ps_heap.Objects.{Heap, Object, Structure, Elements, Scope, Keyed}
 use Rattle.ps_stepping.specs.ps_meaning.Meaning.{Frame}
 use Rattle.ps_soundness.specs.Valued.{IsValued}
 use Rattle.ps_soundness.specs.Shapes.{type_of_body}
@@ -77,6 +77,7 @@ abbrev pub ObjectIs : (BodyNode → Type 0) → Object → Type 0
 ObjectIs P (Structure class fields) = ValuesAre P fields
 ObjectIs P (Elements ty low elements) = ValuesAre P elements
 ObjectIs P (Scope text parent names) = ValuesAre P names
+ObjectIs P (Keyed table) = Unit {0}
 
 abbrev pub HeapIs : (BodyNode → Type 0) → Heap → Type 0
 HeapIs P heap = AllByRecursion (ObjectIs P) heap

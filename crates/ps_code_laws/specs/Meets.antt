@@ -5,12 +5,13 @@ use Rattle.ps_gen.specs.ps_base.TyView as types
 use Rattle.ps_gen.specs.ps_base.CodeUnit.{UnitView}
 use Rattle.ps_gen.specs.ps_program.Node.{Param, BodyNode, body}
 use Rattle.ps_type_text.specs.Texts.{Field}
-use Rattle.ps_stepping.specs.ps_meaning.Values.{Value, word_of}
-use Rattle.ps_stepping.specs.ps_meaning.Event.{Event, Finish, Done}
+use Rattle.ps_stepping.specs.ps_heap.Values.{Value, word_of}
+use Rattle.ps_stepping.specs.ps_heap.Ends.{Done}
+use Rattle.ps_stepping.specs.ps_meaning.Event.{Event, Finish}
 use Rattle.ps_stepping.specs.ps_meaning.Meaning.{Frame, Store, State, Outcome, Value_is, Ends}
 use Rattle.ps_stepping.specs.ps_meaning.Frames.{frame_of_call}
 use Rattle.ps_stepping.specs.ps_meaning.Calls.{body_meant, context}
-use Rattle.ps_stepping.specs.ps_meaning.Objects.{Heap}
+use Rattle.ps_stepping.specs.ps_heap.Objects.{Heap}
 use Rattle.ps_soundness.specs.Shapes.{IsOf, AreScopes, IsTypedHeap}
 use Rattle.ps_gen.specs.Units.{unit_of}
 use Rattle.ps_stepping.specs.Config.{frame_words, Caller, Config, frame_in}

@@ -7,7 +7,7 @@ ghost use Rattle.ps_type_text.specs.Texts.{Field};
 ghost use Rattle.ps_typing_laws.specs.ps_typing.Program.{bodies, first_complex};
 ghost use Rattle.ps_typing_laws.specs.ps_typing.WellTyped.{IsBody, IsWellTyped};
 ghost use Rattle.ps_stepping.specs.ps_meaning.Runs.{fresh_store, run_events};
-ghost use Rattle.ps_stepping.specs.ps_meaning.Weights.{code_weight};
+ghost use Rattle.ps_stepping.specs.ps_heap.Weights.{code_weight};
 ghost use Rattle.ps_soundness.specs.Running.{BodyRuns};
 ghost use Rattle.ps_soundness.specs.Shapes.{type_of_body};
 ghost use Rattle.ps_soundness.specs.Valued.{IsValued};

@@ -17,10 +17,11 @@ use Rattle.ps_program.specs.Slots.{slot_count}
 use Rattle.ps_causes.specs.ps_typing.WellTyped.{IsWellTyped}
 use Rattle.ps_code_laws.specs.ps_typing_laws.Counted.{IsCounted}
 use Rattle.ps_code_laws.proofs.of_ps_typing_laws.Tracked.{program_counted}
-use Rattle.ps_causes.specs.ps_meaning.Event.{End, Done, Event, Finish, outputs, output_of, report_of, status_of}
+use Rattle.ps_causes.specs.ps_heap.Ends.{End, Done, report_of, status_of}
+use Rattle.ps_causes.specs.ps_meaning.Event.{Event, Finish, outputs, output_of}
 use Rattle.ps_causes.specs.ps_meaning.Meaning.{Outcome, Value_is, Ends}
 use Rattle.ps_causes.specs.ps_meaning.Runs.{run_events, run_end, outcome_of, all_events, end_reached, fresh_store}
-use Rattle.ps_causes.specs.ps_meaning.Weights.{code_weight}
+use Rattle.ps_causes.specs.ps_heap.Weights.{code_weight}
 use Rattle.ps_causes.specs.ps_typing.Program.{bodies, first_complex}
 use Rattle.ps_code_laws.specs.ps_soundness.Running.{BodyRuns}
 use Rattle.ps_code_laws.specs.ps_soundness.Shapes.{type_of_body}

@@ -3,7 +3,7 @@ ghost use Rattle.std.specs.Prelude.{◌≡◌, ◌≢◌, ◌*◌, [], List, ℕ
 ghost use Rattle.ps_base.specs.CodeUnit.{unit_view};
 ghost use Rattle.ps_program.specs.Node.{BodyNode};
 ghost use Rattle.ps_port.specs.ps_outside.Outside.{LeavesSame};
-ghost use Rattle.ps_causes.specs.ps_meaning.Event.{status_of};
+ghost use Rattle.ps_causes.specs.ps_heap.Ends.{status_of};
 ghost use Rattle.machine_run.specs.obj_layout.declared.vault.VaultFault.TheVariants as vault_fault;
 ghost use Rattle.machine_run.specs.swizzle.declared.fault.SwizzleFault.TheVariants.{AreaFull, Vault};
 ghost use Rattle.machine_run.specs.machine_core.Stepped.{end_of};

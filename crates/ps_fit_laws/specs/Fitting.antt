@@ -3,8 +3,8 @@
 use Rattle.std.specs.Prelude.{◌≡◌, true}
 use Rattle.ps_leaf_laws.specs.ps_program.Node.{Node, Nodes, none, more, Arms, no_arms, more_arms, arm, BodyNode, body}
 use Rattle.ps_leaf_laws.specs.ps_program.Node as node
-use Rattle.ps_leaf_laws.specs.ps_meaning.Operators.{is_int}
-use Rattle.ps_leaf_laws.specs.ps_meaning.Texts.{is_string}
+use Rattle.ps_leaf_laws.specs.ps_heap.Operators.{is_int}
+use Rattle.ps_leaf_laws.specs.ps_heap.Texts.{is_string}
 use Rattle.ps_leaf_laws.specs.ps_soundness.Valued.{IsValued}
 use Rattle.ps_leaf_laws.specs.ps_soundness.Shapes.{type_of_body}
 use Rattle.ps_leaf_laws.specs.ps_soundness.Running.{IsClassText, HasField, HasAsMany}

@@ -17,8 +17,8 @@ use Rattle.ps_parse.specs.ps_symbols.Kinds.{kind_of}
 use Rattle.ps_parse.specs.ps_symbols.Symbols.{symbols}
 use Rattle.ps_parse.proofs.of_ps_symbols.SymbolLemmas.{leaf, not_word, not_mark, all_symbols}
 use Rattle.ps_soundness.specs.ps_type_text.Texts.{IsName, is_name_byte}
-use Rattle.ps_soundness.specs.ps_meaning.Operators.{is_int}
-use Rattle.ps_soundness.specs.ps_meaning.Texts.{is_string}
+use Rattle.ps_soundness.specs.ps_heap.Operators.{is_int}
+use Rattle.ps_soundness.specs.ps_heap.Texts.{is_string}
 
 -- what is so of the bytes of a token of this kind
 abbrev pub FitsAs : List ℕ → Kind → Token → Type 0

@@ -5,8 +5,8 @@ use Rattle.std.specs.List.{AllByRecursion}
 use Rattle.ps_parse.specs.ps_tree.Phrase.{GroupAt, Phrase, at, Form, Phrases, none, more, MaybePhrase, absent, present, Arm, arm, Arms, no_arms, more_arms, WriteItem, item, WriteItems, no_items, more_items}
 use Rattle.ps_parse.specs.ps_tree.Phrase as form
 use Rattle.ps_soundness.specs.ps_type_text.Texts.{IsName}
-use Rattle.ps_soundness.specs.ps_meaning.Operators.{is_int}
-use Rattle.ps_soundness.specs.ps_meaning.Texts.{is_string}
+use Rattle.ps_soundness.specs.ps_heap.Operators.{is_int}
+use Rattle.ps_soundness.specs.ps_heap.Texts.{is_string}
 use Rattle.ps_soundness.specs.Valued.{IsValued, IsGiven}
 
 -- the fields of a structure, or the parameters of a procedure

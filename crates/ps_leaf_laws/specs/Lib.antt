@@ -8,5 +8,6 @@ pub use Rattle.ps_parse.specs.ps_tree as ps_tree
 pub use Rattle.ps_parse.specs.ps_reader as ps_reader
 pub use Rattle.ps_parse.specs as ps_parse
 pub use Rattle.ps_soundness.specs.ps_typing as ps_typing
+pub use Rattle.ps_soundness.specs.ps_heap as ps_heap
 pub use Rattle.ps_soundness.specs.ps_meaning as ps_meaning
 pub use Rattle.ps_soundness.specs as ps_soundness

@@ -3,9 +3,9 @@ use Rattle.std.proofs.Common.{◌≡◌, ℕ, List, [], ◌∷◌, refl, pos, tr
 use Rattle.std.specs.Prelude.{codes, negsuc}
 use Rattle.std.specs.declared.cmp.Ordering.TheVariants.{Less, Greater}
 use Rattle.ps_base.specs.declared.trap.Trap.TheVariants as trap
-use Rattle.ps_meaning.specs.Values.{Num, Flag, Nil, Pointer, Vector}
-use Rattle.ps_meaning.specs.Texts.{Yields, Fails, join_of, part_of, order_of, is_same_text}
-use Rattle.ps_meaning.specs.Objects.{Heap, Structure, Elements, is_class, field_of, with_field, vector_of, filled_vector, element_of, with_element, low_of, high_of, is_one_object}
+use Rattle.ps_heap.specs.Values.{Num, Flag, Nil, Pointer, Vector}
+use Rattle.ps_heap.specs.Texts.{Yields, Fails, join_of, part_of, order_of, is_same_text}
+use Rattle.ps_heap.specs.Objects.{Heap, Structure, Elements, is_class, field_of, with_field, vector_of, filled_vector, element_of, with_element, low_of, high_of, is_one_object}
 
 joined : join_of (codes "ab") (codes "c") ≡ Yields (codes "abc")
 joined = refl

@@ -1,6 +1,6 @@
 -- Programs with procedures, scopes and input, whose events are computed.
 use Rattle.std.proofs.Common.{◌≡◌, ℕ, List, [], ◌∷◌, refl, pos, false, Option, Some, None}
-use Rattle.std.specs.Prelude.{codes, map, ◌+◌, replicate}
+use Rattle.std.specs.Prelude.{codes, map, ◌+◌}
 use Rattle.std.specs.Fmt.{signed_decimal, digits}
 use Rattle.text_forms.specs.Forms.{forms_of, forms_from, form_here, form_in, begins, element_of, is_text}
 use Rattle.ps_base.specs.TyView.{TyView}
@@ -12,13 +12,13 @@ use Rattle.ps_typing.specs.ps_program.declared.place.Place.{Place}
 use Rattle.ps_typing.specs.ps_program.declared.place.Place.TheVariants.{Plain, Kept}
 use Rattle.ps_typing.specs.ps_program.Node.{Param, Node, Nodes, none, more, BodyNode, body}
 use Rattle.ps_typing.specs.ps_program.Node as node
-use Rattle.ps_meaning.specs.Event.{Event, Out, Finish, Done, Trapped, OutOfTurns}
-use Rattle.ps_meaning.specs.Texts.{Yields, Fails, line_of, behind_line, line_read}
-use Rattle.ps_meaning.specs.Objects.{vector_of, with_element}
-use Rattle.ps_meaning.specs.Objects.{element_of as element_at}
-use Rattle.ps_meaning.specs.Scopes.{new_scope, scope_out, name_in, with_name}
+use Rattle.ps_heap.specs.Ends.{Done, Trapped, OutOfTurns}
+use Rattle.ps_meaning.specs.Event.{Event, Out, Finish}
+use Rattle.ps_heap.specs.Texts.{line_of, behind_line, line_read}
+use Rattle.ps_heap.specs.Objects.{vector_of, with_element, element_of as element_at}
+use Rattle.ps_heap.specs.Scopes.{new_scope, scope_out, name_in, with_name}
 use Rattle.ps_meaning.specs.Meaning.{give, stop, after, ◌>>=◌, choose, answer, attempt, with_heap, put_heap, made, made_text, made_procedure, with_input, put_input, enter, back_in, back_to, scoped, in_frame, emit, written, take_turn, get, set}
-use Rattle.ps_meaning.specs.Weights.{code_weight}
+use Rattle.ps_heap.specs.Weights.{code_weight}
 use Rattle.ps_meaning.specs.Evaluation.{for_turns, for_loop, for_meant, call_meant, read_line, at_end, eval}
 use Rattle.ps_meaning.specs.Frames.{arguments_on, frame_of_call, keep, keep_all}
 use Rattle.ps_meaning.specs.Calls.{body_meant, call_within, context}
@@ -225,12 +225,3 @@ empty_lines_are_read : told_with (codes "\n\n") 0 of_lines ≡ out (codes "false
 unfolding digits eval give stop after ◌>>=◌ choose attempt made_text with_input put_input emit written read_line at_end line_of behind_line line_read
     run_events outcome_of all_events fresh_frame fresh_state
 empty_lines_are_read = refl
-
--- a line that is longer than a string may be
-long_line : line_read (replicate 65536 42) ≡ Fails trap.TooLong
-unfolding line_read line_of
-long_line = refl
-
-longest_line : line_read (replicate 65535 42) ≡ Yields (replicate 65535 42)
-unfolding line_read line_of
-longest_line = refl

@@ -12,11 +12,11 @@ use Rattle.ps_base.specs.declared.operator.Relation.TheVariants.{Less}
 use Rattle.ps_typing.specs.ps_program.declared.place.Place.TheVariants.{Plain}
 use Rattle.ps_typing.specs.ps_program.Node.{Node, Nodes, none, more, Arms, no_arms, more_arms, arm, BodyNode, body}
 use Rattle.ps_typing.specs.ps_program.Node as node
-use Rattle.ps_meaning.specs.Event.{Event, End, Out, Turn, Finish, Done, Trapped, OutOfTurns}
+use Rattle.ps_heap.specs.Ends.{End, Done, Trapped, OutOfTurns}
+use Rattle.ps_meaning.specs.Event.{Event, Out, Turn, Finish}
 use Rattle.ps_meaning.specs.Meaning.{give, stop, after, ◌>>=◌, answer, attempt, with_heap, put_heap, made, made_text, emit, written, take_turn, get, set, choose}
-use Rattle.ps_meaning.specs.Weights.{text_weight, code_weight}
-use Rattle.ps_meaning.specs.Objects.{field_of, with_field, vector_of, with_element, low_of, high_of}
-use Rattle.ps_meaning.specs.Objects.{element_of as element_at}
+use Rattle.ps_heap.specs.Weights.{text_weight, code_weight}
+use Rattle.ps_heap.specs.Objects.{field_of, with_field, vector_of, with_element, low_of, high_of, element_of as element_at}
 use Rattle.ps_meaning.specs.Evaluation.{while_turns, for_turns, for_loop, for_meant, kept_all, eval}
 use Rattle.ps_meaning.specs.Runs.{run_events, run_end, outcome_of, all_events, end_reached, fresh_frame, fresh_state}
 

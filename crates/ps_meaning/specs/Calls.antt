@@ -1,8 +1,8 @@
 -- What a body does that is called.
 use Rattle.std.specs.Prelude.{ℕ, zero, suc, List}
 use Rattle.ps_typing.specs.ps_program.Node.{BodyNode, body}
-use Rattle.ps_meaning.specs.Values.{Value}
-use Rattle.ps_meaning.specs.Event.{OutOfTurns}
+use Rattle.ps_heap.specs.Values.{Value}
+use Rattle.ps_heap.specs.Ends.{OutOfTurns}
 use Rattle.ps_meaning.specs.Meaning.{Meaning, stop, ◌>>=◌, in_scope, take_turn}
 use Rattle.ps_meaning.specs.Frames.{keep_all}
 use Rattle.ps_meaning.specs.Evaluation.{Context, eval}

@@ -16,14 +16,13 @@ use Rattle.ps_typing.specs.ps_program.declared.place.Place.{Place}
 use Rattle.ps_typing.specs.ps_program.declared.place.Place.TheVariants.{Plain}
 use Rattle.ps_typing.specs.ps_program.Node.{Node, Nodes, none, more, Arms, no_arms, more_arms, arm, BodyNode}
 use Rattle.ps_typing.specs.ps_program.Node as node
-use Rattle.ps_meaning.specs.Operators.{is_int, is_same, neg_of, arith_of, relation_of}
-use Rattle.ps_meaning.specs.Event.{Trapped, OutOfTurns}
-use Rattle.ps_meaning.specs.Values.{Value, Num, Flag, Text, Nil, Pointer, Vector, Procedure, Nothing, as_written, word_of, flag_of, bytes_of, shown}
-use Rattle.ps_meaning.specs.Texts.{join_of, part_of, order_of, line_read, behind_line, is_at_end}
+use Rattle.ps_heap.specs.Operators.{is_int, is_same, neg_of, arith_of, relation_of}
+use Rattle.ps_heap.specs.Ends.{Trapped, OutOfTurns}
+use Rattle.ps_heap.specs.Values.{Value, Num, Flag, Text, Nil, Pointer, Vector, Procedure, Nothing, as_written, word_of, flag_of, bytes_of, shown}
+use Rattle.ps_heap.specs.Texts.{join_of, part_of, order_of, line_read, behind_line, is_at_end}
 pub use Rattle.ps_base.specs.Limits.{most_calls}
-pub use Rattle.ps_meaning.specs.Objects.{kept_as}
-use Rattle.ps_meaning.specs.Objects.{Structure, is_class, field_of, with_field, vector_of, filled_vector, vector_in, type_in, with_element, low_of, high_of, is_one_object}
-use Rattle.ps_meaning.specs.Objects.{element_of as element_at}
+pub use Rattle.ps_heap.specs.Objects.{kept_as}
+use Rattle.ps_heap.specs.Objects.{Structure, is_class, field_of, with_field, vector_of, filled_vector, vector_in, type_in, with_element, low_of, high_of, is_one_object, element_of as element_at}
 use Rattle.ps_meaning.specs.Meaning.{Meaning, give, stop, ◌>>=◌, choose, answer, attempt, with_heap, put_heap, made, made_text, made_procedure, with_input, put_input, in_scope, in_frame, written, take_turn, get, set, unbuilt}
 use Rattle.ps_meaning.specs.Frames.{frame_of_call}
 

@@ -5,7 +5,7 @@ use Rattle.ps_typing.specs.ps_program.declared.place.Place.{Place}
 use Rattle.ps_typing.specs.ps_program.declared.place.Place.TheVariants.{Plain, Kept}
 use Rattle.ps_typing.specs.ps_program.Node.{Param, BodyNode, body}
 use Rattle.ps_typing.specs.Placing.{is_number}
-use Rattle.ps_meaning.specs.Values.{Value, Num, Nil, Nothing}
+use Rattle.ps_heap.specs.Values.{Value, Num, Nil, Nothing}
 use Rattle.ps_meaning.specs.Meaning.{Meaning, Frame, give, ◌>>=◌, set}
 
 -- whether a value of this type stands on the stack of numbers, or on that of references

@@ -1,11 +1,4 @@
-pub mod Operators
 pub mod Event
-pub mod Answers
-pub mod Values
-pub mod Texts
-pub mod Objects
-pub mod Scopes
-pub mod Weights
 pub mod Meaning
 pub mod Frames
 pub mod Evaluation
@@ -15,3 +8,4 @@ pub use Rattle.ps_base.specs as ps_base
 pub use Rattle.ps_typing.specs.ps_program as ps_program
 pub use Rattle.text_forms.specs as text_forms
 pub use Rattle.ps_typing.specs as ps_typing
+pub use Rattle.ps_heap.specs as ps_heap

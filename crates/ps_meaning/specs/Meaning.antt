@@ -8,13 +8,14 @@ use Rattle.ps_typing.specs.ps_program.declared.place.Place.{Place}
 use Rattle.ps_typing.specs.ps_program.declared.place.Place.TheVariants.{Plain, Kept}
 use Rattle.ps_typing.specs.ps_program.Node.{BodyNode}
 use Rattle.ps_typing.specs.Placing.{is_number}
-use Rattle.ps_meaning.specs.Values.{Value, Num, Text, Procedure, Nothing, as_written}
-use Rattle.ps_meaning.specs.Operators.{Answer, Gives, Traps}
-use Rattle.ps_meaning.specs.Texts.{Attempt, Yields, Fails}
-use Rattle.ps_meaning.specs.Objects.{Heap, Object, with_new, new_number}
-use Rattle.ps_meaning.specs.Scopes.{new_scope, scope_out, name_in, with_name}
-use Rattle.ps_meaning.specs.Weights.{own_weight, text_weight, closure_weight}
-use Rattle.ps_meaning.specs.Event.{End, Trapped, OutOfTurns, Event, Out, Turn}
+use Rattle.ps_heap.specs.Values.{Value, Num, Text, Procedure, Nothing, as_written}
+use Rattle.ps_heap.specs.Operators.{Answer, Gives, Traps}
+use Rattle.ps_heap.specs.Texts.{Attempt, Yields, Fails}
+use Rattle.ps_heap.specs.Objects.{Heap, Object, with_new, new_number}
+use Rattle.ps_heap.specs.Scopes.{new_scope, kept_name, with_kept_name}
+use Rattle.ps_heap.specs.Weights.{own_weight, text_weight, closure_weight}
+use Rattle.ps_heap.specs.Ends.{End, Trapped, OutOfTurns}
+use Rattle.ps_meaning.specs.Event.{Event, Out, Turn}
 
 -- The locals of a body, ints and bools in one row and all else in the other, and the scope that a clause stands in.
 pub record Frame : Type 0 where
@@ -207,13 +208,6 @@ frame_with frame ty slot v =
 -- Tables and databases have no meaning here yet. No program is run that has a form or a call over them.
 unfoldable pub unbuilt : Meaning
 unbuilt = give Nothing
-
--- the name at a position of the scope so many levels out from a scope: its value, and the heap where it has another one
-abbrev pub kept_name : Heap → Option ℕ → ℕ → ℕ → Value
-kept_name heap scope up position = name_in heap (scope_out heap scope up) position
-
-abbrev pub with_kept_name : Heap → Option ℕ → ℕ → ℕ → Value → Heap
-with_kept_name heap scope up position v = with_name heap (scope_out heap scope up) position v
 
 -- the value of the name at a place, which is of this type
 unfoldable pub get : Place → TyView → Meaning

@@ -1,9 +1,10 @@
 -- The events of a run of a program, and its end.
 use Rattle.std.specs.Prelude.{ℕ, pos, List, [], ◌∷◌, ◌++◌, None}
 use Rattle.ps_typing.specs.ps_program.Node.{BodyNode, body}
-use Rattle.ps_meaning.specs.Values.{Num, Nil}
-use Rattle.ps_meaning.specs.Weights.{code_weight}
-use Rattle.ps_meaning.specs.Event.{End, Done, Event, Finish}
+use Rattle.ps_heap.specs.Values.{Num, Nil}
+use Rattle.ps_heap.specs.Weights.{code_weight}
+use Rattle.ps_heap.specs.Ends.{End, Done}
+use Rattle.ps_meaning.specs.Event.{Event, Finish}
 use Rattle.ps_meaning.specs.Meaning.{Outcome, Value_is, Ends, Frame, Store, State}
 use Rattle.ps_meaning.specs.Evaluation.{eval}
 use Rattle.ps_meaning.specs.Calls.{context}

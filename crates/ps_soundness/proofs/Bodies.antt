@@ -8,8 +8,8 @@ use Rattle.ps_type_text.specs.Texts.{Field}
 use Rattle.ps_meaning.specs.ps_typing.Placing.{is_number}
 use Rattle.ps_meaning.specs.ps_typing.WellTyped.{Env, Free, Local, next_slot, behind_one, types_of_params, Takes, IsTyped, IsBody}
 use Rattle.ps_meaning.specs.ps_typing.WellTyped as typed
-use Rattle.ps_meaning.specs.Values.{Value, Num, Nil}
-use Rattle.ps_meaning.specs.Objects.{Heap}
+use Rattle.ps_heap.specs.Values.{Value, Num, Nil}
+use Rattle.ps_heap.specs.Objects.{Heap}
 use Rattle.ps_meaning.specs.Meaning.{Frame, State, Outcome, Value_is, Ends, stop, local_of}
 use Rattle.ps_meaning.specs.Frames.{arguments_on, frame_of_call, keep, keep_all}
 use Rattle.ps_meaning.specs.Evaluation.{Context, eval}

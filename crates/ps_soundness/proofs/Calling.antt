@@ -9,11 +9,11 @@ use Rattle.ps_type_text.specs.Texts.{Field, class_text, IsNamed}
 use Rattle.ps_meaning.specs.ps_program.Node.{Param, Node, BodyNode, body}
 use Rattle.ps_meaning.specs.ps_program.declared.place.Place.TheVariants.{Kept}
 use Rattle.ps_meaning.specs.ps_typing.WellTyped.{Local, At, IsOfType, and_kept, types_of_params, IsBody}
-use Rattle.ps_meaning.specs.Values.{Value, Procedure, as_written}
-use Rattle.ps_meaning.specs.Texts.{Yields, Fails, is_string, line_of, line_read, behind_line}
-use Rattle.ps_meaning.specs.Objects.{Heap, with_new, new_number}
-use Rattle.ps_meaning.specs.Scopes.{new_scope}
-use Rattle.ps_meaning.specs.Meaning.{Frame, State, Outcome, Value_is, Ends, Meaning, ◌>>=◌, after, get, set as set_at, with_kept_name, with_input, put_input, made_procedure, enter, back_in, back_to, scoped, in_frame}
+use Rattle.ps_heap.specs.Values.{Value, Procedure, as_written}
+use Rattle.ps_heap.specs.Texts.{Yields, Fails, is_string, line_of, line_read, behind_line}
+use Rattle.ps_heap.specs.Objects.{Heap, with_new, new_number}
+use Rattle.ps_heap.specs.Scopes.{new_scope, with_kept_name}
+use Rattle.ps_meaning.specs.Meaning.{Frame, State, Outcome, Value_is, Ends, Meaning, ◌>>=◌, after, get, set as set_at, with_input, put_input, made_procedure, enter, back_in, back_to, scoped, in_frame}
 use Rattle.ps_meaning.specs.Frames.{frame_of_call}
 use Rattle.ps_meaning.specs.Evaluation.{Context, most_calls, call_meant, read_line, at_end}
 use Rattle.ps_soundness.specs.Running.{IsScopeText, BodyRuns}

@@ -11,8 +11,8 @@ use Rattle.ps_meaning.specs.ps_program.Node as node
 use Rattle.ps_type_text.specs.Texts.{Field, class_text}
 use Rattle.ps_meaning.specs.ps_typing.WellTyped.{Env, Free, Local, Claim, behind_loop, with_scopes, types_of_params, Declares, IsTyped, AreTyped, AreItems}
 use Rattle.ps_meaning.specs.ps_typing.WellTyped as typed
-use Rattle.ps_meaning.specs.Values.{Value, Num, Nothing}
-use Rattle.ps_meaning.specs.Objects.{Heap}
+use Rattle.ps_heap.specs.Values.{Value, Num, Nothing}
+use Rattle.ps_heap.specs.Objects.{Heap}
 use Rattle.ps_meaning.specs.Meaning.{Frame, State, Outcome, Value_is, Ends, Meaning}
 use Rattle.ps_meaning.specs.Evaluation.{Context, eval, eval_all}
 use Rattle.ps_soundness.specs.Running.{IsPlace, IsScopeText, RunsIn, Runs, AllRunIn}

@@ -6,11 +6,11 @@ use Rattle.ps_meaning.specs.ps_base.declared.line.Line.{Line}
 use Rattle.ps_meaning.specs.ps_program.declared.place.Place.TheVariants.{Plain}
 use Rattle.ps_type_text.specs.Texts.{Field}
 use Rattle.ps_meaning.specs.ps_typing.WellTyped.{Some_is, Env, Local, IsLocal}
-use Rattle.ps_meaning.specs.Operators.{Answer, Gives, Traps}
-use Rattle.ps_meaning.specs.Event.{End, Trapped}
-use Rattle.ps_meaning.specs.Values.{Value, Num, Nothing}
-use Rattle.ps_meaning.specs.Texts.{Attempt, Yields, Fails, is_string}
-use Rattle.ps_meaning.specs.Objects.{Heap, Object, object_at, with_new, new_number}
+use Rattle.ps_heap.specs.Operators.{Answer, Gives, Traps}
+use Rattle.ps_heap.specs.Ends.{End, Trapped}
+use Rattle.ps_heap.specs.Values.{Value, Num, Nothing}
+use Rattle.ps_heap.specs.Texts.{Attempt, Yields, Fails, is_string}
+use Rattle.ps_heap.specs.Objects.{Heap, Object, object_at, with_new, new_number}
 use Rattle.ps_meaning.specs.Meaning.{Frame, Store, State, Outcome, Value_is, Ends, Meaning, give, stop, after, ◌>>=◌, choose, answer, attempt, with_heap, put_heap, made, made_text, emit, in_places, is_width, written, turned, with_turns, spent, take_turn, frame_with, get, set}
 use Rattle.ps_soundness.specs.Shapes.{IsOf, AreScopes, IsTypedObject, IsTypedHeap, AreLocals, Grows}
 use Rattle.ps_soundness.proofs.Operators.{GivesInt, OnYield}

@@ -11,10 +11,9 @@ use Rattle.ps_type_text.specs.Texts.{Field}
 use Rattle.ps_meaning.specs.ps_typing.Placing.{is_number}
 use Rattle.ps_meaning.specs.ps_typing.WellTyped.{At, IsOfType, Env, Free, Local, Claim, next_slot, behind_one, and_kept, types_of_params, Declares, IsTyped, AreTyped, AreItems, IsBody}
 use Rattle.ps_meaning.specs.ps_typing.WellTyped as typed
-use Rattle.ps_meaning.specs.Values.{Value, Procedure, as_written}
-use Rattle.ps_meaning.specs.Objects.{Heap}
-use Rattle.ps_meaning.specs.Meaning.{Frame, Meaning, ◌>>=◌, made_procedure, frame_with, set}
-use Rattle.ps_meaning.specs.Meaning.{with_local as local_with}
+use Rattle.ps_heap.specs.Values.{Value, Procedure, as_written}
+use Rattle.ps_heap.specs.Objects.{Heap}
+use Rattle.ps_meaning.specs.Meaning.{Frame, Meaning, ◌>>=◌, made_procedure, frame_with, set, with_local as local_with}
 use Rattle.ps_soundness.specs.Running.{IsPlace, BodyRuns}
 use Rattle.ps_soundness.specs.Free.{AllBelow}
 use Rattle.ps_soundness.specs.Shapes.{IsOf, type_of_body, IsProcedure, AreLocals, Grows}

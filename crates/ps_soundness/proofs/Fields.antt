@@ -7,10 +7,10 @@ use Rattle.ps_type_text.specs.Texts.{Field, type_text, class_text, IsNamed}
 use Rattle.ps_meaning.specs.text_forms.declared.forms.Form.{Form}
 use Rattle.ps_meaning.specs.text_forms.Classes.{form_of_type, form_of_field}
 use Rattle.ps_meaning.specs.text_forms.Forms.{forms_of, form_in, element_of}
-use Rattle.ps_meaning.proofs.of_text_forms.ClassForms.{class-told, element-told}
+use Rattle.ps_heap.proofs.of_text_forms.ClassForms.{class-told, element-told}
 use Rattle.ps_meaning.specs.ps_typing.WellTyped.{At, IsOfType}
-use Rattle.ps_meaning.specs.Values.{Value, Num, Flag}
-use Rattle.ps_meaning.specs.Objects.{Heap, value_at}
+use Rattle.ps_heap.specs.Values.{Value, Num, Flag}
+use Rattle.ps_heap.specs.Objects.{Heap, value_at}
 use Rattle.ps_meaning.specs.Evaluation.{kept_as, kept_all, kept_elements}
 use Rattle.ps_soundness.specs.Running.{HasField}
 use Rattle.ps_soundness.specs.Shapes.{IsOf, AreOf, IsTypedStructure}

@@ -7,8 +7,8 @@ use Rattle.std.specs.Prelude.{codes}
 use Rattle.ps_meaning.specs.ps_program.Node.{BodyNode}
 use Rattle.ps_type_text.specs.Texts.{Field, type_text, class_text}
 use Rattle.ps_meaning.specs.ps_typing.WellTyped.{Local}
-use Rattle.ps_meaning.specs.Values.{Value, Num, Flag, Text, Nil, Pointer, Vector, Procedure, as_written, Nothing}
-use Rattle.ps_meaning.specs.Objects.{Heap, Object, Structure, Elements, Scope, object_at, with_object, with_new, new_number}
+use Rattle.ps_heap.specs.Values.{Value, Num, Flag, Text, Nil, Pointer, Vector, Procedure, as_written, Nothing}
+use Rattle.ps_heap.specs.Objects.{Heap, Object, Structure, Elements, Scope, Keyed, object_at, with_object, with_new, new_number}
 use Rattle.ps_meaning.specs.Meaning.{Frame, local_of}
 use Rattle.ps_soundness.specs.Shapes.{is_given, HasValue, HaveValues, IsScopeAt, AreScopes, IsProcedure, AreNames, StayGiven, IsStructureAt, IsVectorAt, IsOf, AreOf, IsTypedObject, IsTypedHeap, AreLocals, IsSameSort, Stays, Grows}
 
@@ -54,6 +54,7 @@ same_sort : (object : Object) → IsSameSort object object
 same_sort (Structure class values) = refl
 same_sort (Elements text low values) = (refl, refl, refl)
 same_sort (Scope text parent names) = (refl, refl, stay_all names)
+same_sort (Keyed table) = tt
 
 sort_then : (a b c : Object) → IsSameSort a b → IsSameSort b c → IsSameSort a c
 sort_then (Structure class values) (Structure second others) (Structure third last) h k = k ∙ h
@@ -65,6 +66,9 @@ sort_then (Elements text low values) b c h k = absurd h
 sort_then (Scope text parent names) (Scope second round others) (Scope third up last) h k = (k.0 ∙ h.0, k.1 ∙ h.1, stay_then names others last h.2 k.2)
 sort_then (Scope text parent names) (Scope second round others) c h k = absurd k
 sort_then (Scope text parent names) b c h k = absurd h
+sort_then (Keyed table) (Keyed second) (Keyed third) h k = tt
+sort_then (Keyed table) (Keyed second) c h k = absurd k
+sort_then (Keyed table) b c h k = absurd h
 
 pub grows_not : (heap : Heap) → Grows heap heap
 grows_not heap id object e = record { now = object; is = e; sort = same_sort object }
@@ -188,6 +192,7 @@ object_kept heap new g (Elements text low values) h = record {
 }
 object_kept heap new g (Scope text parent names) h =
     record { fields = h.fields; named = h.named; text_is = h.text_is; are = names_kept heap new g h.fields names h.are }
+object_kept heap new g (Keyed table) h = absurd h
 
 -- an object more
 at_old : (heap : Heap) (id : ℕ) (new object : Object) → object_at heap id ≡ Some object → object_at (heap ++ new ∷ []) id ≡ Some object

@@ -6,10 +6,10 @@ use Rattle.ps_meaning.specs.ps_base.TyView as types
 use Rattle.ps_meaning.specs.ps_base.declared.line.Line.{Line}
 use Rattle.ps_meaning.specs.ps_program.declared.place.Place.{Place}
 use Rattle.ps_meaning.specs.ps_program.declared.place.Place.TheVariants.{Plain}
-use Rattle.ps_meaning.specs.Operators.{is_int, is_same}
-use Rattle.ps_meaning.specs.Event.{OutOfTurns}
-use Rattle.ps_meaning.specs.Values.{Value, Num, Nothing, word_of, flag_of}
-use Rattle.ps_meaning.specs.Objects.{Heap}
+use Rattle.ps_heap.specs.Operators.{is_int, is_same}
+use Rattle.ps_heap.specs.Ends.{OutOfTurns}
+use Rattle.ps_heap.specs.Values.{Value, Num, Nothing, word_of, flag_of}
+use Rattle.ps_heap.specs.Objects.{Heap}
 use Rattle.ps_meaning.specs.Meaning.{Meaning, ◌>>=◌, give, in_scope, set}
 use Rattle.ps_meaning.specs.Evaluation.{while_turns, Counting, is_up, goes_on, for_turns, for_loop, for_meant}
 use Rattle.ps_soundness.proofs.Combining.{Standing, Sound, later, sound_then, sound_nothing, sound_stop, sound_choose, sound_if, sound_turn}

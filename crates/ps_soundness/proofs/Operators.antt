@@ -13,9 +13,9 @@ use Rattle.ps_meaning.specs.ps_base.declared.trap.Trap.{Trap}
 use Rattle.ps_meaning.specs.ps_base.declared.trap.Trap.TheVariants.{Overflow, ZeroDivisor, TooLong, Substring}
 use Rattle.ps_meaning.specs.ps_base.declared.operator.Operator.{Operator}
 use Rattle.ps_meaning.specs.ps_base.declared.operator.Operator.TheVariants.{Add, Sub, Mul, Div, Rem}
-use Rattle.ps_meaning.specs.Operators.{Answer, Gives, Traps, is_int, in_range, is_same, neg_of, arith_of}
-use Rattle.ps_meaning.specs.Texts.{Attempt, Yields, Fails, is_string, join_of, part_of, order_of, is_same_text}
-use Rattle.ps_meaning.specs.Objects.{is_vector}
+use Rattle.ps_heap.specs.Operators.{Answer, Gives, Traps, is_int, in_range, is_same, neg_of, arith_of}
+use Rattle.ps_heap.specs.Texts.{Attempt, Yields, Fails, is_string, join_of, part_of, order_of, is_same_text}
+use Rattle.ps_heap.specs.Objects.{is_vector}
 
 -- what an answer gives is an int
 abbrev pub GivesInt : Answer → Type 0

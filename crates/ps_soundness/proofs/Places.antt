@@ -5,8 +5,8 @@ use Rattle.ps_meaning.specs.ps_base.TyView.{TyView}
 use Rattle.ps_meaning.specs.ps_base.TyView as types
 use Rattle.ps_meaning.specs.ps_typing.Placing.{is_number}
 use Rattle.ps_meaning.specs.ps_typing.WellTyped.{Some_is, Local, Free, IsLocal, next_slot}
-use Rattle.ps_meaning.specs.Values.{Value, Num, Flag, Text, Nil, Pointer, Vector, Procedure, as_written, Nothing}
-use Rattle.ps_meaning.specs.Objects.{Heap, Object, Elements}
+use Rattle.ps_heap.specs.Values.{Value, Num, Flag, Text, Nil, Pointer, Vector, Procedure, as_written, Nothing}
+use Rattle.ps_heap.specs.Objects.{Heap, Object, Elements}
 use Rattle.ps_meaning.specs.Meaning.{Frame, with_local, local_of, frame_with}
 use Rattle.ps_soundness.specs.Free.{AllBelow}
 use Rattle.ps_soundness.specs.Shapes.{IsVectorAt, IsOf, AreLocals}

@@ -5,8 +5,8 @@ use Rattle.ps_meaning.specs.ps_base.TyView as types
 use Rattle.ps_type_text.specs.Texts.{Field, class_text, IsNamed, is_name_byte}
 use Rattle.ps_meaning.specs.ps_program.Node.{none, more}
 use Rattle.ps_meaning.specs.ps_program.Node as node
-use Rattle.ps_meaning.specs.Values.{Num, Flag, Text, Nil, Pointer, Vector, Nothing}
-use Rattle.ps_meaning.specs.Objects.{Heap, Object, Structure, Elements}
+use Rattle.ps_heap.specs.Values.{Num, Flag, Text, Nil, Pointer, Vector, Nothing}
+use Rattle.ps_heap.specs.Objects.{Heap, Object, Structure, Elements}
 use Rattle.ps_soundness.specs.Running.{IsClassText, HasField, HasAsMany, Runs}
 use Rattle.ps_soundness.specs.Shapes.{IsOf, IsTypedObject, IsTypedHeap}
 use Rattle.ps_soundness.proofs.Growing.{one_object}

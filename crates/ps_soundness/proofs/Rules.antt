@@ -10,11 +10,10 @@ use Rattle.ps_type_text.specs.Texts.{Field, type_text}
 use Rattle.ps_meaning.specs.text_forms.Forms.{forms_of, form_in, element_of}
 use Rattle.ps_meaning.specs.ps_typing.WellTyped.{Local, Claim, ◌has◌, arms_have, types_of_fields, IsClass, Rule, Arguments}
 use Rattle.ps_meaning.specs.ps_typing.WellTyped as typed
-use Rattle.ps_meaning.specs.Operators.{is_int, neg_of, arith_of}
-use Rattle.ps_meaning.specs.Texts.{is_string, join_of, part_of}
-use Rattle.ps_meaning.specs.Values.{Value, Num, Flag, Text, Nil, Pointer, Vector, word_of, flag_of, bytes_of, shown}
-use Rattle.ps_meaning.specs.Objects.{Heap, Object, Structure, is_class, field_of, with_field, vector_of, filled_vector, vector_in, type_in, with_element, low_of, high_of}
-use Rattle.ps_meaning.specs.Objects.{element_of as element_at}
+use Rattle.ps_heap.specs.Operators.{is_int, neg_of, arith_of}
+use Rattle.ps_heap.specs.Texts.{is_string, join_of, part_of}
+use Rattle.ps_heap.specs.Values.{Value, Num, Flag, Text, Nil, Pointer, Vector, word_of, flag_of, bytes_of, shown}
+use Rattle.ps_heap.specs.Objects.{Heap, Object, Structure, is_class, field_of, with_field, vector_of, filled_vector, vector_in, type_in, with_element, low_of, high_of, element_of as element_at}
 use Rattle.ps_meaning.specs.Meaning.{made}
 use Rattle.ps_meaning.specs.Evaluation.{Context, kept_as, kept_all, kept_elements, compares, make_meant, eval, eval_each}
 use Rattle.ps_soundness.specs.Running.{RunsIn, AllRunIn, AreAsMany, HasAsMany}

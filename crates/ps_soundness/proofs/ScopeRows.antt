@@ -10,8 +10,8 @@ use Rattle.ps_meaning.specs.ps_program.Node as node
 use Rattle.ps_type_text.specs.Texts.{Field, class_text, IsNamed, is_name_byte}
 use Rattle.ps_meaning.specs.ps_typing.WellTyped.{Env, Free, IsTyped, IsBody}
 use Rattle.ps_meaning.specs.ps_typing.WellTyped as typed
-use Rattle.ps_meaning.specs.Values.{Num, Nil, Procedure, as_written}
-use Rattle.ps_meaning.specs.Objects.{Object, Scope}
+use Rattle.ps_heap.specs.Values.{Num, Nil, Procedure, as_written}
+use Rattle.ps_heap.specs.Objects.{Object, Scope}
 use Rattle.ps_meaning.specs.Meaning.{Frame, State}
 use Rattle.ps_meaning.specs.Evaluation.{eval}
 use Rattle.ps_meaning.specs.Calls.{context}

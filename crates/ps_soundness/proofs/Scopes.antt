@@ -7,12 +7,11 @@ use Rattle.ps_type_text.specs.Texts.{Field, class_text, IsNamed}
 use Rattle.ps_meaning.specs.text_forms.declared.forms.Form.{Form}
 use Rattle.ps_meaning.specs.text_forms.Classes.{form_of_type, form_of_field}
 use Rattle.ps_meaning.specs.text_forms.Forms.{forms_of, form_in}
-use Rattle.ps_meaning.proofs.of_text_forms.ClassForms.{class-told}
+use Rattle.ps_heap.proofs.of_text_forms.ClassForms.{class-told}
 use Rattle.ps_meaning.specs.ps_typing.WellTyped.{At, IsOfType}
-use Rattle.ps_meaning.specs.Values.{Value, Num, Flag, Text, Nil, Pointer, Vector, Procedure, as_written, Nothing}
-use Rattle.ps_meaning.specs.Objects.{Heap, Object, Scope, object_at, with_object, with_new, new_number, value_at, kept_as}
-use Rattle.ps_meaning.specs.Scopes.{first_value, new_scope, scope_at, parent_in, names_in, scope_out, name_in, with_name_in, with_name}
-use Rattle.ps_meaning.specs.Meaning.{kept_name, with_kept_name}
+use Rattle.ps_heap.specs.Values.{Value, Num, Flag, Text, Nil, Pointer, Vector, Procedure, as_written, Nothing}
+use Rattle.ps_heap.specs.Objects.{Heap, Object, Scope, object_at, with_object, with_new, new_number, value_at, kept_as}
+use Rattle.ps_heap.specs.Scopes.{first_value, new_scope, scope_at, parent_in, names_in, scope_out, name_in, with_name_in, with_name, kept_name, with_kept_name}
 use Rattle.ps_soundness.specs.Shapes.{IsOf, is_given, HasValue, HaveValues, IsPrefix, IsScopeAt, AreScopes, AreNames, IsTypedHeap, StayGiven, Grows}
 use Rattle.ps_soundness.proofs.Telling.{Told}
 use Rattle.ps_soundness.proofs.Growing.{grows_new, grows_set, at_new, typed_new, typed_with, of_kept, names_kept, scopes_kept}

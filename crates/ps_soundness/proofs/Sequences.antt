@@ -14,10 +14,10 @@ use Rattle.ps_meaning.specs.ps_typing.Names as names
 use Rattle.ps_meaning.specs.ps_typing.Library.{procedures}
 use Rattle.ps_meaning.specs.ps_typing.WellTyped.{Local, Claim, ◌has◌, all_have, arms_have, Arguments}
 use Rattle.ps_meaning.specs.ps_typing.WellTyped as typed
-use Rattle.ps_meaning.specs.Operators.{is_int}
-use Rattle.ps_meaning.specs.Texts.{is_string}
-use Rattle.ps_meaning.specs.Values.{Value, Num, Flag, Text, word_of, flag_of, bytes_of}
-use Rattle.ps_meaning.specs.Objects.{Heap}
+use Rattle.ps_heap.specs.Operators.{is_int}
+use Rattle.ps_heap.specs.Texts.{is_string}
+use Rattle.ps_heap.specs.Values.{Value, Num, Flag, Text, word_of, flag_of, bytes_of}
+use Rattle.ps_heap.specs.Objects.{Heap}
 use Rattle.ps_meaning.specs.Meaning.{Meaning}
 use Rattle.ps_meaning.specs.Evaluation.{Context, is_equal, lib_meant, eval, eval_each, eval_arms, eval_labels}
 use Rattle.ps_soundness.specs.Running.{RunsIn, AllRunIn, ArmsRunIn, IsRunLibrary}

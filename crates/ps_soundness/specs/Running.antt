@@ -12,8 +12,8 @@ use Rattle.ps_meaning.specs.ps_program.Node.{Param, Node, Nodes, none, more, Arm
 use Rattle.ps_meaning.specs.ps_program.Node as node
 use Rattle.ps_type_text.specs.Texts.{Field, class_text, IsNamed}
 use Rattle.ps_meaning.specs.ps_typing.WellTyped.{At, IsOfType}
-use Rattle.ps_meaning.specs.Operators.{is_int}
-use Rattle.ps_meaning.specs.Texts.{is_string}
+use Rattle.ps_heap.specs.Operators.{is_int}
+use Rattle.ps_heap.specs.Texts.{is_string}
 use Rattle.ps_soundness.specs.Valued.{IsValued}
 
 abbrev pub IsPlain : Place → Type 0

@@ -8,11 +8,11 @@ use Rattle.ps_meaning.specs.text_forms.Classes.{form_of_type}
 use Rattle.ps_meaning.specs.ps_program.Node.{BodyNode, body}
 use Rattle.ps_type_text.specs.Texts.{Field, type_text, class_text, IsNamed}
 use Rattle.ps_meaning.specs.ps_typing.WellTyped.{Env, Local, IsBody, types_of_params}
-use Rattle.ps_meaning.specs.Operators.{is_int}
-use Rattle.ps_meaning.specs.Texts.{is_string}
-use Rattle.ps_meaning.specs.Values.{Value, Num, Flag, Text, Nil, Pointer, Vector, Procedure, as_written, Nothing}
-use Rattle.ps_meaning.specs.Objects.{Heap, Object, Structure, Elements, Scope, object_at, is_vector}
-use Rattle.ps_meaning.specs.Scopes.{first_value}
+use Rattle.ps_heap.specs.Operators.{is_int}
+use Rattle.ps_heap.specs.Texts.{is_string}
+use Rattle.ps_heap.specs.Values.{Value, Num, Flag, Text, Nil, Pointer, Vector, Procedure, as_written, Nothing}
+use Rattle.ps_heap.specs.Objects.{Heap, Object, Structure, Elements, Scope, Keyed, object_at, is_vector}
+use Rattle.ps_heap.specs.Scopes.{first_value}
 use Rattle.ps_soundness.specs.Running.{BodyRuns}
 use Rattle.ps_meaning.specs.Meaning.{Frame, State, Outcome, Value_is, Ends, local_of}
 
@@ -135,6 +135,8 @@ abbrev pub IsTypedObject : Heap → Object → Type 0
 IsTypedObject heap (Structure class values) = IsTypedStructure heap class values
 IsTypedObject heap (Elements text low values) = IsTypedVector heap text low values
 IsTypedObject heap (Scope text parent names) = IsTypedScope heap text names
+-- no clause makes a table yet
+IsTypedObject heap (Keyed table) = ⊥
 
 -- each object of a heap is typed
 abbrev pub IsTypedHeap : Heap → Type 0
@@ -151,11 +153,12 @@ StayGiven [] [] = Unit {0}
 StayGiven (v ∷ vs) (w ∷ ws) = (is_given v ≡ true → is_given w ≡ true) × StayGiven vs ws
 StayGiven vs ws = ⊥
 
--- an object keeps its class, or its type and its bounds, or its text and its parent
+-- an object keeps its class, or its type and its bounds, or its text and its parent; a table stays one
 abbrev pub IsSameSort : Object → Object → Type 0
 IsSameSort (Structure class values) (Structure other others) = other ≡ class
 IsSameSort (Elements text low values) (Elements other bound others) = (other ≡ text) × (bound ≡ low) × (length others ≡ length values)
 IsSameSort (Scope text parent names) (Scope other round others) = (other ≡ text) × (round ≡ parent) × StayGiven names others
+IsSameSort (Keyed table) (Keyed other) = Unit {0}
 IsSameSort _ other = ⊥
 
 -- objects stay, with what they are

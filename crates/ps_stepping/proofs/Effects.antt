@@ -7,9 +7,10 @@ use Rattle.ps_code.specs.ps_base.declared.instr.Instr.{Instr}
 use Rattle.ps_code.specs.ps_base.declared.instr.Instr.TheVariants.{Int, True, False, Text, GetM, GetP, SetM, SetP, Jump, JumpFalse, Again, And, Or, Not, Neg, Add, Sub, Mul, Div, Rem, EqM, NeM, LtM, LeM, GtM, GeM, Return, WriteI, WriteB, WriteT, ForStart, ForNext, DupM, DupP, DropM, DropP, JumpTrue}
 use Rattle.ps_code.specs.ps_base.declared.trap.Trap.TheVariants.{TooLong, Bounds}
 use Rattle.ps_meaning.specs.Evaluation.{goes_on}
-use Rattle.ps_meaning.specs.Operators.{Answer, Gives, Traps, is_same}
-use Rattle.ps_meaning.specs.Event.{Event, Trapped}
-use Rattle.ps_meaning.specs.Values.{Value, number_of, is_one}
+use Rattle.ps_heap.specs.Operators.{Answer, Gives, Traps, is_same}
+use Rattle.ps_heap.specs.Ends.{Trapped}
+use Rattle.ps_meaning.specs.Event.{Event}
+use Rattle.ps_heap.specs.Values.{Value, number_of, is_one}
 use Rattle.ps_meaning.specs.Meaning.{Store, spent, is_width, some_out, in_places}
 use Rattle.ps_stepping.specs.Config.{frame_words, Caller, Config, frame_in, constant_at, constants_in}
 use Rattle.ps_stepping.specs.Machine.{Step, Goes, Stops, Stuck, on, is_num_slot, is_ref_slot, with_num, with_ref, put_num, push_num, push_ref, pop_num, pop_text, forward, turn_to, back, answered, one_num, two_nums, test, written, write_num, write_text, push_text, started, for_start, counted, for_next, resumed, come_back, returned, acts, behind, act}

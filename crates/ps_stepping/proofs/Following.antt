@@ -1,6 +1,7 @@
 -- A run goes on from each configuration that it comes to, and stops where the machine does.
 use Rattle.std.proofs.Common.{◌≡◌, List, [], ◌∷◌, ◌++◌, ap, ◌∙◌, subst, append_assoc}
-use Rattle.ps_meaning.specs.Event.{End, Event, Finish}
+use Rattle.ps_heap.specs.Ends.{End}
+use Rattle.ps_meaning.specs.Event.{Event, Finish}
 use Rattle.ps_stepping.specs.Config.{Config}
 use Rattle.ps_stepping.specs.Machine.{Goes, Stops, Stuck, Steps, Runs, goes, stops}
 use Rattle.ps_stepping.proofs.Determined.{one_step}

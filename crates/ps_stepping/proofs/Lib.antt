@@ -8,5 +8,5 @@ mod ObjectEffects
 mod ProcedureEffects
 mod ObjectRows
 mod ProcedureRows
-pub use Rattle.ps_meaning.proofs.of_text_forms as of_text_forms
+pub use Rattle.ps_heap.proofs.of_text_forms as of_text_forms
 pub use Rattle.ps_code.proofs as of_ps_code

@@ -15,11 +15,10 @@ use Rattle.ps_meaning.specs.text_forms.declared.forms.Rows.{Rows}
 use Rattle.ps_meaning.specs.text_forms.Forms.{forms_of, form_in, element_of, one_more, rows_of}
 use Rattle.ps_meaning.specs.Evaluation.{kept_as, kept_elements, text_relation, object_relation}
 use Rattle.ps_meaning.specs.Meaning.{Store, and_object, and_text, on_input}
-use Rattle.ps_meaning.specs.Texts.{Attempt, Yields, Fails, join_of, part_of, line_read, behind_line, is_at_end}
-use Rattle.ps_meaning.specs.Objects.{Heap, Object, Structure, new_number, is_class, field_of, with_field, vector_of, filled_vector, with_element, low_of, high_of}
-use Rattle.ps_meaning.specs.Objects.{element_of as element_at}
-use Rattle.ps_meaning.specs.Values.{Value, Num, word_of, number_of}
-use Rattle.ps_meaning.specs.Values as value
+use Rattle.ps_heap.specs.Texts.{Attempt, Yields, Fails, join_of, part_of, line_read, behind_line, is_at_end}
+use Rattle.ps_heap.specs.Objects.{Heap, Object, Structure, new_number, is_class, field_of, with_field, vector_of, filled_vector, with_element, low_of, high_of, element_of as element_at}
+use Rattle.ps_heap.specs.Values.{Value, Num, word_of, number_of}
+use Rattle.ps_heap.specs.Values as value
 use Rattle.ps_stepping.specs.Config.{frame_words, Config, frame_in, constant_at, constants_in}
 use Rattle.ps_stepping.specs.Steps.{Step, Stuck, on, put_num, push_num, push_ref, pop_num, pop_two, pop_text, text_in, with_text, attempted}
 use Rattle.ps_stepping.specs.Objects.{holding, changed, make, make_text, join, part, compare_texts, denoting_of, pop_denoting, compare_objects, object_of, pop_object, is_of_class, pop_fields, make_structure, when_number, when_reference, field_num, field_ref, set_field_num, set_field_ref, type_of, of_type, pop_vector, fill_num, fill_ref, pop_nums, pop_refs, list_num, list_ref, element_num, element_ref, set_element_num, set_element_ref, bound, read_line, at_end, text_length, int_text, library, acts_on_objects}

@@ -6,10 +6,9 @@ use Rattle.ps_code.specs.ps_base.CodeUnit.{UnitView, unit, text, no_constants, c
 use Rattle.ps_code.specs.ps_base.declared.line.Line.{Line}
 use Rattle.ps_code.specs.ps_base.declared.trap.Trap.TheVariants as trap
 use Rattle.ps_code.specs.ps_base.declared.instr.Instr.TheVariants as instr
-use Rattle.ps_meaning.specs.Event.{Trapped}
-use Rattle.ps_meaning.specs.Objects.{Heap, Structure, Elements, is_class, field_of, with_field, vector_of, filled_vector, with_element, low_of, high_of, is_one_object}
-use Rattle.ps_meaning.specs.Objects.{element_of as element_at}
-use Rattle.ps_meaning.specs.Values.{Value, Num, Flag, Text, Nil, Pointer, Vector}
+use Rattle.ps_heap.specs.Ends.{Trapped}
+use Rattle.ps_heap.specs.Objects.{Heap, Structure, Elements, is_class, field_of, with_field, vector_of, filled_vector, with_element, low_of, high_of, is_one_object, element_of as element_at}
+use Rattle.ps_heap.specs.Values.{Value, Num, Flag, Text, Nil, Pointer, Vector}
 use Rattle.ps_stepping.specs.Config.{Config}
 use Rattle.ps_stepping.specs.Steps.{Stops, Stuck, on}
 use Rattle.ps_stepping.specs.Objects.{acts_on_objects}

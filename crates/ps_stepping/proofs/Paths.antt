@@ -1,7 +1,8 @@
 -- What happens from a configuration of a run on is the rest of what happens in the run.
 use Rattle.std.proofs.Common.{◌≡◌, List, [], ◌∷◌, ◌++◌, sym, ap, ◌∙◌, subst, append_assoc}
 use Rattle.std.proofs.lemmas.List.{append-nil}
-use Rattle.ps_meaning.specs.Event.{End, Event, Finish}
+use Rattle.ps_heap.specs.Ends.{End}
+use Rattle.ps_meaning.specs.Event.{Event, Finish}
 use Rattle.ps_stepping.specs.Config.{Config}
 use Rattle.ps_stepping.specs.Machine.{Step, Goes, Stops, Stuck, Steps, Runs}
 use Rattle.ps_stepping.specs.Machine as machine

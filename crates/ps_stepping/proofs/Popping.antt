@@ -2,8 +2,8 @@
 use Rattle.std.proofs.Common.{◌≡◌, ℕ, suc, ◌+◌, ℤ, Bool, true, false, List, [], ◌∷◌, length, refl, ap, subst, arith}
 use Rattle.std.specs.Prelude.{nat_lt, if◌then◌else◌}
 use Rattle.ps_meaning.specs.Event.{Event}
-use Rattle.ps_meaning.specs.Values.{Value}
-use Rattle.ps_meaning.specs.Values as value
+use Rattle.ps_heap.specs.Values.{Value}
+use Rattle.ps_heap.specs.Values as value
 use Rattle.ps_stepping.specs.Config.{frame_words, Config, frame_in}
 use Rattle.ps_stepping.specs.Steps.{Step, Goes, Stops, Stuck, on, push_ref, pop_num_of, pop_num, pop_ref_of, pop_ref, text_of, pop_text}
 use Rattle.ps_stepping.specs.Effects.{Effect, refs, HasEffect}

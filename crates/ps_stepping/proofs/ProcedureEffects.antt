@@ -7,13 +7,13 @@ use Rattle.ps_code.specs.ps_base.declared.trap.Trap.TheVariants.{TooDeep}
 use Rattle.ps_code.specs.ps_base.declared.instr.Instr.{Instr}
 use Rattle.ps_code.specs.ps_base.declared.instr.Instr.TheVariants as instr
 use Rattle.ps_meaning.specs.text_forms.Forms.{forms_of, form_in}
-use Rattle.ps_meaning.specs.Event.{Trapped}
+use Rattle.ps_heap.specs.Ends.{Trapped}
 use Rattle.ps_meaning.specs.Evaluation.{most_calls}
-use Rattle.ps_meaning.specs.Meaning.{Store, spent, and_object, and_closure, kept_name, with_kept_name}
-use Rattle.ps_meaning.specs.Objects.{Object, Structure, Elements, Scope, new_number}
-use Rattle.ps_meaning.specs.Scopes.{new_scope, scope_at, scope_out}
-use Rattle.ps_meaning.specs.Values.{Value, Num, Procedure, as_written, as_compiled, word_of}
-use Rattle.ps_meaning.specs.Values as value
+use Rattle.ps_heap.specs.Scopes.{kept_name, with_kept_name, new_scope, scope_at, scope_out}
+use Rattle.ps_meaning.specs.Meaning.{Store, spent, and_object, and_closure}
+use Rattle.ps_heap.specs.Objects.{Object, Structure, Elements, Scope, Keyed, new_number}
+use Rattle.ps_heap.specs.Values.{Value, Num, Procedure, as_written, as_compiled, word_of}
+use Rattle.ps_heap.specs.Values as value
 use Rattle.ps_stepping.specs.Config.{Caller, Config, constants_in, frame_in, constant_at}
 use Rattle.ps_stepping.specs.Steps.{Step, Stops, Stuck, on, push_num, push_ref}
 use Rattle.ps_stepping.specs.Objects.{holding, changed, when_number, when_reference, pop_nums}
@@ -27,6 +27,7 @@ does_of_scope : (e : Effect) (c : Config) (found : Option Object) (next : List �
 does_of_scope e c None next h = tt
 does_of_scope e c (Some (Structure class fields)) next h = tt
 does_of_scope e c (Some (Elements ty low elements)) next h = tt
+does_of_scope e c (Some (Keyed table)) next h = tt
 does_of_scope e c (Some (Scope of parent names)) next h = h of parent
 
 does_at_level : (e : Effect) (c d : Config) (up : ℕ) (next : List ℕ → Step) → ((of : List ℕ) → Does e c (next of)) → Does e c (at_level up d next)

@@ -6,11 +6,12 @@ use Rattle.ps_code.specs.ps_base.CodeUnit.{UnitView, unit, text, literal, no_con
 use Rattle.ps_code.specs.ps_base.declared.line.Line.{Line}
 use Rattle.ps_code.specs.ps_base.declared.trap.Trap.TheVariants as trap
 use Rattle.ps_code.specs.ps_base.declared.instr.Instr.TheVariants as instr
-use Rattle.ps_meaning.specs.Event.{Trapped, OutOfTurns, Turn}
-use Rattle.ps_meaning.specs.Objects.{Heap, Object, Scope}
-use Rattle.ps_meaning.specs.Scopes.{new_scope, scope_out, name_in, with_name}
-use Rattle.ps_meaning.specs.Texts.{line_read, line_of, behind_line}
-use Rattle.ps_meaning.specs.Values.{Value, Num, Flag, Text, Nil, Procedure, as_compiled}
+use Rattle.ps_heap.specs.Ends.{Trapped, OutOfTurns}
+use Rattle.ps_meaning.specs.Event.{Turn}
+use Rattle.ps_heap.specs.Objects.{Heap, Object, Scope}
+use Rattle.ps_heap.specs.Scopes.{new_scope, scope_out, name_in, with_name}
+use Rattle.ps_heap.specs.Texts.{line_read, line_of, behind_line}
+use Rattle.ps_heap.specs.Values.{Value, Num, Flag, Text, Nil, Procedure, as_compiled}
 use Rattle.ps_stepping.specs.Config.{Config}
 use Rattle.ps_stepping.specs.Steps.{Goes, Stops, Stuck, on}
 use Rattle.ps_stepping.specs.Objects.{read_line, at_end}

@@ -5,8 +5,9 @@ use Rattle.ps_code.specs.ps_base.CodeUnit.{UnitView, unit, no_constants}
 use Rattle.ps_code.specs.ps_base.declared.line.Line.{Line}
 use Rattle.ps_code.specs.ps_base.declared.trap.Trap.TheVariants.{Bounds}
 use Rattle.ps_code.specs.ps_base.declared.instr.Instr.TheVariants as instr
-use Rattle.ps_meaning.specs.Event.{Turn, Trapped, OutOfTurns, Done}
-use Rattle.ps_meaning.specs.Values.{Nil}
+use Rattle.ps_heap.specs.Ends.{Trapped, OutOfTurns, Done}
+use Rattle.ps_meaning.specs.Event.{Turn}
+use Rattle.ps_heap.specs.Values.{Nil}
 use Rattle.ps_meaning.specs.Meaning.{with_local}
 use Rattle.ps_stepping.specs.Config.{Caller, Config}
 use Rattle.ps_stepping.specs.Machine.{Goes, Stops, Stuck, on, act}

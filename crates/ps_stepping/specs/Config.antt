@@ -5,7 +5,7 @@ use Rattle.ps_code.specs.ps_base.CodeUnit.{UnitView, unit, ConstantView, Constan
 use Rattle.ps_code.specs.ps_base.Instr.{spelling, IsInstr}
 use Rattle.ps_code.specs.ps_base.declared.instr.Instr.{Instr}
 use Rattle.ps_code.specs.ps_base.declared.code_unit.Frame.{Frame}
-use Rattle.ps_meaning.specs.Values.{Value, Nil}
+use Rattle.ps_heap.specs.Values.{Value, Nil}
 use Rattle.ps_meaning.specs.Meaning.{Store}
 
 -- the most words of one frame on each stack, its locals and what is pushed above them: as many as the slots of a body

@@ -6,4 +6,5 @@ pub mod Machine
 pub mod Path
 pub mod Effects
 pub use Rattle.ps_meaning.specs.text_forms as text_forms
+pub use Rattle.ps_heap.specs as ps_heap
 pub use Rattle.ps_meaning.specs as ps_meaning

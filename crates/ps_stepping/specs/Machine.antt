@@ -10,10 +10,11 @@ use Rattle.ps_code.specs.ps_base.declared.operator.Operator.TheVariants as opera
 use Rattle.ps_code.specs.ps_base.declared.operator.Relation.TheVariants as relation
 use Rattle.ps_code.specs.ps_base.declared.instr.Instr.{Instr}
 use Rattle.ps_code.specs.ps_base.declared.instr.Instr.TheVariants.{Int, True, False, Text, GetM, GetP, SetM, SetP, Jump, JumpFalse, Again, And, Or, Not, Neg, Add, Sub, Mul, Div, Rem, EqM, NeM, LtM, LeM, GtM, GeM, Return, WriteI, WriteB, WriteT, Abort, ForStart, ForNext, DupM, DupP, DropM, DropP, JumpTrue}
-use Rattle.ps_meaning.specs.Operators.{is_same, neg_of, arith_of, relation_of}
-use Rattle.ps_meaning.specs.Event.{End, Done, Trapped, OutOfTurns, Event, Turn, Finish}
-use Rattle.ps_meaning.specs.Values.{Value, number_of, is_one, flag_text, bytes_of}
-use Rattle.ps_meaning.specs.Values as value
+use Rattle.ps_heap.specs.Operators.{is_same, neg_of, arith_of, relation_of}
+use Rattle.ps_heap.specs.Ends.{End, Done, Trapped, OutOfTurns}
+use Rattle.ps_meaning.specs.Event.{Event, Turn, Finish}
+use Rattle.ps_heap.specs.Values.{Value, number_of, is_one, flag_text, bytes_of}
+use Rattle.ps_heap.specs.Values as value
 use Rattle.ps_meaning.specs.Meaning.{Store, some_out, in_places, is_width, spent}
 use Rattle.ps_meaning.specs.Evaluation.{goes_on}
 pub use Rattle.ps_stepping.specs.Steps.{Step, Goes, Stops, Stuck, on, put_num, push_num, push_ref, pop_num_of, pop_num, pop_ref_of, pop_ref, pop_two, is_num_slot, is_ref_slot, with_num, with_ref, answered, one_num, two_nums, test, text_of, pop_text, with_text, attempted}

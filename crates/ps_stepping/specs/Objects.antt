@@ -10,11 +10,10 @@ use Rattle.ps_code.specs.ps_base.declared.operator.Relation.{Relation}
 use Rattle.ps_code.specs.ps_base.declared.operator.Relation.TheVariants as relation
 use Rattle.ps_code.specs.ps_base.declared.instr.Instr.{Instr}
 use Rattle.ps_code.specs.ps_base.declared.instr.Instr.TheVariants as instr
-use Rattle.ps_meaning.specs.Texts.{join_of, part_of, line_read, behind_line, is_at_end}
-use Rattle.ps_meaning.specs.Objects.{Heap, Object, Structure, Elements, object_at, new_number, is_class, field_of, with_field, vector_of, filled_vector, with_element, low_of, high_of}
-use Rattle.ps_meaning.specs.Objects.{element_of as element_at}
-use Rattle.ps_meaning.specs.Values.{Value, Num, word_of, number_of, is_one}
-use Rattle.ps_meaning.specs.Values as value
+use Rattle.ps_heap.specs.Texts.{join_of, part_of, line_read, behind_line, is_at_end}
+use Rattle.ps_heap.specs.Objects.{Heap, Object, Structure, Elements, object_at, new_number, is_class, field_of, with_field, vector_of, filled_vector, with_element, low_of, high_of, element_of as element_at}
+use Rattle.ps_heap.specs.Values.{Value, Num, word_of, number_of, is_one}
+use Rattle.ps_heap.specs.Values as value
 use Rattle.ps_meaning.specs.Meaning.{Store, on_heap, and_object, and_text, on_input}
 use Rattle.ps_meaning.specs.Evaluation.{kept_as, kept_elements, text_relation, object_relation}
 use Rattle.ps_stepping.specs.Config.{Config}

@@ -1,6 +1,7 @@
 -- The way of a run: from one configuration to another, and from a configuration to the end.
 use Rattle.std.specs.Prelude.{List, [], ◌∷◌, ◌++◌}
-use Rattle.ps_meaning.specs.Event.{End, Event, Finish}
+use Rattle.ps_heap.specs.Ends.{End}
+use Rattle.ps_meaning.specs.Event.{Event, Finish}
 use Rattle.ps_stepping.specs.Config.{Config}
 use Rattle.ps_stepping.specs.Machine.{Goes, Stops, Steps}
 

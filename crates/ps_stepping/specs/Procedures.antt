@@ -7,11 +7,12 @@ use Rattle.ps_code.specs.ps_base.declared.line.Line.{Line}
 use Rattle.ps_code.specs.ps_base.declared.trap.Trap.TheVariants.{TooDeep}
 use Rattle.ps_code.specs.ps_base.declared.instr.Instr.{Instr}
 use Rattle.ps_code.specs.ps_base.declared.instr.Instr.TheVariants as instr
-use Rattle.ps_meaning.specs.Event.{Trapped, OutOfTurns, Turn}
-use Rattle.ps_meaning.specs.Objects.{Object, Scope, new_number}
-use Rattle.ps_meaning.specs.Scopes.{new_scope, scope_at, scope_out}
-use Rattle.ps_meaning.specs.Values.{Value, Num, Nil, Procedure, as_compiled, word_of}
-use Rattle.ps_meaning.specs.Meaning.{Store, and_object, and_closure, kept_name, with_kept_name, spent}
+use Rattle.ps_heap.specs.Ends.{Trapped, OutOfTurns}
+use Rattle.ps_meaning.specs.Event.{Turn}
+use Rattle.ps_heap.specs.Objects.{Object, Scope, new_number}
+use Rattle.ps_heap.specs.Scopes.{new_scope, scope_at, scope_out, kept_name, with_kept_name}
+use Rattle.ps_heap.specs.Values.{Value, Num, Nil, Procedure, as_compiled, word_of}
+use Rattle.ps_meaning.specs.Meaning.{Store, and_object, and_closure, spent}
 use Rattle.ps_meaning.specs.Evaluation.{most_calls}
 use Rattle.ps_stepping.specs.Config.{frame_words, Locals, Caller, Config, constants_in, frame_in, constant_at}
 use Rattle.ps_stepping.specs.Steps.{Step, Goes, Stops, Stuck, on, push_num, push_ref, pop_num, pop_ref, with_text}

@@ -2,11 +2,12 @@
 use Rattle.std.specs.Prelude.{ℕ, ◌+◌, ℤ, Bool, List, [], ◌∷◌, length, nat_lt, Option, Some, None, if◌then◌else◌}
 use Rattle.ps_code.specs.ps_base.CodeUnit.{ConstantView, text, literal}
 use Rattle.ps_code.specs.ps_base.declared.line.Line.{Line}
-use Rattle.ps_meaning.specs.Event.{End, Trapped, Event}
-use Rattle.ps_meaning.specs.Operators.{Answer, Gives, Traps}
-use Rattle.ps_meaning.specs.Texts.{Attempt, Yields, Fails}
-use Rattle.ps_meaning.specs.Values.{Value, number_of}
-use Rattle.ps_meaning.specs.Values as value
+use Rattle.ps_heap.specs.Ends.{End, Trapped}
+use Rattle.ps_meaning.specs.Event.{Event}
+use Rattle.ps_heap.specs.Operators.{Answer, Gives, Traps}
+use Rattle.ps_heap.specs.Texts.{Attempt, Yields, Fails}
+use Rattle.ps_heap.specs.Values.{Value, number_of}
+use Rattle.ps_heap.specs.Values as value
 use Rattle.ps_meaning.specs.Meaning.{with_local}
 use Rattle.ps_stepping.specs.Config.{frame_words, Config, constants_in, frame_in, constant_at}
 

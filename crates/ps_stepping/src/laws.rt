@@ -1,6 +1,7 @@
 ghost use Rattle.std.specs.Prelude.{◌≡◌, List, [], ◌∷◌, ◌++◌};
 ghost use Rattle.ps_code.specs.ps_base.declared.instr.Instr.{Instr};
-ghost use Rattle.ps_meaning.specs.Event.{End, Event, Finish};
+ghost use Rattle.ps_heap.specs.Ends.{End};
+ghost use Rattle.ps_meaning.specs.Event.{Event, Finish};
 ghost use Rattle.ps_stepping.specs.Config.{Config, code_in, IsAt};
 ghost use Rattle.ps_stepping.specs.Effects.{effect_of, HasEffect};
 ghost use Rattle.ps_stepping.specs.Machine.{Step, Goes, Stops, Stuck, act, Steps, Runs};

@@ -9,7 +9,7 @@ use Rattle.ps_unit_laws.specs.ps_program.declared.place.Place.{Place}
 use Rattle.ps_unit_laws.specs.ps_program.declared.place.Place.TheVariants.{Plain, Kept}
 use Rattle.ps_unit_laws.specs.ps_program.Node.{Param, Node, Nodes, BodyNode, body}
 use Rattle.ps_unit_laws.specs.ps_program.Node as node
-use Rattle.ps_leaf_laws.specs.ps_meaning.Operators.{is_int}
+use Rattle.ps_leaf_laws.specs.ps_heap.Operators.{is_int}
 use Rattle.ps_leaf_laws.specs.ps_reader.Grammar.{line_in}
 
 -- nothing where the number has 32 bits

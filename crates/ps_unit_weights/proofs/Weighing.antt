@@ -17,7 +17,7 @@ use Rattle.ps_gen.specs.ps_program.Parts.{Part, operand, label, branch, literal 
 use Rattle.ps_gen.specs.ps_type_text.Texts.{type_text}
 use Rattle.ps_gen.specs.ps_typing.Placing.{is_number}
 use Rattle.ps_gen.specs.ps_typing.WellTyped.{types_of_params}
-use Rattle.proc_values.specs.ps_meaning.Weights.{text_weight, scope_weight, head_weight, named_weight, total_of, clause_weight, code_weight}
+use Rattle.proc_values.specs.ps_heap.Weights.{text_weight, scope_weight, head_weight, named_weight, total_of, clause_weight, code_weight}
 use Rattle.ps_gen.specs.ps_emitter.Choices as choice
 use Rattle.ps_gen.specs.Emission.{size_at, size_entered, size_left, size, size_all, size_arms, size_labels, count_scope, count, count_all, count_arms, entered, emit}
 use Rattle.ps_gen.specs.Units.{kept_at, keeps, size_keeps, body_instrs, scope_constants, row_of, constants, constants_of_all, constants_of_arms, unit_of}

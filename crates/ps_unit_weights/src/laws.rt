@@ -1,6 +1,6 @@
 ghost use Rattle.std.specs.Prelude.{◌+◌, ◌*◌, ◌≤◌};
 ghost use Rattle.ps_gen.specs.ps_program.Node.{BodyNode};
-ghost use Rattle.proc_values.specs.ps_meaning.Weights.{code_weight};
+ghost use Rattle.proc_values.specs.ps_heap.Weights.{code_weight};
 ghost use Rattle.ps_gen.specs.Units.{unit_of};
 ghost use Rattle.proc_values.specs.Units.{unit_words};
 

@@ -10,8 +10,8 @@ use Rattle.swizzle.specs.Joint.{Shown, name_at}
 use Rattle.swizzle.specs.Changes.{IsKnown}
 use Rattle.reaching.specs.Reaching.{IsIn}
 use Rattle.joint_ops.specs.heap_meaning.ps_base.CodeUnit.{UnitView}
-use Rattle.joint_ops.specs.ps_meaning.Values.{Value}
-use Rattle.joint_ops.specs.ps_meaning.Objects.{Heap}
+use Rattle.joint_ops.specs.ps_heap.Values.{Value}
+use Rattle.joint_ops.specs.ps_heap.Objects.{Heap}
 use Rattle.joint_ops.specs.heap_meaning.Standing.{Seen}
 use Rattle.joint_ops.specs.World.{IsStored, seen, IsWorld, DenotesIn, DenotesScopeIn, IsUnitIn}
 use Rattle.renames.specs.Renames.{renamed, IsRehomed, Now}

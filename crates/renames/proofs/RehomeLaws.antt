@@ -6,8 +6,8 @@ use Rattle.heap_meaning.specs.obj_layout.declared.reference.Reference.{Reference
 use Rattle.heap_meaning.specs.swizzle.Joint.{Shown}
 use Rattle.heap_meaning.specs.text_forms.declared.forms.Form.{Form}
 use Rattle.heap_meaning.specs.text_forms.Forms.{forms_of, element_of}
-use Rattle.heap_meaning.specs.ps_meaning.Values.{Value}
-use Rattle.heap_meaning.specs.ps_meaning.Objects.{Heap, Object, Structure, Elements, Scope, object_at}
+use Rattle.heap_meaning.specs.ps_heap.Values.{Value}
+use Rattle.heap_meaning.specs.ps_heap.Objects.{Heap, Object, Structure, Elements, Scope, Keyed, object_at}
 use Rattle.heap_meaning.specs.Standing.{Seen, Pairing, IsKindOf, IsAs, IsLike, Both, Stands}
 use Rattle.heap_meaning.specs.Paired.{paired, StandsRow}
 use Rattle.heap_meaning.proofs.StandingLaws.{IsFixed, Fixed, Kinds, like-more}
@@ -51,6 +51,7 @@ like-rehomed seen pair it now (Scope text parent values) r l = record {
   is_parent = l.is_parent;
   are = l.are;
 }
+like-rehomed seen pair it now (Keyed table) r l = absurd l
 
 -- The heap stands under the same names, where texts, code and closures stay and all others may have other homes.
 pub row-rehomed : (seen now : Seen) (heap : Heap) (names : List Reference) → Fixed seen now → ((n : Reference) (it : Shown) → seen n it → Now now n it) → StandsRow seen heap names → StandsRow now heap names

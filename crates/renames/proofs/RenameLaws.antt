@@ -13,8 +13,8 @@ use Rattle.heap_meaning.specs.text_forms.Forms.{forms_of, element_of}
 use Rattle.heap_meaning.specs.heap_places.Shapes.{IsText}
 use Rattle.heap_meaning.specs.ps_base.CodeUnit as units
 use Rattle.heap_meaning.specs.ps_base.CodeUnit.{UnitView, ConstantView, ConstantsView}
-use Rattle.heap_meaning.specs.ps_meaning.Values.{Value, Num, Flag, Text, Nil, Pointer, Vector, Procedure, Nothing, as_written, as_compiled}
-use Rattle.heap_meaning.specs.ps_meaning.Objects.{Heap, Object, Structure, Elements, Scope, object_at}
+use Rattle.heap_meaning.specs.ps_heap.Values.{Value, Num, Flag, Text, Nil, Pointer, Vector, Procedure, Nothing, as_written, as_compiled}
+use Rattle.heap_meaning.specs.ps_heap.Objects.{Heap, Object, Structure, Elements, Scope, Keyed, object_at}
 use Rattle.heap_meaning.specs.Units.{IsUnitSeen, AreSeen, IsConstantSeen}
 use Rattle.heap_meaning.specs.Standing.{Seen, Pairing, IsKindOf, StandsForScope, IsClosure, StandsFor, IsWordOf, AreFor, IsAs, IsLike, Both, Stands, IsOne}
 use Rattle.heap_meaning.specs.Paired.{name_in, paired, StandsRow}
@@ -134,6 +134,7 @@ like-moved seen now ρ pair more it (Scope text parent values) r moves l = recor
   is_parent = scope-moved seen now ρ pair more l.parent_name parent r moves l.is_parent;
   are = are-moved seen now ρ pair more (forms_of text) l.names l.words values r moves l.are;
 }
+like-moved seen now ρ pair more it (Keyed table) r moves l = absurd l
 
 -- Rows of names.
 

@@ -10,7 +10,7 @@ use Rattle.heap_places.specs.declared.value.Value as code
 use Rattle.heap_places.specs.declared.value.Value.TheVariants as held
 use Rattle.heap_places.specs.Words.{int_word, flag_word}
 use Rattle.heap_places.specs.Filling.{refs_of, words_of}
-use Rattle.heap_places.specs.ps_meaning.Values.{is_one}
+use Rattle.heap_places.specs.ps_heap.Values.{is_one}
 use Rattle.structure_rows.specs.Marks.{AreMarked}
 use Rattle.structure_rows.specs.Rows.{object_in, kept, kept_one, named, row_values}
 

@@ -1,7 +1,6 @@
 -- Rows of a new structure that are laid one after the other.
-use Rattle.std.proofs.Common.{◌≡◌, ℕ, suc, ◌+◌, ◌-◌, ◌/◌, ◌%◌, ◌^◌, ◌<◌, ◌≤◌, ◌==◌, true, false, ℤ, List, [], ◌∷◌, ◌++◌, length, drop, get_or, slice_index_or, Option, Some, None, refl, sym, ap, ◌∙◌, subst, arith, add-one, drop-cons}
+use Rattle.std.proofs.Common.{◌≡◌, ℕ, suc, ◌+◌, ◌-◌, ◌/◌, ◌%◌, ◌^◌, ◌<◌, ◌≤◌, ◌==◌, true, false, ℤ, List, [], ◌∷◌, ◌++◌, length, drop, get_or, slice_index_or, Option, Some, None, refl, sym, ap, ◌∙◌, subst, arith, add-one, drop-cons, inl, inr}
 use Rattle.std.specs.Prelude.{if◌then◌else◌, Ok, Err}
-use Rattle.std.proofs.Common.{inl, inr}
 use Rattle.std.proofs.lemmas.Bool.{cases_lt}
 use Rattle.std.proofs.lemmas.List.{get_or_default}
 use Rattle.heap_places.specs.obj_layout.declared.kind.Kind.TheVariants as kind
@@ -16,8 +15,8 @@ use Rattle.heap_places.specs.Places.{with_value}
 use Rattle.heap_places.specs.Filling.{refs_of, words_of, Fills, AreNear}
 use Rattle.heap_places.specs.inside.Laying.{index_in, behind, rows_in, roomy, with_values}
 use Rattle.heap_places.proofs.FillingLaws.{IsLaying, rows-length, laying-more, filled-made, full-roomy, roomy-held, roomy-no_low}
-use Rattle.heap_places.specs.ps_meaning.Operators.{is_int}
-use Rattle.heap_places.specs.ps_meaning.Values.{is_one}
+use Rattle.heap_places.specs.ps_heap.Operators.{is_int}
+use Rattle.heap_places.specs.ps_heap.Values.{is_one}
 use Rattle.structure_rows.specs.Rows.{object_in, kept, kept_one, kept_word, named, row_values, AreInts}
 use Rattle.structure_rows.proofs.RowLaws.{named-words, named-long, kept-refs, kept-long, by-bit}
 

@@ -3,8 +3,8 @@ use Rattle.std.specs.Prelude.{◌≡◌, ℕ, ◌/◌, ◌%◌, ◌<◌, ◌==�
 use Rattle.heap_places.specs.declared.value.Value as code
 use Rattle.heap_places.specs.declared.value.Value.TheVariants as held
 use Rattle.heap_places.specs.Words.{int_word, flag_word}
-use Rattle.heap_places.specs.ps_meaning.Operators.{is_int}
-use Rattle.heap_places.specs.ps_meaning.Values.{is_one}
+use Rattle.heap_places.specs.ps_heap.Operators.{is_int}
+use Rattle.heap_places.specs.ps_heap.Values.{is_one}
 
 -- what a word names: 0 is none, and any other the object of the area that begins there
 abbrev pub object_in : ℕ → Option ℕ

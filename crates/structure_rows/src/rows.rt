@@ -3,7 +3,7 @@ ghost use Rattle.std.specs.Prelude.{◌≡◌, ◌+◌, ◌<◌, ◌≤◌, ◌^
 ghost use Rattle.heap_places.specs.swizzle.Heap.{IsHeld, Stands, header_at};
 ghost use Rattle.heap_places.specs.Filling.{AreNear, Fills};
 ghost use Rattle.heap_places.specs.inside.Laying.{with_values};
-ghost use Rattle.heap_places.specs.ps_meaning.Operators.{is_int};
+ghost use Rattle.heap_places.specs.ps_heap.Operators.{is_int};
 ghost use Rattle.structure_rows.specs.Rows.{AreInts, kept, kept_word, named, object_in, row_values};
 
 use crate::marks::FlagSet;

@@ -1,4 +1,4 @@
-ghost use Rattle.std.specs.Prelude.{◌≡◌, ◌≢◌, nat_eq, ◌+◌, ◌/◌, ◌%◌, ◌^◌, ◌<◌, ◌≤◌, true, false, ℕ, Option, None, IfOk, IfErr, IfSome, OnOk, MatchResult, ◌++◌, Some, length, take, drop, vec_capacity};
+ghost use Rattle.std.specs.Prelude.{◌≡◌, ◌≢◌, nat_eq, ◌+◌, ◌/◌, ◌%◌, ◌^◌, ◌<◌, ◌≤◌, true, false, ℕ, Option, None, IfOk, IfErr, IfSome, OnOk, OnErr, MatchResult, ◌++◌, Some, length, take, drop, vec_capacity};
 ghost use Rattle.obj_layout.specs.Header.{HasFitLengths, object_length};
 ghost use Rattle.obj_layout.specs.Kind.{kind_number};
 ghost use Rattle.obj_layout.specs.Reference.{IsReference, reference_word};
@@ -484,6 +484,7 @@ impl Swizzle {
         ensures only { OnOk result (Only self.old self.new (Reference.Pid pid)) }
         ensures sound { OnOk result (Sound self.old (V.outside vault.old) (Reference.Pid pid)) }
         ensures near { (at : ℕ) → local_of self.old pid ≡ Some at → (self.new ≡ self.old) × (vault.new ≡ vault.old) }
+        ensures refused { OnErr result (self.new ≡ self.old) }
         ensures call { IsTouchCall self.old self.new (V.outside vault.old) (V.outside vault.new) result }
         ensures fault { IfErr result (IsTouchFault self.old (V.outside vault.old) (Reference.Pid pid)) }
         ensures numbers { SameNumbers V.used_words V.directory_at V.most_words vault.old vault.new }
@@ -535,6 +536,7 @@ impl Swizzle {
         ensures sound { OnOk result (Sound self.old (V.outside vault.old) (ref_at self.old object slot)) }
         ensures still { (to : Option ℕ) → ref_at self.old object slot ≡ reference_to to → (self.new ≡ self.old) × (vault.new ≡ vault.old) }
         ensures near { IsNear self.old (name_of self.old (ref_at self.old object slot)) → (top_of self.new ≡ top_of self.old) × (vault.new ≡ vault.old) }
+        ensures refused { OnErr result (self.new ≡ self.old) }
         ensures call { IsTouchCall self.old self.new (V.outside vault.old) (V.outside vault.new) result }
         ensures fault { IfErr result (IsTouchFault self.old (V.outside vault.old) (ref_at self.old object slot)) }
         ensures numbers { SameNumbers V.used_words V.directory_at V.most_words vault.old vault.new }

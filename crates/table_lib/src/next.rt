@@ -1,7 +1,7 @@
 ghost use Rattle.std.specs.Prelude.{◌≡◌, true, IfOk, IfSome, OnOk, Some};
 ghost use Rattle.std.specs.declared.cmp.Ordering.TheVariants.{Less};
 ghost use Rattle.table_nodes.specs.avl_trees.Standing.{seek};
-ghost use Rattle.table_nodes.specs.heap_places.ps_meaning.Operators.{is_int};
+ghost use Rattle.table_nodes.specs.heap_places.ps_heap.Operators.{is_int};
 ghost use Rattle.table_nodes.specs.heap_places.swizzle.Heap.{IsHeld};
 ghost use Rattle.table_nodes.specs.heap_places.swizzle.Touch.{Keeps};
 ghost use Rattle.table_nodes.specs.Keys.{by_ints, by_texts, order_by};

@@ -16,7 +16,7 @@ use Rattle.heap_places.proofs.of_swizzle.JointLaws.{joint-made, name-fresh}
 use Rattle.heap_places.proofs.of_swizzle.MadeLaws.{made-held, made-object, made-other}
 use Rattle.heap_places.proofs.of_swizzle.of_obj_layout.StoredLaws.{Holds-low}
 use Rattle.std.proofs.lemmas.Bool.{ltb-true}
-use Rattle.heap_places.specs.ps_meaning.Operators.{is_int}
+use Rattle.heap_places.specs.ps_heap.Operators.{is_int}
 use Rattle.heap_places.proofs.WordLaws.{int-low, int-high}
 use Rattle.heap_places.proofs.FillingLaws.{made-ref, made-num}
 use Rattle.heap_places.specs.Words.{int_in, int_word}

@@ -27,10 +27,10 @@ use Rattle.std.specs.Ordering.{int_cmp}
 use Rattle.std.specs.Prelude.{negsuc}
 use Rattle.std.proofs.lemmas.Bool.{cases_lt, ltb-true, lt-ltb}
 use Rattle.std.proofs.lemmas.Int.{to_z-of_z}
-use Rattle.heap_places.specs.ps_meaning.Operators.{is_int}
+use Rattle.heap_places.specs.ps_heap.Operators.{is_int}
 use Rattle.heap_places.proofs.WordLaws.{int-low, int-mid, int-high}
 use Rattle.std.specs.declared.cmp.Ordering.{Ordering}
-use Rattle.heap_places.specs.ps_meaning.Texts.{order_of}
+use Rattle.heap_places.specs.ps_heap.Texts.{order_of}
 use Rattle.heap_places.specs.swizzle.declared.fault.SwizzleFault.{SwizzleFault}
 use Rattle.table_nodes.specs.Sought.{kind_of, key_in, IsKeyHeld, IsTextHeld, ReadsInt, ReadsText, OrdersAt}
 use Rattle.table_nodes.proofs.NodeLaws.{seen_held, seat_at}

@@ -2,7 +2,7 @@
 use Rattle.std.specs.Prelude.{◌≡◌, ℕ, ℤ, List, Some}
 use Rattle.std.specs.Ordering.{int_cmp}
 use Rattle.std.specs.declared.cmp.Ordering.{Ordering}
-use Rattle.heap_places.specs.ps_meaning.Texts.{order_of}
+use Rattle.heap_places.specs.ps_heap.Texts.{order_of}
 use Rattle.heap_places.specs.obj_layout.declared.reference.Reference.{Reference}
 use Rattle.heap_places.specs.swizzle.Joint.{Shown}
 use Rattle.heap_places.specs.Words.{int_in}

@@ -2,7 +2,7 @@
 use Rattle.std.specs.Prelude.{◌≡◌, ℕ, ℤ, true, Result, Ok, MatchResult}
 use Rattle.std.specs.declared.cmp.Ordering.{Ordering}
 use Rattle.heap_places.specs.ps_outside.Outside.{Outside}
-use Rattle.heap_places.specs.ps_meaning.Operators.{is_int}
+use Rattle.heap_places.specs.ps_heap.Operators.{is_int}
 use Rattle.heap_places.specs.obj_layout.Stored.{Space}
 use Rattle.heap_places.specs.obj_layout.declared.kind.Kind.TheVariants.{Text as TextKind}
 use Rattle.heap_places.specs.obj_layout.declared.reference.Reference.{Reference}

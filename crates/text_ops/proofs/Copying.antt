@@ -15,7 +15,7 @@ use Rattle.heap_texts.specs.swizzle.Text.{HasBytes, first_byte, text_at, with_by
 use Rattle.heap_texts.proofs.of_swizzle.MadeLaws.{made-held, made-object, made-other, made-text, texts-made}
 use Rattle.heap_texts.proofs.of_swizzle.TextLaws.{text-bytes}
 use Rattle.ps_base.specs.declared.trap.Trap.TheVariants.{TooLong}
-use Rattle.heap_texts.specs.ps_meaning.Texts.{Attempt, Yields, Fails, join_of, part_of}
+use Rattle.heap_texts.specs.ps_heap.Texts.{Attempt, Yields, Fails, join_of, part_of}
 use Rattle.heap_texts.specs.Texts.{GivesText, blank_text, text_nums, text_object, wanted_of}
 use Rattle.heap_texts.specs.declared.fault.OpFault.{OpFault}
 use Rattle.heap_texts.specs.declared.fault.OpFault.TheVariants.{Swizzle, Trap}

@@ -1,7 +1,7 @@
 -- Where a part lies within a text.
 use Rattle.std.specs.Prelude.{ℕ, List, take, drop, Option, Some, None}
 use Rattle.ps_base.specs.declared.trap.Trap.TheVariants.{Substring}
-use Rattle.heap_texts.specs.ps_meaning.Texts.{Attempt, Yields, Fails}
+use Rattle.heap_texts.specs.ps_heap.Texts.{Attempt, Yields, Fails}
 use Rattle.text_ops.specs.declared.span.Span.{Span}
 
 -- the part of a text that lies there, or none

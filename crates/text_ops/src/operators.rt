@@ -2,7 +2,7 @@ ghost use Rattle.std.specs.Prelude.{◌≡◌, length};
 ghost use Rattle.std.specs.Fmt.{signed_decimal};
 ghost use Rattle.heap_texts.specs.swizzle.Heap.{IsHeld, header_at};
 ghost use Rattle.heap_texts.specs.swizzle.Text.{text_at};
-ghost use Rattle.heap_texts.specs.ps_meaning.Texts.{join_of, part_of, order_of, string_of};
+ghost use Rattle.heap_texts.specs.ps_heap.Texts.{join_of, part_of, order_of, string_of};
 ghost use Rattle.heap_texts.specs.Texts.{GivesText, MakesText};
 
 use crate::span::span_within;

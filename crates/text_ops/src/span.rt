@@ -1,6 +1,6 @@
 //! Where a part lies within a text.
 ghost use Rattle.std.specs.Prelude.{◌≡◌, ◌+◌, ◌≤◌, ℕ, List, length, IfSome};
-ghost use Rattle.heap_texts.specs.ps_meaning.Texts.{part_of};
+ghost use Rattle.heap_texts.specs.ps_heap.Texts.{part_of};
 ghost use Rattle.text_ops.specs.Spans.{part_in};
 
 /// So many bytes of a text, after so many.

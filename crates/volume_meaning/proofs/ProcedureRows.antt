@@ -23,12 +23,12 @@ use Rattle.heap_meaning.specs.swizzle.Joint.{Shown, shown_words}
 use Rattle.heap_meaning.specs.proc_values.Units.{frame_word}
 use Rattle.heap_meaning.specs.proc_values.Loaded.{IsFitUnit}
 use Rattle.ps_code_laws.specs.text_forms.Forms.{forms_of, forms_from, form_here, begins}
-use Rattle.ps_code_laws.specs.ps_meaning.Values.{Value, Procedure, as_written}
+use Rattle.ps_code_laws.specs.ps_heap.Values.{Value, Procedure, as_written}
 use Rattle.ps_code_laws.specs.Compiled.{compiled_routine, compiled_all}
 use Rattle.heap_meaning.specs.Units.{IsUnitSeen, shown_code}
 use Rattle.heap_meaning.specs.Standing.{AreFor, StandsForProcedure}
 use Rattle.heap_meaning.specs.Paired.{paired}
-use Rattle.heap_fit.specs.database_meaning.Objects.{Object, Structure}
+use Rattle.heap_fit.specs.ps_heap.Objects.{Object, Structure}
 use Rattle.volume_meaning.specs.Space.{IsStored, SeenIn, with_tables}
 use Rattle.volume_meaning.specs.Stands.{IsThing}
 use Rattle.volume_meaning.proofs.Seen.{seen-one, seen-itself}

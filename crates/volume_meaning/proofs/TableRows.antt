@@ -12,7 +12,7 @@ use Rattle.heap_meaning.specs.swizzle.Joint.{Shown, shown_words}
 use Rattle.heap_meaning.specs.heap_places.Words.{int_in}
 use Rattle.heap_meaning.specs.Standing.{IsKindOf}
 use Rattle.heap_meaning.specs.Paired.{paired}
-use Rattle.heap_fit.specs.database_meaning.Tables.{Entry, by_ints, without_keys, cardinality}
+use Rattle.heap_fit.specs.ps_heap.Tables.{Entry, by_ints, without_keys, cardinality}
 use Rattle.volume_meaning.specs.Space.{IsStored, SeenIn, with_tables}
 use Rattle.volume_meaning.specs.Tables.{IsNode, IsIntKey, IsTable}
 use Rattle.volume_meaning.proofs.Cutting.{pid, at, space_with, is-object, Follow, seen-there}

@@ -4,12 +4,13 @@ use Rattle.std.specs.Prelude.{codes}
 use Rattle.heap_fit.specs.ps_soundness.ps_meaning.ps_base.TyView as types
 use Rattle.heap_fit.specs.ps_soundness.ps_program.Node.{body}
 use Rattle.heap_fit.specs.ps_soundness.ps_program.Node as node
-use Rattle.ps_code_laws.specs.ps_meaning.Values.{Num, Procedure, as_written}
-use Rattle.heap_fit.specs.database_meaning.reaching.Reaching.{at_start, by_step}
-use Rattle.heap_fit.specs.database_meaning.Tables.{by_strings}
-use Rattle.heap_fit.specs.database_meaning.Objects.{Structure, Scope, Keyed, next_in}
-use Rattle.heap_fit.specs.database_meaning.Databases.{every_root}
-use Rattle.heap_fit.specs.database_meaning.Held.{StoredHeap, home_at}
+use Rattle.ps_code_laws.specs.ps_heap.Values.{Num, Procedure, as_written}
+use Rattle.heap_fit.specs.ps_heap.reaching.Reaching.{at_start, by_step}
+use Rattle.heap_fit.specs.ps_heap.Tables.{by_strings}
+use Rattle.heap_fit.specs.ps_heap.Objects.{Structure, Scope, Keyed}
+use Rattle.heap_fit.specs.ps_heap.References.{next_in}
+use Rattle.heap_fit.specs.ps_heap.Databases.{every_root}
+use Rattle.heap_fit.specs.ps_heap.Held.{StoredHeap, home_at}
 use Rattle.heap_fit.specs.database_meaning.Same.{IsInHeap}
 use Rattle.heap_fit.specs.Heaps.{here, further}
 use Rattle.heap_fit.proofs.RoundLaws.{no_own_parent}

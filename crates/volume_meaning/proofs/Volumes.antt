@@ -15,10 +15,10 @@ use Rattle.ps_volumes.specs.shadow_volume.Making.{IsNew, empty_held}
 use Rattle.ps_volumes.specs.shadow_volume.Standing.{held_in, held_of}
 use Rattle.ps_volumes.proofs.of_shadow_volume.New.{found_new}
 use Rattle.heap_meaning.specs.Paired.{paired}
-use Rattle.heap_fit.specs.database_meaning.Databases.{Database, every_root}
-use Rattle.heap_fit.specs.database_meaning.Held.{StoredHeap}
+use Rattle.heap_fit.specs.ps_heap.Databases.{Database, every_root}
+use Rattle.heap_fit.specs.ps_heap.Held.{StoredHeap}
 use Rattle.heap_fit.specs.database_meaning.Same.{IsInHeap}
-use Rattle.heap_fit.specs.database_meaning.reaching.Reaching.{IsIn, at_start, by_step}
+use Rattle.heap_fit.specs.ps_heap.reaching.Reaching.{IsIn, at_start, by_step}
 use Rattle.heap_fit.specs.Heaps.{IsFitDatabase, AreNamedOnce, IsFitHeap}
 use Rattle.ps_volumes.specs.obj_store.Spaces.{word_at, words_of, space_of, space_found}
 use Rattle.ps_volumes.specs.Attaching.{KeepsVolume}

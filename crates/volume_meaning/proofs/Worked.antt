@@ -15,15 +15,16 @@ use Rattle.heap_meaning.specs.swizzle.Joint.{Shown, shown_words}
 use Rattle.heap_meaning.specs.heap_places.Words.{int_in}
 use Rattle.heap_meaning.specs.heap_places.Shapes.{word_in}
 use Rattle.ps_code_laws.specs.text_forms.Forms.{forms_of, forms_from, form_here, begins}
-use Rattle.ps_code_laws.specs.ps_meaning.Values.{Num, Text, Pointer}
+use Rattle.ps_code_laws.specs.ps_heap.Values.{Num, Text, Pointer}
 use Rattle.heap_meaning.specs.Standing.{IsKindOf}
 use Rattle.heap_meaning.specs.Paired.{paired}
-use Rattle.heap_fit.specs.database_meaning.Tables.{by_strings, cardinality}
-use Rattle.heap_fit.specs.database_meaning.Objects.{Object, Structure, Keyed, next_in}
-use Rattle.heap_fit.specs.database_meaning.Databases.{every_root}
-use Rattle.heap_fit.specs.database_meaning.Held.{StoredHeap, home_at}
+use Rattle.heap_fit.specs.ps_heap.Tables.{by_strings, cardinality}
+use Rattle.heap_fit.specs.ps_heap.Objects.{Object, Structure, Keyed}
+use Rattle.heap_fit.specs.ps_heap.References.{next_in}
+use Rattle.heap_fit.specs.ps_heap.Databases.{every_root}
+use Rattle.heap_fit.specs.ps_heap.Held.{StoredHeap, home_at}
 use Rattle.heap_fit.specs.database_meaning.Same.{IsInHeap}
-use Rattle.heap_fit.specs.database_meaning.reaching.Reaching.{IsIn, at_start, by_step}
+use Rattle.heap_fit.specs.ps_heap.reaching.Reaching.{IsIn, at_start, by_step}
 use Rattle.heap_fit.specs.ps_soundness.ps_meaning.ps_base.TyView as types
 use Rattle.heap_fit.specs.ps_soundness.ps_type_text.Texts.{Field, IsNamed, is_name_byte}
 use Rattle.heap_fit.specs.Heaps.{at_structure, at_table, IsFitAt, IsFitHeap}

@@ -10,15 +10,15 @@ use Rattle.ps_volumes.specs.obj_layout.Stored.{Space}
 use Rattle.heap_meaning.specs.swizzle.Joint.{Shown}
 use Rattle.heap_meaning.specs.heap_places.Shapes.{word_in, IsText}
 use Rattle.ps_code_laws.specs.ps_gen.Units.{HasUnit}
-use Rattle.ps_code_laws.specs.ps_meaning.Values.{Value, Procedure, as_written}
-use Rattle.ps_code_laws.specs.ps_meaning.Objects as object
+use Rattle.ps_code_laws.specs.ps_heap.Values.{Value, Procedure, as_written}
+use Rattle.ps_code_laws.specs.ps_heap.Objects as object
 use Rattle.ps_code_laws.specs.Compiled.{compiled_object}
 use Rattle.ps_code_laws.specs.Literals.{BodyIs}
 use Rattle.heap_meaning.specs.Standing.{Seen, Pairing, IsKindOf, IsLike}
 use Rattle.heap_meaning.specs.Paired.{paired}
-use Rattle.heap_fit.specs.database_meaning.Objects.{Object, Structure, Elements, Scope, Keyed, object_at}
-use Rattle.heap_fit.specs.database_meaning.Databases.{Database}
-use Rattle.heap_fit.specs.database_meaning.Held.{StoredHeap, home_at}
+use Rattle.heap_fit.specs.ps_heap.Objects.{Object, Structure, Elements, Scope, Keyed, object_at}
+use Rattle.heap_fit.specs.ps_heap.Databases.{Database}
+use Rattle.heap_fit.specs.ps_heap.Held.{StoredHeap, home_at}
 use Rattle.heap_fit.specs.Heaps.{IsFitHeap}
 use Rattle.volume_meaning.specs.Space.{SeenIn, space_in, with_tables}
 use Rattle.volume_meaning.specs.Tables.{IsTable, IsNodeOf}

@@ -6,9 +6,9 @@ use Rattle.ps_volumes.specs.obj_layout.declared.reference.Reference.TheVariants.
 use Rattle.heap_meaning.specs.swizzle.Joint.{Shown}
 use Rattle.heap_meaning.specs.heap_places.Words.{int_in}
 use Rattle.heap_meaning.specs.heap_places.Shapes.{slot_of, word_in, IsText}
-use Rattle.ps_code_laws.specs.ps_meaning.Values.{Pointer}
+use Rattle.ps_code_laws.specs.ps_heap.Values.{Pointer}
 use Rattle.heap_meaning.specs.Standing.{Seen, Pairing, IsKindOf, StandsFor}
-use Rattle.heap_fit.specs.database_meaning.Tables.{Entry, Table, without_keys, by_strings, by_ints, cardinality, IsInKeyOrder}
+use Rattle.heap_fit.specs.ps_heap.Tables.{Entry, Table, without_keys, by_strings, by_ints, cardinality, IsInKeyOrder}
 use Rattle.volume_meaning.specs.Space.{with_tables}
 
 -- A node's key: the text that its third reference names, or the int that its word after the home spells.

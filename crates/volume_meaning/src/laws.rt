@@ -9,7 +9,7 @@ ghost use Rattle.ps_volumes.specs.shadow_volume.declared.finding.Damage.{Damage}
 ghost use Rattle.ps_volumes.specs.shadow_volume.Making.{IsNew};
 ghost use Rattle.ps_volumes.specs.shadow_volume.Standing.{held_in};
 ghost use Rattle.ps_volumes.specs.shadow_volume.declared.note.Note.{Note};
-ghost use Rattle.heap_fit.specs.database_meaning.Held.{StoredHeap};
+ghost use Rattle.heap_fit.specs.ps_heap.Held.{StoredHeap};
 ghost use Rattle.volume_meaning.specs.Space.{holding, spaced, space_in, HoldSame};
 ghost use Rattle.volume_meaning.specs.Stands.{Stands, StandsSince};
 ghost use Rattle.ps_volumes.specs.Attaching.{KeepsVolume};

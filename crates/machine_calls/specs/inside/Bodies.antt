@@ -8,7 +8,7 @@ use Rattle.machine_core.specs.obj_layout.declared.reference.Reference.{Reference
 use Rattle.machine_core.specs.swizzle.Heap as area
 use Rattle.machine_core.specs.swizzle.Heap.{IsHeld}
 use Rattle.machine_core.specs.proc_values.Reading.{IsPlaceOf}
-use Rattle.machine_core.specs.ps_meaning.Values.{Value, Procedure, as_compiled}
+use Rattle.machine_core.specs.ps_heap.Values.{Value, Procedure, as_compiled}
 use Rattle.machine_core.specs.ps_stepping.Config.{Config}
 use Rattle.machine_core.specs.ps_stepping.Steps.{Step, Stuck}
 use Rattle.machine_core.specs.ps_stepping.Procedures.{takes_refs, unit_called}

@@ -5,9 +5,9 @@ use Rattle.machine_core.specs.ps_outside.Outside.{Outside}
 use Rattle.machine_core.specs.obj_layout.Stored.{Space}
 use Rattle.machine_core.specs.obj_layout.declared.reference.Reference.{Reference}
 use Rattle.machine_core.specs.proc_values.Loaded.{IsFitUnit}
-use Rattle.machine_core.specs.ps_meaning.Values.{Text, Procedure, as_compiled}
-use Rattle.machine_core.specs.ps_meaning.Objects.{new_number}
-use Rattle.machine_core.specs.ps_meaning.Scopes.{new_scope}
+use Rattle.machine_core.specs.ps_heap.Values.{Text, Procedure, as_compiled}
+use Rattle.machine_core.specs.ps_heap.Objects.{new_number}
+use Rattle.machine_core.specs.ps_heap.Scopes.{new_scope}
 use Rattle.machine_core.specs.ps_meaning.Meaning.{and_object, and_closure}
 use Rattle.machine_core.specs.ps_stepping.Config.{Config}
 use Rattle.machine_core.specs.ps_stepping.Steps.{Step, on, push_ref}

@@ -6,8 +6,8 @@ use Rattle.machine_core.specs.obj_layout.declared.reference.Reference.{Reference
 use Rattle.machine_core.specs.text_forms.Forms.{forms_of, form_in}
 use Rattle.machine_core.specs.heap_places.declared.value.Value as code
 use Rattle.machine_core.specs.heap_places.declared.value.Value.TheVariants as held
-use Rattle.machine_core.specs.ps_meaning.Values.{Value, number_of}
-use Rattle.machine_core.specs.ps_meaning.Meaning.{with_kept_name}
+use Rattle.machine_core.specs.ps_heap.Values.{Value, number_of}
+use Rattle.machine_core.specs.ps_heap.Scopes.{with_kept_name}
 use Rattle.machine_core.specs.ps_stepping.Config.{Config}
 use Rattle.machine_core.specs.ps_stepping.Steps.{Step, Stuck, push_num, push_ref}
 use Rattle.machine_core.specs.ps_stepping.Objects.{changed, when_number, when_reference}

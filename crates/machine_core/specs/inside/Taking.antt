@@ -4,7 +4,7 @@ use Rattle.joint_ops.specs.ps_outside.Outside.{Outside}
 use Rattle.joint_ops.specs.obj_layout.Stored.{Space}
 use Rattle.joint_ops.specs.obj_layout.declared.reference.Reference.{Reference}
 use Rattle.joint_ops.specs.swizzle.Heap.{IsHeld}
-use Rattle.ps_stepping.specs.ps_meaning.Values.{Value}
+use Rattle.ps_stepping.specs.ps_heap.Values.{Value}
 use Rattle.ps_stepping.specs.Config.{Config}
 use Rattle.ps_stepping.specs.Machine.{Step, Stuck, pop_two, is_num_slot, is_ref_slot}
 use Rattle.machine_core.specs.declared.machine.Machine.{Machine}

@@ -6,7 +6,8 @@ use Rattle.vault_output.specs.obj_layout.declared.vault.VaultFault.TheVariants.{
 use Rattle.machine_core.specs.swizzle.Heap.{header_at}
 use Rattle.machine_core.specs.swizzle.declared.fault.SwizzleFault.{SwizzleFault}
 use Rattle.machine_core.specs.swizzle.declared.fault.SwizzleFault.TheVariants.{Vault}
-use Rattle.machine_core.specs.ps_meaning.Event.{Event, outputs, report_of}
+use Rattle.machine_core.specs.ps_heap.Ends.{report_of}
+use Rattle.machine_core.specs.ps_meaning.Event.{Event, outputs}
 use Rattle.machine_core.specs.ps_stepping.Config.{Config}
 use Rattle.machine_core.specs.ps_stepping.Machine.{Step, Goes, Stops, Steps}
 use Rattle.machine_core.specs.declared.machine.Machine.{Machine}

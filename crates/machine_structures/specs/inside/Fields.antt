@@ -10,9 +10,9 @@ use Rattle.machine_core.specs.text_forms.declared.forms.Form.{Form}
 use Rattle.machine_core.specs.text_forms.declared.forms.Located.{Located}
 use Rattle.machine_core.specs.text_forms.Forms.{forms_of, located_in, is_number_form}
 use Rattle.machine_core.specs.heap_places.declared.value.Value as code
-use Rattle.machine_core.specs.ps_meaning.Event.{Trapped}
-use Rattle.machine_core.specs.ps_meaning.Objects.{with_field, kept_as}
-use Rattle.machine_core.specs.ps_meaning.Values.{Value}
+use Rattle.machine_core.specs.ps_heap.Ends.{Trapped}
+use Rattle.machine_core.specs.ps_heap.Objects.{with_field, kept_as}
+use Rattle.machine_core.specs.ps_heap.Values.{Value}
 use Rattle.machine_core.specs.ps_stepping.Config.{Config}
 use Rattle.machine_core.specs.ps_stepping.Steps.{Step, Stops, Stuck, attempted}
 use Rattle.machine_core.specs.ps_stepping.Objects.{object_of, pop_object, changed, when_number, when_reference}

@@ -6,9 +6,9 @@ use Rattle.machine_core.specs.text_forms.declared.forms.Rows.{Rows}
 use Rattle.machine_core.specs.text_forms.Forms.{forms_of, one_more}
 use Rattle.machine_core.specs.heap_places.declared.value.Value as code
 use Rattle.machine_core.specs.heap_places.declared.value.Value.TheVariants as held
-use Rattle.machine_core.specs.ps_meaning.Objects.{Structure}
-use Rattle.machine_core.specs.ps_meaning.Operators.{is_int}
-use Rattle.machine_core.specs.ps_meaning.Values.{Pointer, is_one}
+use Rattle.machine_core.specs.ps_heap.Objects.{Structure}
+use Rattle.machine_core.specs.ps_heap.Operators.{is_int}
+use Rattle.machine_core.specs.ps_heap.Values.{Pointer, is_one}
 use Rattle.machine_core.specs.ps_stepping.Config.{Config}
 use Rattle.machine_core.specs.ps_stepping.Steps.{Step}
 use Rattle.machine_core.specs.ps_stepping.Objects.{pop_fields, make}

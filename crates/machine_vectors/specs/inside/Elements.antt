@@ -6,9 +6,8 @@ use Rattle.machine_core.specs.obj_layout.Stored.{Space}
 use Rattle.machine_core.specs.obj_layout.declared.reference.Reference.{Reference}
 use Rattle.machine_core.specs.text_forms.declared.forms.Form.{Form}
 use Rattle.machine_core.specs.text_forms.Forms.{element_of, is_number_form}
-use Rattle.machine_core.specs.ps_meaning.Values.{Value, Num, Vector, word_of}
-use Rattle.machine_core.specs.ps_meaning.Objects.{kept_as, with_element}
-use Rattle.machine_core.specs.ps_meaning.Objects.{element_of as element_at}
+use Rattle.machine_core.specs.ps_heap.Values.{Value, Num, Vector, word_of}
+use Rattle.machine_core.specs.ps_heap.Objects.{kept_as, with_element, element_of as element_at}
 use Rattle.machine_core.specs.ps_stepping.Config.{Config}
 use Rattle.machine_core.specs.ps_stepping.Steps.{Step, Stuck, attempted, push_num, push_ref}
 use Rattle.machine_core.specs.ps_stepping.Objects.{type_of, when_number, when_reference, changed}

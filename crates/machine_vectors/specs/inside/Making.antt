@@ -6,8 +6,8 @@ use Rattle.machine_core.specs.obj_layout.Stored.{Space}
 use Rattle.machine_core.specs.obj_layout.declared.reference.Reference.{Reference}
 use Rattle.machine_core.specs.text_forms.Forms.{element_of}
 use Rattle.machine_core.specs.heap_places.declared.value.Value as code
-use Rattle.machine_core.specs.ps_meaning.Values.{Value, Num, Text, Vector}
-use Rattle.machine_core.specs.ps_meaning.Objects.{kept_as, filled_vector, vector_of}
+use Rattle.machine_core.specs.ps_heap.Values.{Value, Num, Text, Vector}
+use Rattle.machine_core.specs.ps_heap.Objects.{kept_as, filled_vector, vector_of}
 use Rattle.machine_core.specs.ps_stepping.Config.{Config}
 use Rattle.machine_core.specs.ps_stepping.Steps.{Step, attempted, pop_num, pop_ref, pop_two}
 use Rattle.machine_core.specs.ps_stepping.Objects.{make, pop_nums, pop_refs, when_number, when_reference}

@@ -7,8 +7,8 @@ use Rattle.machine_core.specs.text_forms.declared.forms.Form.{Form}
 use Rattle.machine_core.specs.text_forms.declared.forms.Form.TheVariants as form
 use Rattle.machine_core.specs.heap_places.declared.value.Value as code
 use Rattle.machine_core.specs.heap_places.declared.value.Value.TheVariants as held
-use Rattle.machine_core.specs.ps_meaning.Values.{Value, Num}
-use Rattle.machine_core.specs.ps_meaning.Objects.{kept_as}
+use Rattle.machine_core.specs.ps_heap.Values.{Value, Num}
+use Rattle.machine_core.specs.ps_heap.Objects.{kept_as}
 use Rattle.machine_core.specs.ps_stepping.Config.{Config}
 use Rattle.machine_core.specs.ps_stepping.Steps.{Step, Stuck}
 use Rattle.machine_core.specs.ps_stepping.Objects.{pop_nums, pop_refs}

@@ -7,7 +7,7 @@ ghost use Rattle.joint_ops.specs.swizzle.Fetched.{IsLocal};
 ghost use Rattle.joint_ops.specs.swizzle.Heap.{IsHeld, header_at};
 ghost use Rattle.joint_ops.specs.swizzle.Reading.{LeavesOutside};
 ghost use Rattle.joint_ops.specs.swizzle.Touch.{Keeps, IsTouchFault};
-ghost use Rattle.joint_ops.specs.ps_meaning.Objects as meaning;
+ghost use Rattle.joint_ops.specs.ps_heap.Objects as meaning;
 ghost use Rattle.joint_ops.specs.World.{IsWorld, Stands, FailsAsReading};
 ghost use Rattle.objects.specs.Known.{IsRight};
 

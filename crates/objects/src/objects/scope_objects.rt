@@ -6,9 +6,9 @@ ghost use Rattle.joint_ops.specs.swizzle.Heap.{IsHeld, Stands as AllStand, heade
 ghost use Rattle.joint_ops.specs.swizzle.Reading.{LeavesOutside};
 ghost use Rattle.joint_ops.specs.swizzle.Touch.{Keeps};
 ghost use Rattle.joint_ops.specs.heap_places.Places.{IsNear};
-ghost use Rattle.joint_ops.specs.ps_meaning.Objects as meaning;
-ghost use Rattle.joint_ops.specs.ps_meaning.Scopes.{new_scope};
-ghost use Rattle.joint_ops.specs.ps_meaning.Values as meant;
+ghost use Rattle.joint_ops.specs.ps_heap.Objects as meaning;
+ghost use Rattle.joint_ops.specs.ps_heap.Scopes.{new_scope};
+ghost use Rattle.joint_ops.specs.ps_heap.Values as meant;
 ghost use Rattle.joint_ops.specs.World.{DenotesIn, DenotesScopeIn, IsForIn, IsWorld, FailsAsReading};
 ghost use Rattle.joint_ops.specs.Made.{FailsAsMaking};
 ghost use Rattle.joint_procedures.specs.Scopes.{AnswersOut, AnswersParent, IsInt, MakesScope, PutsKept, ReadsKept, WritesKept};

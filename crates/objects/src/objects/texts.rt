@@ -5,9 +5,9 @@ ghost use Rattle.joint_ops.specs.obj_layout.declared.reference.Reference.{Refere
 ghost use Rattle.joint_ops.specs.swizzle.Heap.{IsHeld, header_at};
 ghost use Rattle.joint_ops.specs.swizzle.Text.{text_at};
 ghost use Rattle.joint_ops.specs.swizzle.Touch.{Keeps};
-ghost use Rattle.joint_ops.specs.ps_meaning.Objects as meaning;
-ghost use Rattle.joint_ops.specs.ps_meaning.Texts.{Yields, join_of, part_of, order_of, string_of};
-ghost use Rattle.joint_ops.specs.ps_meaning.Values as meant;
+ghost use Rattle.joint_ops.specs.ps_heap.Objects as meaning;
+ghost use Rattle.joint_ops.specs.ps_heap.Texts.{Yields, join_of, part_of, order_of, string_of};
+ghost use Rattle.joint_ops.specs.ps_heap.Values as meant;
 ghost use Rattle.joint_ops.specs.World.{IsWorld, DenotesIn};
 ghost use Rattle.joint_ops.specs.Made.{MakesText, BreaksAsMaking};
 

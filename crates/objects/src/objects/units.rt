@@ -9,7 +9,7 @@ ghost use Rattle.joint_ops.specs.proc_values.Units.{IsCut, unit_objects};
 ghost use Rattle.joint_ops.specs.swizzle.Heap.{IsHeld, header_at, num_at, top_of};
 ghost use Rattle.joint_ops.specs.swizzle.Reading.{LeavesOutside};
 ghost use Rattle.joint_ops.specs.swizzle.Touch.{Keeps};
-ghost use Rattle.joint_ops.specs.ps_meaning.Objects as meaning;
+ghost use Rattle.joint_ops.specs.ps_heap.Objects as meaning;
 ghost use Rattle.joint_ops.specs.World.{IsUnitIn, IsWorld, Stands, FailsAsReading};
 ghost use Rattle.joint_ops.specs.Code.{LoadsUnit, AnswersConstant};
 ghost use Rattle.joint_procedures.specs.Units.{AnswersLiteral, AnswersText, IsFrameIn};

@@ -1,5 +1,5 @@
 use Rattle.std.proofs.Common.{ap}
-use Rattle.database_meaning.specs.Commit.{saved}
+use Rattle.ps_heap.specs.Commit.{saved}
 use Rattle.database_meaning.proofs.CommitLaws.{saved-is}
 use Rattle.database_meaning.proofs.laws.a_commit_keeps_ids.Goals as goal
 

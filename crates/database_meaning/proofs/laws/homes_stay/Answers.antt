@@ -1,6 +1,6 @@
 use Rattle.std.proofs.Common.{◌≡◌, sym, subst, Some}
-use Rattle.database_meaning.specs.Held.{home_at}
-use Rattle.database_meaning.specs.Commit.{saved}
+use Rattle.ps_heap.specs.Held.{home_at}
+use Rattle.ps_heap.specs.Commit.{saved}
 use Rattle.database_meaning.proofs.CommitLaws.{saved-is, stays}
 use Rattle.database_meaning.proofs.laws.homes_stay.Goals as goal
 

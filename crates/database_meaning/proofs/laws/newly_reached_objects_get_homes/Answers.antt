@@ -1,4 +1,4 @@
-use Rattle.database_meaning.specs.Commit.{first_database}
+use Rattle.ps_heap.specs.Commit.{first_database}
 use Rattle.database_meaning.proofs.HomeLaws.{homed, homed-back}
 use Rattle.database_meaning.proofs.StepLaws.{all-writable}
 use Rattle.database_meaning.proofs.laws.newly_reached_objects_get_homes.Goals as goal

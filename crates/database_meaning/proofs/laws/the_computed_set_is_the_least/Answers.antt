@@ -1,7 +1,6 @@
 use Rattle.reaching.proofs.WalkLaws.{least-in, in-least}
-use Rattle.database_meaning.specs.Objects.{next_in}
-use Rattle.database_meaning.specs.Commit.{loose, starts}
-use Rattle.database_meaning.specs.Commit.{newly_reached}
+use Rattle.ps_heap.specs.References.{next_in}
+use Rattle.ps_heap.specs.Commit.{loose, starts, newly_reached}
 use Rattle.database_meaning.proofs.laws.the_computed_set_is_the_least.Goals as goal
 
 pub returns : goal.returns

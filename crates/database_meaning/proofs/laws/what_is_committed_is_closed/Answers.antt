@@ -1,5 +1,5 @@
 use Rattle.std.proofs.Common.{sym, subst}
-use Rattle.database_meaning.specs.Commit.{saved}
+use Rattle.ps_heap.specs.Commit.{saved}
 use Rattle.database_meaning.specs.Sound.{IsClosed}
 use Rattle.database_meaning.proofs.CommitLaws.{saved-is, closed}
 use Rattle.database_meaning.proofs.laws.what_is_committed_is_closed.Goals as goal

@@ -1,5 +1,5 @@
 use Rattle.std.proofs.Common.{inl, inr, sym, subst}
-use Rattle.database_meaning.specs.Commit.{saved}
+use Rattle.ps_heap.specs.Commit.{saved}
 use Rattle.database_meaning.specs.Sound.{IsCommitted}
 use Rattle.database_meaning.proofs.CommitLaws.{saved-is, stays, reached-committed, committed-reached}
 use Rattle.database_meaning.proofs.laws.what_is_reached_is_committed.Goals as goal

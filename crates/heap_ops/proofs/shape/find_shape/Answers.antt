@@ -1,5 +1,5 @@
 use Rattle.std.proofs.Common.{Bool, ap, sym, ◌∙◌, ◌≡◌, ◌^◌, ℕ, length, refl, if◌then◌else◌, to_z, of_z, w32}
-use Rattle.heap_places.specs.ps_meaning.Objects.{is_vector}
+use Rattle.heap_places.specs.ps_heap.Objects.{is_vector}
 use Rattle.heap_places.specs.obj_layout.Stored.{damage}
 use Rattle.heap_places.specs.swizzle.Joint.{shown_at}
 use Rattle.heap_places.specs.text_forms.Forms.{is_number_form}

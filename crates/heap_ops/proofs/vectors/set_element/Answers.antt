@@ -1,6 +1,6 @@
 use Rattle.std.proofs.lemmas.Int.{to_z-of_z}
 use Rattle.std.proofs.Common.{w32, inl, ℕ, sym, ap, subst, ◌∙◌}
-use Rattle.heap_places.specs.ps_meaning.Objects.{place_of}
+use Rattle.heap_places.specs.ps_heap.Objects.{place_of}
 use Rattle.heap_places.specs.swizzle.Joint.{Shown, shown_at}
 use Rattle.heap_places.specs.Places.{HasRow}
 use Rattle.heap_ops.specs.Vectors.{index_of}

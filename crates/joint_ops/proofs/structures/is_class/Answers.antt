@@ -3,7 +3,7 @@ use Rattle.heap_meaning.specs.obj_layout.declared.kind.Kind.TheVariants.{Structu
 use Rattle.heap_meaning.specs.swizzle.Heap.{header_at}
 use Rattle.heap_meaning.specs.swizzle.Text.{text_at}
 use Rattle.heap_meaning.proofs.of_heap_places.TouchedLaws.{kinds-same, kinds-differ}
-use Rattle.heap_meaning.specs.ps_meaning.Objects.{is_class}
+use Rattle.heap_meaning.specs.ps_heap.Objects.{is_class}
 use Rattle.joint_ops.specs.World.{DenotesIn}
 use Rattle.joint_ops.proofs.GrowthLaws.{same-keeps}
 use Rattle.joint_ops.proofs.SeenLaws.{text-denoted, nothing-done}

@@ -1,5 +1,5 @@
 use Rattle.std.proofs.Common.{List, ℕ, ap, ◌∙◌}
-use Rattle.heap_meaning.specs.ps_meaning.Texts.{order_of}
+use Rattle.heap_meaning.specs.ps_heap.Texts.{order_of}
 use Rattle.heap_meaning.specs.swizzle.Text.{text_at}
 use Rattle.joint_ops.proofs.SeenLaws.{text-denoted}
 use Rattle.joint_ops.proofs.texts.compare.Goals as goal

@@ -1,5 +1,5 @@
-use Rattle.heap_meaning.specs.ps_meaning.Values.{Vector}
-use Rattle.heap_meaning.specs.ps_meaning.Objects.{low_of}
+use Rattle.heap_meaning.specs.ps_heap.Values.{Vector}
+use Rattle.heap_meaning.specs.ps_heap.Objects.{low_of}
 use Rattle.joint_ops.specs.World.{Stands}
 use Rattle.joint_ops.proofs.SeenLaws.{vector-denoted, vector-at}
 use Rattle.joint_ops.proofs.ElementLaws.{answers-low, breaks-low, low-int, bound-back}

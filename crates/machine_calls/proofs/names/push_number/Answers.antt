@@ -2,7 +2,7 @@ use mir.Syntax.{w32}
 use mir.Val.{to_z, of_z}
 use Rattle.std.proofs.Common.{◌≡◌, ◌∙◌, ℤ, sym, rules, subst}
 use Rattle.machine_core.specs.heap_places.declared.value.Value.{Value}
-use Rattle.machine_core.specs.ps_meaning.Values.{number_of}
+use Rattle.machine_core.specs.ps_heap.Values.{number_of}
 use Rattle.machine_core.specs.ps_stepping.Steps.{push_num}
 use Rattle.machine_core.specs.Stepped.{Takes}
 use Rattle.machine_calls.specs.inside.Names.{number_pushed}

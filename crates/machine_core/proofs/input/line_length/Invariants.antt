@@ -1,5 +1,5 @@
 use Rattle.std.proofs.Common.{◌≡◌, ◌+◌, ◌-◌, ◌≤◌, drop, length}
-use Rattle.ps_stepping.specs.ps_meaning.Texts.{line_of}
+use Rattle.ps_stepping.specs.ps_heap.Texts.{line_of}
 use Rattle.machine_core.proofs.input.line_length.Given as goal
 
 -- the bytes before the place are of the line

@@ -1,6 +1,6 @@
 use Rattle.std.proofs.Common.{◌≡◌, true, false, rules, ap, Bool}
 use Rattle.std.specs.Prelude.{if◌then◌else◌}
-use Rattle.ps_stepping.specs.ps_meaning.Values.{is_one}
+use Rattle.ps_stepping.specs.ps_heap.Values.{is_one}
 use Rattle.ps_stepping.specs.Machine.{on, forward}
 use Rattle.machine_core.proofs.Between.{top-stays, top-drops, no-top}
 use Rattle.machine_core.proofs.jumps.or.Goals as goal

@@ -1,6 +1,6 @@
 use Rattle.std.proofs.Common.{rules, subst, sym}
 use Rattle.ps_stepping.specs.Machine.{put_num, answered}
-use Rattle.ps_stepping.specs.ps_meaning.Answers.{answer_of}
+use Rattle.ps_stepping.specs.ps_heap.Answers.{answer_of}
 use Rattle.machine_core.specs.inside.Taking.{TakesTwo}
 use Rattle.machine_core.proofs.values.answered_for_two.Goals as goal
 

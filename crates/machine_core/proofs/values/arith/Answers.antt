@@ -1,6 +1,6 @@
 use Rattle.std.proofs.Common.{◌≡◌, rules}
-use Rattle.ps_stepping.specs.ps_meaning.Answers.{answer_of}
-use Rattle.ps_stepping.specs.ps_meaning.Operators.{arith_of}
+use Rattle.ps_stepping.specs.ps_heap.Answers.{answer_of}
+use Rattle.ps_stepping.specs.ps_heap.Operators.{arith_of}
 use Rattle.ps_stepping.specs.Machine.{answered}
 use Rattle.machine_core.proofs.Between.{no-operands}
 use Rattle.machine_core.proofs.Popping.{takes_two}

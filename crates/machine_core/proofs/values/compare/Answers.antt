@@ -1,6 +1,6 @@
 use Rattle.std.proofs.Common.{◌≡◌, rules}
-use Rattle.ps_stepping.specs.ps_meaning.Operators.{relation_of}
-use Rattle.ps_stepping.specs.ps_meaning.Values.{number_of}
+use Rattle.ps_stepping.specs.ps_heap.Operators.{relation_of}
+use Rattle.ps_stepping.specs.ps_heap.Values.{number_of}
 use Rattle.ps_stepping.specs.Machine.{put_num}
 use Rattle.machine_core.specs.inside.Taking.{TakesTwo}
 use Rattle.machine_core.proofs.Between.{no-operands}

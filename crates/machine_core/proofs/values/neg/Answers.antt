@@ -1,6 +1,6 @@
 use Rattle.std.proofs.Common.{rules}
 use Rattle.ps_stepping.specs.Machine.{pop_num, answered}
-use Rattle.ps_stepping.specs.ps_meaning.Operators.{neg_of}
+use Rattle.ps_stepping.specs.ps_heap.Operators.{neg_of}
 use Rattle.machine_core.specs.Stepped.{Takes}
 use Rattle.machine_core.proofs.Between.{taken-then}
 use Rattle.machine_core.proofs.values.neg.Goals as goal

@@ -1,6 +1,6 @@
 use Rattle.std.proofs.Common.{rules}
 use Rattle.std.specs.Prelude.{not}
-use Rattle.ps_stepping.specs.ps_meaning.Values.{is_one, number_of}
+use Rattle.ps_stepping.specs.ps_heap.Values.{is_one, number_of}
 use Rattle.ps_stepping.specs.Machine.{pop_num, put_num}
 use Rattle.machine_core.specs.Stepped.{Takes}
 use Rattle.machine_core.proofs.Between.{taken-then}

@@ -1,5 +1,5 @@
 use Rattle.std.proofs.Common.{rules}
-use Rattle.ps_stepping.specs.ps_meaning.Values.{is_one, flag_text}
+use Rattle.ps_stepping.specs.ps_heap.Values.{is_one, flag_text}
 use Rattle.ps_stepping.specs.Machine.{pop_num, pop_width, written}
 use Rattle.machine_core.specs.Stepped.{Takes}
 use Rattle.machine_core.proofs.Between.{taken-then}

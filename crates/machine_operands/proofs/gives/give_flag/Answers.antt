@@ -1,5 +1,5 @@
 use Rattle.std.proofs.Common.{sym, subst, rules}
-use Rattle.machine_core.specs.ps_meaning.Values.{number_of}
+use Rattle.machine_core.specs.ps_heap.Values.{number_of}
 use Rattle.machine_core.specs.ps_stepping.Steps.{push_num}
 use Rattle.machine_core.specs.Stepped.{Takes}
 use Rattle.machine_operands.specs.Giving.{GivesFlag}

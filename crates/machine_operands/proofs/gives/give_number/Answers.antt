@@ -1,7 +1,7 @@
 use Rattle.std.proofs.Common.{◌≡◌, sym, subst, rules}
 use Rattle.std.specs.Prelude.{Ok}
 use Rattle.machine_core.specs.heap_places.declared.value.Value.TheVariants as held
-use Rattle.machine_core.specs.ps_meaning.Values.{number_of}
+use Rattle.machine_core.specs.ps_heap.Values.{number_of}
 use Rattle.machine_core.specs.ps_stepping.Steps.{push_num}
 use Rattle.machine_core.specs.Stepped.{Takes}
 use Rattle.machine_operands.specs.Giving.{GivesNumber}

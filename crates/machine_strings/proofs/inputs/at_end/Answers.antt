@@ -1,8 +1,8 @@
 use mir.Syntax.{w32}
 use mir.Val.{to_z, of_z}
 use Rattle.std.proofs.Common.{◌≡◌, Bool, ℤ, rules, subst, ap, sym, ◌∙◌}
-use Rattle.machine_core.specs.ps_meaning.Texts.{is_at_end}
-use Rattle.machine_core.specs.ps_meaning.Values.{number_of}
+use Rattle.machine_core.specs.ps_heap.Texts.{is_at_end}
+use Rattle.machine_core.specs.ps_heap.Values.{number_of}
 use Rattle.machine_core.specs.ps_stepping.Steps.{push_num}
 use Rattle.machine_core.specs.ps_stepping.Objects.{at_end}
 use Rattle.machine_core.specs.Stepped.{Takes}

@@ -1,6 +1,6 @@
 use Rattle.std.proofs.Common.{◌≡◌, ℕ, List, sym, ap, ◌∙◌, subst, refl, rules}
 use Rattle.machine_core.specs.ps_meaning.Meaning.{on_input}
-use Rattle.machine_core.specs.ps_meaning.Texts.{Attempt, behind_line, line_read, string_of}
+use Rattle.machine_core.specs.ps_heap.Texts.{Attempt, behind_line, line_read, string_of}
 use Rattle.machine_core.specs.ps_stepping.Steps.{attempted}
 use Rattle.machine_core.specs.ps_stepping.Objects.{read_line, make_text, holding}
 use Rattle.machine_core.specs.joint_ops.Made.{MakesText}

@@ -1,6 +1,6 @@
 use Rattle.std.proofs.Common.{rules}
 use Rattle.std.specs.Fmt.{signed_decimal}
-use Rattle.machine_core.specs.ps_meaning.Texts.{Yields}
+use Rattle.machine_core.specs.ps_heap.Texts.{Yields}
 use Rattle.machine_core.specs.ps_stepping.Objects.{int_text, make_text}
 use Rattle.machine_core.specs.joint_ops.Made.{MakesText}
 use Rattle.machine_operands.proofs.Parts.{making-fails}

@@ -1,4 +1,4 @@
-use Rattle.machine_core.specs.ps_meaning.Texts.{join_of}
+use Rattle.machine_core.specs.ps_heap.Texts.{join_of}
 use Rattle.machine_core.specs.ps_stepping.Steps.{attempted}
 use Rattle.machine_core.specs.ps_stepping.Objects.{join, make_text}
 use Rattle.machine_operands.proofs.Parts.{making-fails}

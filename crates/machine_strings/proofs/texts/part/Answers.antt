@@ -1,7 +1,7 @@
 use mir.Syntax.{w32}
 use mir.Val.{to_z, of_z}
 use Rattle.std.proofs.Common.{◌≡◌, ℤ, ◌∙◌, subst, rules}
-use Rattle.machine_core.specs.ps_meaning.Texts.{part_of}
+use Rattle.machine_core.specs.ps_heap.Texts.{part_of}
 use Rattle.machine_core.specs.ps_stepping.Steps.{attempted, pop_num, pop_text}
 use Rattle.machine_core.specs.ps_stepping.Objects.{part, make_text}
 use Rattle.machine_core.specs.joint_ops.Made.{MakesText}

@@ -2,7 +2,7 @@ use Rattle.std.proofs.Common.{◌≡◌, rules}
 use Rattle.std.specs.Prelude.{Err}
 use Rattle.machine_core.specs.swizzle.Touch.{Keeps}
 use Rattle.machine_core.specs.heap_texts.declared.fault.OpFault.TheVariants as op
-use Rattle.machine_core.specs.ps_meaning.Values.{word_of}
+use Rattle.machine_core.specs.ps_heap.Values.{word_of}
 use Rattle.machine_core.specs.ps_stepping.Steps.{push_num}
 use Rattle.machine_core.proofs.Failing.{failing-behind, whole-failing}
 use Rattle.machine_operands.proofs.Parts.{after-trap}

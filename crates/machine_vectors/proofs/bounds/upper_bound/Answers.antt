@@ -1,4 +1,4 @@
-use Rattle.machine_core.specs.ps_meaning.Objects.{high_of}
+use Rattle.machine_core.specs.ps_heap.Objects.{high_of}
 use Rattle.machine_core.specs.ps_stepping.Steps.{push_num}
 use Rattle.machine_operands.proofs.Parts.{fails-after, so-after}
 use Rattle.machine_vectors.proofs.ElementReads.{bound-found, vector-then}

@@ -1,7 +1,7 @@
 use Rattle.std.proofs.Common.{◌≡◌, ℤ, Some, true, false, w32, to_z, of_z, rules, subst}
 use Rattle.machine_core.specs.text_forms.Forms.{element_of, is_number_form}
-use Rattle.machine_core.specs.ps_meaning.Values.{Num}
-use Rattle.machine_core.specs.ps_meaning.Objects.{kept_as}
+use Rattle.machine_core.specs.ps_heap.Values.{Num}
+use Rattle.machine_core.specs.ps_heap.Objects.{kept_as}
 use Rattle.machine_core.specs.ps_stepping.Steps.{pop_num}
 use Rattle.machine_core.specs.ps_stepping.Objects.{when_number}
 use Rattle.machine_core.specs.joint_ops.World.{IsForIn}

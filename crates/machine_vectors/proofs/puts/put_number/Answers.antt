@@ -1,6 +1,6 @@
 use Rattle.std.proofs.Common.{◌≡◌, ℤ, true, w32, to_z, of_z, rules, subst}
 use Rattle.std.proofs.lemmas.Int.{to_z-of_z}
-use Rattle.machine_core.specs.ps_meaning.Operators.{is_int}
+use Rattle.machine_core.specs.ps_heap.Operators.{is_int}
 use Rattle.machine_operands.proofs.Parts.{fails-after, so-after}
 use Rattle.machine_vectors.specs.inside.Elements.{OfNumbers, TakesVector, number_put}
 use Rattle.machine_vectors.proofs.ElementPuts.{number-written}

@@ -1,7 +1,7 @@
 use Rattle.std.proofs.Common.{◌≡◌, ℤ, Some, pos, slice_index_or, w32, to_z, of_z, rules, sym, subst}
 use Rattle.machine_core.specs.heap_places.Filling.{AreNear}
-use Rattle.machine_core.specs.ps_meaning.Values.{Num}
-use Rattle.machine_core.specs.ps_meaning.Objects.{kept_as}
+use Rattle.machine_core.specs.ps_heap.Values.{Num}
+use Rattle.machine_core.specs.ps_heap.Objects.{kept_as}
 use Rattle.machine_core.specs.joint_ops.World.{IsForIn}
 use Rattle.machine_vectors.proofs.WordsTaken.{near-more, nums-all, nums-more}
 use Rattle.machine_vectors.proofs.taken.lay_nums.Goals as goal

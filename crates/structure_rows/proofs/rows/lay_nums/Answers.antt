@@ -1,7 +1,7 @@
 use mir.Syntax.{w32}
 use mir.Val.{to_z, of_z}
 use Rattle.std.proofs.Common.{◌≡◌, ℤ, ◌+◌, pos, true, slice_index_or, refl, ap, ◌∙◌, subst, arith, rules}
-use Rattle.heap_places.specs.ps_meaning.Operators.{is_int}
+use Rattle.heap_places.specs.ps_heap.Operators.{is_int}
 use Rattle.structure_rows.specs.Rows.{kept_word}
 use Rattle.std.proofs.lemmas.List.{get_or_default}
 use Rattle.structure_rows.proofs.RowsLaid.{nums-first, nums-more}

@@ -1,6 +1,6 @@
 use Rattle.std.proofs.Common.{◌≡◌, ap, ◌∙◌, ℕ, length, arith}
 use lib.Dec.{leb}
-use Rattle.ps_stepping.specs.ps_meaning.Texts.{is_at_end}
+use Rattle.ps_stepping.specs.ps_heap.Texts.{is_at_end}
 use Rattle.machine_core.proofs.Lines.{at-end}
 use Rattle.machine_core.proofs.input.Input.is_at_end.Goals as goal
 

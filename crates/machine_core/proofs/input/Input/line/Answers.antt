@@ -1,5 +1,5 @@
 use Rattle.std.proofs.Common.{ℕ, take, ap, ◌∙◌, arith}
-use Rattle.ps_stepping.specs.ps_meaning.Texts.{line_of}
+use Rattle.ps_stepping.specs.ps_heap.Texts.{line_of}
 use Rattle.machine_core.proofs.Lines.{line-is, line-within}
 use Rattle.machine_core.proofs.input.Input.line.Goals as goal
 

@@ -1,6 +1,6 @@
 use Rattle.std.proofs.Common.{◌≡◌, ◌∙◌, ap, sym, ℕ, List, length, drop, arith}
 use Rattle.std.proofs.lemmas.List.{length-drop}
-use Rattle.ps_stepping.specs.ps_meaning.Texts.{line_of, behind_line}
+use Rattle.ps_stepping.specs.ps_heap.Texts.{line_of, behind_line}
 use Rattle.machine_core.proofs.Lines.{line-within, left-behind, nothing-behind}
 use Rattle.machine_core.proofs.input.Input.pass_line.Goals as goal
 

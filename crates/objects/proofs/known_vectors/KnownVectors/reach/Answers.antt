@@ -1,6 +1,6 @@
 use Rattle.std.proofs.Common.{w32, sym, ap, ◌∙◌, arith}
 use Rattle.std.proofs.lemmas.Int.{to_z-of_z}
-use Rattle.joint_ops.specs.ps_meaning.Objects.{place_of}
+use Rattle.joint_ops.specs.ps_heap.Objects.{place_of}
 use Rattle.objects.proofs.VectorEntries.{reached-so}
 use Rattle.objects.proofs.known_vectors.KnownVectors.reach.Goals as goal
 

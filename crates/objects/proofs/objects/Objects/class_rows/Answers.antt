@@ -2,7 +2,7 @@ use Rattle.std.proofs.Common.{subst, List, Some, Ok}
 use Rattle.std.specs.Prelude.{OnOk}
 use Rattle.joint_ops.specs.obj_layout.declared.reference.Reference.{Reference}
 use Rattle.joint_ops.specs.swizzle.Heap as area
-use Rattle.joint_ops.specs.ps_meaning.Objects.{Heap}
+use Rattle.joint_ops.specs.ps_heap.Objects.{Heap}
 use Rattle.joint_ops.specs.World.{IsWorld, Stands}
 use Rattle.joint_ops.proofs.SeenLaws.{nothing-done}
 use Rattle.objects.specs.Makes.{HasRows}

@@ -4,7 +4,7 @@ use Rattle.ps_base.specs.CodeUnit.{ConstantsView, unit}
 use Rattle.ps_base.specs.declared.code_unit.Frame.{Frame}
 use Rattle.joint_ops.specs.obj_layout.declared.reference.Reference.{Reference}
 use Rattle.joint_ops.specs.swizzle.Heap as area
-use Rattle.joint_ops.specs.ps_meaning.Objects.{Heap}
+use Rattle.joint_ops.specs.ps_heap.Objects.{Heap}
 use Rattle.joint_ops.specs.World.{IsUnitIn, IsWorld, Stands}
 use Rattle.objects.specs.Classes.{AnswersForm}
 use Rattle.objects.proofs.objects.Objects.field_form.Goals as goal

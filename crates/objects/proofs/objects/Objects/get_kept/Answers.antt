@@ -5,7 +5,7 @@ use Rattle.joint_ops.specs.obj_layout.Stored.{Space}
 use Rattle.joint_ops.specs.obj_layout.declared.reference.Reference.{Reference}
 use Rattle.joint_ops.specs.swizzle.declared.fault.SwizzleFault.{SwizzleFault}
 use Rattle.joint_ops.specs.swizzle.Heap.{Heap}
-use Rattle.joint_ops.specs.ps_meaning.Objects as meaning
+use Rattle.joint_ops.specs.ps_heap.Objects as meaning
 use Rattle.joint_ops.specs.heap_places.declared.value.Value as code
 use Rattle.joint_ops.specs.World.{IsWorld, DenotesScopeIn}
 use Rattle.joint_procedures.specs.Scopes.{ReadsKept}

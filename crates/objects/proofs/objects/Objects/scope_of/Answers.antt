@@ -5,8 +5,8 @@ use Rattle.joint_ops.specs.obj_layout.Stored.{Space}
 use Rattle.joint_ops.specs.obj_layout.declared.reference.Reference.{Reference}
 use Rattle.joint_ops.specs.swizzle.declared.fault.SwizzleFault.{SwizzleFault}
 use Rattle.joint_ops.specs.swizzle.Heap.{Heap}
-use Rattle.joint_ops.specs.ps_meaning.Objects as meaning
-use Rattle.joint_ops.specs.ps_meaning.Values as meant
+use Rattle.joint_ops.specs.ps_heap.Objects as meaning
+use Rattle.joint_ops.specs.ps_heap.Values as meant
 use Rattle.ps_base.specs.CodeUnit.{UnitView}
 use Rattle.joint_ops.specs.World.{IsWorld, DenotesIn}
 use Rattle.joint_procedures.specs.Procedures.{AnswersScope}

@@ -6,8 +6,8 @@ use Rattle.joint_ops.specs.obj_layout.declared.reference.Reference.{Reference}
 use Rattle.joint_ops.specs.swizzle.declared.fault.SwizzleFault.{SwizzleFault}
 use Rattle.joint_ops.specs.swizzle.Heap.{Heap}
 use Rattle.joint_ops.specs.heap_places.declared.value.Value as code
-use Rattle.joint_ops.specs.ps_meaning.Objects as meaning
-use Rattle.joint_ops.specs.ps_meaning.Values as meant
+use Rattle.joint_ops.specs.ps_heap.Objects as meaning
+use Rattle.joint_ops.specs.ps_heap.Values as meant
 use Rattle.joint_ops.specs.World.{IsWorld, DenotesScopeIn, IsForIn}
 use Rattle.joint_procedures.specs.Scopes.{IsInt, WritesKept}
 use Rattle.objects.proofs.KnownLaws.{right-stays}

@@ -1,8 +1,8 @@
 use Rattle.std.proofs.Common.{w32, ℤ, subst, Err}
 use Rattle.std.proofs.lemmas.Int.{to_z-of_z}
 use Rattle.joint_ops.specs.heap_places.declared.value.Value.{Value}
-use Rattle.joint_ops.specs.ps_meaning.Values.{Vector}
-use Rattle.joint_ops.specs.ps_meaning.Objects.{element_of}
+use Rattle.joint_ops.specs.ps_heap.Values.{Vector}
+use Rattle.joint_ops.specs.ps_heap.Objects.{element_of}
 use Rattle.joint_ops.specs.World.{Answers, IsForIn, IsOfForm}
 use Rattle.joint_ops.specs.Operands.{form_in}
 use Rattle.objects.proofs.LastingLaws.{keeps-lasts}
