@@ -1,14 +1,14 @@
 -- What objects that are appended or written over make of a space.
-use Rattle.std.proofs.Common.{◌≡◌, ◌⊎◌, inl, inr, ℕ, ◌+◌, ◌<◌, ◌≤◌, Bool, List, ◌++◌, length, get_or, take, drop, sym, ◌∙◌, ap, subst, arith, length-append, length-take, length-drop, []}
+use Rattle.std.proofs.Common.{◌≡◌, ◌⊎◌, inl, inr, ℕ, ◌+◌, ◌<◌, ◌≤◌, List, ◌++◌, length, get_or, take, drop, sym, ◌∙◌, ap, subst, arith, length-append, length-take, length-drop, []}
 use Rattle.std.proofs.lemmas.Grind.{same_number_lists}
 use Rattle.std.proofs.lemmas.List.{append_assoc, get_or-append_right, get_or_append_left}
 use Rattle.obj_layout.specs.ps_outside.Outside.{Outside}
 use Rattle.ps_port.specs.Disk.{written}
 use Rattle.ps_port.specs.DiskLaws.{written_elsewhere, length-written}
-use Rattle.shadow_volume.specs.Found.{Held}
-use Rattle.shadow_volume.specs.Standing.{seen}
-use Rattle.shadow_volume.specs.declared.note.Committed.{Committed}
-use Rattle.shadow_volume.proofs.Gate.{written_inside}
+use Rattle.volume_parts.specs.Holding.{Held}
+use Rattle.paged_volume.specs.Standing.{seen}
+use Rattle.paged_volume.specs.declared.table.Table.{Table}
+use Rattle.volume_parts.proofs.Gate.{written_inside}
 use Rattle.obj_layout.specs.Stored.{Space, appended, overwritten, with_words}
 use Rattle.obj_layout.specs.Storing.{Becomes}
 use Rattle.obj_store.specs.Spaces.{word_at, words_of, space_of, IsInOrder, spaces}
@@ -21,17 +21,17 @@ either : (m n : ℕ) → (m < n) ⊎ (n ≤ m)
 either m n = grind arith
 
 -- a step of what is held is one of the space
-pub becomes_of : (used next : ℕ) (p q : Committed) (s t : List Bool) (a b : Outside (List ℕ)) (step : Held → Held → Type 0) (f : Space → Space) → Turns (seen p s a) (seen q t b) step →
-    IsInOrder used p → IsInOrder next q → ((x y : Held) → step x y → f (space_of used x) ≡ space_of next y) → Becomes (spaces used p s a) (spaces next q t b) f
-becomes_of used next p q s t a b step f turns order order_next joins = record {
+pub becomes_of : (used next : ℕ) (p q : Table) (a b : Outside (List ℕ)) (step : Held → Held → Type 0) (f : Space → Space) → Turns (seen p a) (seen q b) step →
+    IsInOrder used p.committed → IsInOrder next q.committed → ((x y : Held) → step x y → f (space_of used x) ≡ space_of next y) → Becomes (spaces used p a) (spaces next q b) f
+becomes_of used next p q a b step f turns order order_next joins = record {
   told = λ space told.
-      let is = stood used p s a space told in
+      let is = stood used p a space told in
       let after = turns.forth is.held is.now in
-      subst (λ (x : Space). (spaces next q t b).contents x) (sym (joins is.held after.0 after.2) ∙ ap f is.is) (told_of next q t b after.0 order_next after.1);
+      subst (λ (x : Space). (spaces next q b).contents x) (sym (joins is.held after.0 after.2) ∙ ap f is.is) (told_of next q b after.0 order_next after.1);
   no_other = λ after told.
-      let is = stood next q t b after told in
+      let is = stood next q b after told in
       let before = turns.back is.held is.now in
-      (space_of used before.0, told_of used p s a before.0 order before.1, joins before.0 is.held before.2 ∙ is.is);
+      (space_of used before.0, told_of used p a before.0 order before.1, joins before.0 is.held before.2 ∙ is.is);
 }
 
 pub joins_append : (used : ℕ) (put : List ℕ) (x y : Held) → HoldsPut used (used + length put) used put x y → appended put (space_of used x) ≡ space_of (used + length put) y

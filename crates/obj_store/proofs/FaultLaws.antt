@@ -1,16 +1,18 @@
 -- What the faults of a store say.
-use Rattle.std.proofs.Common.{◌≡◌, inl, inr, ℕ, ◌+◌, ◌<◌, Bool, List, Option, Some, ◌∙◌, arith, Result, Ok, Err, refl}
+use Rattle.std.proofs.Common.{◌≡◌, inl, inr, ℕ, ◌+◌, ◌<◌, List, Option, Some, ◌∙◌, arith, Result, Ok, Err, refl}
 use Rattle.obj_layout.specs.ps_outside.Outside.{Outside, Rose}
 use Rattle.obj_layout.specs.ps_outside.Past.{KeepsPast}
 use Rattle.obj_layout.proofs.of_ps_outside.PastMoments.{past_as}
-use Rattle.shadow_volume.specs.Standing.{seen}
-use Rattle.shadow_volume.specs.declared.note.Committed.{Committed}
+use Rattle.paged_volume.specs.Standing.{seen}
+use Rattle.paged_volume.specs.declared.table.Table.{Table}
+use Rattle.paged_volume.specs.declared.committed.Committed.{Committed}
+use Rattle.paged_volume.specs.declared.table.Table.{Table}
 use Rattle.obj_layout.specs.declared.vault.VaultFault.{VaultFault}
 use Rattle.obj_layout.specs.declared.vault.VaultFault.TheVariants.{Device, Output, Full, Damaged}
 use Rattle.obj_layout.specs.Stored.{Space}
 use Rattle.obj_layout.specs.Storing.{TestsObject, IsStagingCall}
 use Rattle.obj_store.specs.Spaces.{spaces, space_filed}
-use Rattle.obj_store.specs.Staging.{Stages}
+use Rattle.paged_volume.specs.Staging.{Stages}
 use Rattle.obj_store.specs.Tested.{IsObjectFault, IsAppendFault}
 use Rattle.obj_store.proofs.SettleLaws.{same_images}
 
@@ -35,11 +37,11 @@ tests_fault {T = T} old new pid wanted fault (inr tells) = record {
 }
 
 -- calls that stage are those of a store
-module _ {T : Type 0} (used next most : ℕ) (p q : Committed) (s t : List Bool) (a b : Outside (List ℕ)) (past : KeepsPast a b) (stages : Stages (seen p s a) (seen q t b) most) where
-  pub store_call : (value : T) → IsStagingCall (spaces used p s a) (spaces next q t b) most (Ok value)
+module _ {T : Type 0} (used next most : ℕ) (p q : Table) (a b : Outside (List ℕ)) (past : KeepsPast a b) (stages : Stages (seen p a) (seen q b) most) where
+  pub store_call : (value : T) → IsStagingCall (spaces used p a) (spaces next q b) most (Ok value)
   store_call value = record {
     told = stages.told;
-    images = same_images used next p q s t a b stages.images;
+    images = same_images used next p q a b stages.images;
     past = past_as a b space_filed past;
     counts = stages.counts;
     output = stages.output;
@@ -48,10 +50,10 @@ module _ {T : Type 0} (used next most : ℕ) (p q : Committed) (s t : List Bool)
     calls = stages.calls;
   }
 
-  pub object_call : (pid : ℕ) (wanted : Option ℕ) (fault : VaultFault) → IsObjectFault (spaces used p s a) (spaces next q t b) pid wanted fault → IsStagingCall {T = T} (spaces used p s a) (spaces next q t b) most (Err fault)
+  pub object_call : (pid : ℕ) (wanted : Option ℕ) (fault : VaultFault) → IsObjectFault (spaces used p a) (spaces next q b) pid wanted fault → IsStagingCall {T = T} (spaces used p a) (spaces next q b) most (Err fault)
   object_call pid wanted fault is = record {
     told = stages.told;
-    images = same_images used next p q s t a b stages.images;
+    images = same_images used next p q a b stages.images;
     past = past_as a b space_filed past;
     counts = stages.counts;
     output = stages.output;
@@ -60,18 +62,18 @@ module _ {T : Type 0} (used next most : ℕ) (p q : Committed) (s t : List Bool)
     calls = tt;
   }
     where
-      cause : ◌≡◌ {A = Result T VaultFault} (Err fault) (Err Device) → IsObjectFault (spaces used p s a) (spaces next q t b) pid wanted fault → Rose a.device_faults b.device_faults
+      cause : ◌≡◌ {A = Result T VaultFault} (Err fault) (Err Device) → IsObjectFault (spaces used p a) (spaces next q b) pid wanted fault → Rose a.device_faults b.device_faults
       cause e (inl failed) = failed.1
       cause e (inr tells) = let is = tells.fault_is in absurd (cc)
 
-      other : ◌≡◌ {A = Result T VaultFault} (Err fault) (Err Output) → IsObjectFault (spaces used p s a) (spaces next q t b) pid wanted fault → ⊥
+      other : ◌≡◌ {A = Result T VaultFault} (Err fault) (Err Output) → IsObjectFault (spaces used p a) (spaces next q b) pid wanted fault → ⊥
       other e (inl failed) = let is = failed.0 in cc
       other e (inr tells) = let is = tells.fault_is in cc
 
-  pub append_call : (wanted capacity : ℕ) (fault : VaultFault) → IsAppendFault a b used wanted capacity fault → IsStagingCall {T = T} (spaces used p s a) (spaces next q t b) most (Err fault)
+  pub append_call : (wanted capacity : ℕ) (fault : VaultFault) → IsAppendFault a b used wanted capacity fault → IsStagingCall {T = T} (spaces used p a) (spaces next q b) most (Err fault)
   append_call wanted capacity fault is = record {
     told = stages.told;
-    images = same_images used next p q s t a b stages.images;
+    images = same_images used next p q a b stages.images;
     past = past_as a b space_filed past;
     counts = stages.counts;
     output = stages.output;

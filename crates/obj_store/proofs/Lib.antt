@@ -1,6 +1,7 @@
 mod WordLaws
 mod ReadLaws
 mod WriteLaws
+mod KeptLaws
 mod SpaceLaws
 mod TestLaws
 mod ChangeLaws
@@ -9,5 +10,6 @@ mod SettleLaws
 mod FaultLaws
 mod OpenLaws
 pub mod LeftLaws
-pub use Rattle.shadow_volume.proofs as of_shadow_volume
+pub use Rattle.volume_parts.proofs as of_volume_parts
+pub use Rattle.paged_volume.proofs as of_paged_volume
 pub use Rattle.obj_layout.proofs as of_obj_layout

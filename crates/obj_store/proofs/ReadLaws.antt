@@ -1,11 +1,11 @@
 -- Words that are read page by page.
-use Rattle.std.proofs.Common.{◌≡◌, ◌⊎◌, inl, inr, ℕ, ◌+◌, ◌-◌, ◌*◌, ◌/◌, ◌<◌, ◌≤◌, min, max, Bool, List, length, get_or, drop, ◌∙◌, ap, arith, Option, Some}
+use Rattle.std.proofs.Common.{◌≡◌, ◌⊎◌, inl, inr, ℕ, ◌+◌, ◌-◌, ◌*◌, ◌/◌, ◌<◌, ◌≤◌, min, max, List, length, get_or, drop, ◌∙◌, ap, arith, Option, Some}
 use Rattle.std.proofs.lemmas.List.{get_or-take, get_or-drop}
 use Rattle.obj_layout.specs.ps_outside.Outside.{Outside, SameContents}
-use Rattle.shadow_volume.specs.Found.{Held}
-use Rattle.shadow_volume.specs.Standing.{seen, staged_in}
-use Rattle.shadow_volume.specs.Staging.{page_of}
-use Rattle.shadow_volume.specs.declared.note.Committed.{Committed}
+use Rattle.volume_parts.specs.Holding.{Held}
+use Rattle.paged_volume.specs.Standing.{seen, staged_in}
+use Rattle.paged_volume.specs.Staging.{page_of}
+use Rattle.paged_volume.specs.declared.table.Table.{Table}
 use Rattle.obj_store.specs.Spaces.{word_at}
 use Rattle.obj_store.specs.Words.{IsApart, IsRead, HoldsRead}
 use Rattle.obj_store.proofs.WordLaws.{word_same}
@@ -42,11 +42,11 @@ part_read page first at held buffer old new first_is is read = record {
     out k (inr behind) = inr (omega arith)
 
 -- what is held is what was held before calls that only look
-pub seen_kept : (c d : Committed) (s t : List Bool) (a b : Outside (List ℕ)) → d ≡ c → t ≡ s → SameContents a b → (found : Option Held) → (seen c s a).contents found → (seen d t b).contents found
-seen_kept c d s t a b is_c is_s same found was = record {
+pub seen_kept : (c d : Table) (a b : Outside (List ℕ)) → d ≡ c → SameContents a b → (found : Option Held) → (seen c a).contents found → (seen d b).contents found
+seen_kept c d a b is_c same found was = record {
   from = was.from;
   was = same.kept was.from was.was;
-  by = (λ i. Some (staged_in (is_c i) (is_s i) was.from)) ∙ was.by;
+  by = (λ i. Some (staged_in (is_c i) was.from)) ∙ was.by;
 }
 
 -- one page more

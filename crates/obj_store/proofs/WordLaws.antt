@@ -6,7 +6,7 @@ use Rattle.byteorder.specs.Endian.{little_bytes, little_number}
 use Rattle.byteorder.specs.Numbers.{little_number-reads_back, length-bytes_low_first}
 use Rattle.ps_port.specs.Disk.{written, IsOutside}
 use Rattle.ps_port.specs.DiskLaws.{written_elsewhere}
-use Rattle.shadow_volume.proofs.Numbers.{number_same}
+use Rattle.volume_parts.proofs.Numbers.{number_same}
 use Rattle.obj_store.specs.Spaces.{word_at}
 use Rattle.obj_store.specs.Words.{IsRead, IsPut}
 

@@ -1,23 +1,31 @@
 -- Words that are put page by page.
-use Rattle.std.proofs.Common.{◌≡◌, ◌⊎◌, inl, inr, ℕ, ◌+◌, ◌-◌, ◌*◌, ◌/◌, ◌<◌, ◌≤◌, min, max, Bool, true, false, List, length, get_or, refl, sym, ◌∙◌, ap, subst, arith, length-drop, length-take, Option, Some, Result, Ok, Err, OnOk}
+use Rattle.std.proofs.Common.{◌≡◌, ◌≢◌, ◌⊎◌, inl, inr, ℕ, ◌+◌, ◌-◌, ◌*◌, ◌/◌, ◌<◌, ◌≤◌, min, max, Bool, List, [], length, get_or, refl, sym, ◌∙◌, ap, subst, arith, length-drop, length-take, Option, Some, None, Result, Ok, Err, OnOk, OnErr, IfErr}
 use Rattle.std.specs.Option.{option_map}
 use Rattle.std.proofs.lemmas.Option.{same_Some}
+use Rattle.std.proofs.lemmas.Bool.{cases_eq}
 use Rattle.std.proofs.lemmas.List.{get_or_past}
-use Rattle.obj_layout.specs.ps_outside.Outside.{Outside, After, LeavesSame, SameContents, IsDeviceCall}
+use Rattle.obj_layout.specs.ps_outside.Outside.{Outside, After, SameContents, Rose}
 use Rattle.obj_layout.proofs.of_ps_outside.Moments.{along_then, along_now, same_as}
 use Rattle.ps_port.specs.Disk.{written, IsOutside}
 use Rattle.ps_port.specs.DiskLaws.{written_elsewhere, length-written}
-use Rattle.shadow_volume.specs.Layout.{half_pages}
-use Rattle.shadow_volume.specs.Found.{Held}
-use Rattle.shadow_volume.specs.Standing.{seen, staged_in, held_in}
-use Rattle.shadow_volume.specs.Staging.{page_of, with_page}
-use Rattle.shadow_volume.specs.Attaching.{Looks}
-use Rattle.shadow_volume.specs.declared.note.Committed.{Committed}
-use Rattle.shadow_volume.proofs.Gate.{written_inside}
-use Rattle.shadow_volume.proofs.Pages.{length_staged}
+use Rattle.volume_parts.specs.Layout.{pages_of_words}
+use Rattle.paged_volume.specs.Layout.{capacity_pages}
+use Rattle.volume_parts.specs.Holding.{Held}
+use Rattle.paged_volume.specs.Standing.{seen, staged_in, staged_bytes, held_in}
+use Rattle.paged_volume.specs.Staging.{page_of, with_page, HasPages, IsPutFault}
+use Rattle.paged_volume.specs.Staging.{Marks as MarksPage}
+use Rattle.paged_volume.specs.Pinning.{AreLatest}
+use Rattle.paged_volume.specs.declared.pinned.Pinned.{Pinned}
+use Rattle.paged_volume.specs.declared.volume.VolumeFault.{VolumeFault}
+use Rattle.paged_volume.specs.declared.volume.VolumeFault.TheVariants.{Device, Full}
+use Rattle.volume_parts.specs.Calls.{Looks}
+use Rattle.paged_volume.specs.declared.table.Table.{Table}
+use Rattle.volume_parts.proofs.Gate.{written_inside}
+use Rattle.paged_volume.proofs.Held.{length_bytes}
 use Rattle.obj_store.specs.Spaces.{word_at}
-use Rattle.obj_store.specs.Words.{IsApart, IsPut, HoldsPut}
-use Rattle.obj_store.specs.Staging.{Stages, Turns, Marks}
+use Rattle.obj_store.specs.Words.{IsApart, IsPut, HoldsPut, Differs}
+use Rattle.paged_volume.specs.Staging.{Stages}
+use Rattle.obj_store.specs.Staging.{Turns, Marks, LeavesStaged}
 use Rattle.obj_store.proofs.WordLaws.{word_same}
 use Rattle.obj_store.proofs.ReadLaws.{page_word, seen_kept}
 
@@ -25,10 +33,12 @@ either : (m n : ℕ) → (m < n) ⊎ (n ≤ m)
 either m n = grind arith
 
 -- what a volume holds has all its pages
-pub held_long : (committed : Committed) (staged : List Bool) (outside : Outside (List ℕ)) (held : Held) → (seen committed staged outside).contents (Some held) →
-    length held.bytes ≡ 4096 * half_pages committed.pages
-held_long committed staged outside held now =
-    ap (λ (h : Held). length h.bytes) (sym (same_Some (staged_in committed staged now.from) held now.by)) ∙ length_staged committed staged now.from
+pub held_long : (table : Table) (outside : Outside (List ℕ)) (held : Held) → (seen table outside).contents (Some held) →
+    length held.bytes ≡ 4096 * capacity_pages table.committed.pages
+unfolding staged_bytes
+held_long table outside held now =
+    ap (λ (h : Held). length h.bytes) (sym (same_Some (staged_in table now.from) held now.by))
+    ∙ length_bytes (λ page. get_or table.map.staged page 0) (capacity_pages table.committed.pages) now.from
 
 -- a page that is put holds the words that were put into it
 module _ (page half at : ℕ) (put buffer from : List ℕ) (held : Held) (below : page < half) (long : length held.bytes ≡ 4096 * half) (is : buffer ≡ page_of page held) (size : length buffer ≡ 4096)
@@ -75,26 +85,26 @@ module _ (page half at : ℕ) (put buffer from : List ℕ) (held : Held) (below 
       by index apart (inr here) (inl within) = in_page index here within ∙ puts.elsewhere index here within apart ∙ page_word page held buffer index is here within
 
 -- a page that was read, changed and put
-pub part_turns : (a b c : Outside (List ℕ)) (p q r : Committed) (s t u : List Bool) (page at low high : ℕ) (put buffer from : List ℕ) →
-    SameContents a b → q ≡ p → t ≡ s → page < half_pages p.pages → length buffer ≡ 4096 →
-    ((held : Held) → (seen p s a).contents (Some held) → buffer ≡ page_of page held) → IsPut (512 * page) low high at put buffer from → 512 * page ≤ low → high ≤ 512 * page + 512 →
-    ((found : Option Held) → (seen q t b).contents found → (seen r u c).contents (option_map (with_page page from) found)) →
-    ((found : Option Held) → (seen r u c).contents found → After (seen q t b).contents (λ before after. option_map (with_page page from) before ≡ after) found) →
-    Turns (seen p s a) (seen r u c) (HoldsPut low high at put)
-part_turns a b c p q r s t u page at low high put buffer from same is_q is_t below size was_read puts from_low to_high stays back = record {
+pub part_turns : (a b c : Outside (List ℕ)) (p q r : Table) (page at low high : ℕ) (put buffer from : List ℕ) →
+    SameContents a b → q ≡ p → page < capacity_pages p.committed.pages → length buffer ≡ 4096 →
+    ((held : Held) → (seen p a).contents (Some held) → buffer ≡ page_of page held) → IsPut (512 * page) low high at put buffer from → 512 * page ≤ low → high ≤ 512 * page + 512 →
+    ((found : Option Held) → (seen q b).contents found → (seen r c).contents (option_map (with_page page from) found)) →
+    ((found : Option Held) → (seen r c).contents found → After (seen q b).contents (λ before after. option_map (with_page page from) before ≡ after) found) →
+    Turns (seen p a) (seen r c) (HoldsPut low high at put)
+part_turns a b c p q r page at low high put buffer from same is_q below size was_read puts from_low to_high stays back = record {
   forth = λ before was.
-      (with_page page from before, stays (Some before) (seen_kept p q s t a b is_q is_t same (Some before) was), step before was);
+      (with_page page from before, stays (Some before) (seen_kept p q a b is_q same (Some before) was), step before was);
   back = λ after now.
       let found = back (Some after) now in
-      let before = staged_in q t found.was.from in
-      let there : (seen q t b).contents (Some before) = record { from = found.was.from; was = found.was.was; by = refl } in
-      let was = seen_kept q p t s b a (sym is_q) (sym is_t) (record { kept = same.no_other; no_other = same.kept }) (Some before) there in
+      let before = staged_in q found.was.from in
+      let there : (seen q b).contents (Some before) = record { from = found.was.from; was = found.was.was; by = refl } in
+      let was = seen_kept q p b a (sym is_q) (record { kept = same.no_other; no_other = same.kept }) (Some before) there in
       let is : with_page page from before ≡ after = same_Some (with_page page from before) after (ap (λ (o : Option Held). option_map (with_page page from) o) found.was.by ∙ found.by) in
       (before, was, subst (λ (h : Held). HoldsPut low high at put before h) is (step before was));
 }
   where
-    step : (before : Held) → (seen p s a).contents (Some before) → HoldsPut low high at put before (with_page page from before)
-    step before was = page_put page (half_pages p.pages) at put buffer from before below (held_long p s a before was) (was_read before was) size low high puts from_low to_high
+    step : (before : Held) → (seen p a).contents (Some before) → HoldsPut low high at put before (with_page page from before)
+    step before was = page_put page (capacity_pages p.committed.pages) at put buffer from before below (held_long p a before was) (was_read before was) size low high puts from_low to_high
 
 pub turns_then : (a b c : Outside (Option Held)) (one two whole : Held → Held → Type 0) → Turns a b one → Turns b c two → ((x y z : Held) → one x y → two y z → whole x z) → Turns a c whole
 turns_then a b c one two whole first next joins = record {
@@ -129,18 +139,27 @@ puts_join low mid high at put x y z up on first next = record {
     here index at_least below (inr there) = next.here index there below
     here index at_least below (inl there) = next.elsewhere index (inl there) ∙ first.here index at_least there
 
-pub marks_then : (from mid to : ℕ) (a b c : List Bool) → Marks from mid a b → Marks mid to b c → Marks from to a c
-marks_then from mid to a b c first next = record {
+pub marks_then : (from mid to : ℕ) (a b c : Table) → from ≤ mid → mid ≤ to → Marks from mid a b → Marks mid to b c → Marks from to a c
+marks_then from mid to a b c up on first next = record {
+  others = λ page apart. next.others page (after page apart) ∙ first.others page (before page apart);
   kept = λ page is. next.kept page (first.kept page is);
   marked = λ page at_least below. by page at_least below (either page mid);
 }
   where
-    by : (page : ℕ) → from ≤ page → page < to → (page < mid) ⊎ (mid ≤ page) → get_or c page false ≡ true
+    after : (page : ℕ) → IsApart from to page → IsApart mid to page
+    after page (inl lt) = inl (omega arith)
+    after page (inr ge) = inr ge
+
+    before : (page : ℕ) → IsApart from to page → IsApart from mid page
+    before page (inl lt) = inl lt
+    before page (inr ge) = inr (omega arith)
+
+    by : (page : ℕ) → from ≤ page → page < to → (page < mid) ⊎ (mid ≤ page) → 1 ≤ get_or c.map.staged page 0
     by page at_least below (inl before) = next.kept page (first.marked page at_least before)
     by page at_least below (inr there) = next.marked page there below
 
-pub stages_looks : (p q : Committed) (s t : List Bool) (a b : Outside (List ℕ)) (most : ℕ) → Looks a b most → Stages (seen p s a) (seen q t b) most
-stages_looks p q s t a b most looks = record {
+pub stages_looks : (p q : Table) (a b : Outside (List ℕ)) (most : ℕ) → Looks a b most → Stages (seen p a) (seen q b) most
+stages_looks p q a b most looks = record {
   told = looks.told;
   images = same_as a b held_in looks.images;
   counts = looks.counts;
@@ -148,14 +167,100 @@ stages_looks p q s t a b most looks = record {
   calls = looks.calls;
 }
 
-pub stages_put : {T E : Type 0} (result : Result T E) (p q : Committed) (s t : List Bool) (a b : Outside (List ℕ)) → IsDeviceCall a b result → LeavesSame (seen p s a) (seen q t b) → Stages (seen p s a) (seen q t b) 1
-stages_put result p q s t a b call images = record {
-  told = call.told;
-  images = images;
-  counts = call.counts;
-  output = call.output;
-  calls = let is = call.calls in omega arith;
+-- a page that was put is staged, and the others are as they were
+pub marks_put : {T E : Type 0} (page : ℕ) (p q : Table) (result : Result T E) → OnOk result (MarksPage page p q) → OnOk result (Marks page (page + 1) p q)
+marks_put page p q (Err e) marks = tt
+marks_put page p q (Ok x) marks = record {
+  others = λ other apart. marks.kept other (out other apart);
+  kept = λ other is. by other is (cases_eq other page);
+  marked = λ other at_least below. let here : page ≡ other = omega arith in subst (λ (n : ℕ). 1 ≤ get_or q.map.staged n 0) here marks.marked;
 }
+  where
+    out : (other : ℕ) → IsApart page (page + 1) other → other ≢ page
+    out other (inl lt) e = absurd (omega (arith, e))
+    out other (inr ge) e = absurd (omega (arith, e))
+
+    by : (other : ℕ) → 1 ≤ get_or p.map.staged other 0 → (other ≡ page) ⊎ (other ≢ page) → 1 ≤ get_or q.map.staged other 0
+    by other is (inl here) = subst (λ (n : ℕ). 1 ≤ get_or q.map.staged n 0) (sym here) marks.marked
+    by other is (inr elsewhere) = subst (λ (n : ℕ). 1 ≤ n) (sym (marks.kept other elsewhere)) is
+
+-- a page that was there already is staged or committed as before
+pub marks_none : (page had : ℕ) (p q : Table) → q ≡ p → HasPages p had → page < had → Marks page (page + 1) p q
+marks_none page had p q same has below = record {
+  others = λ other apart. ap (λ (t : Table). get_or t.map.staged other 0) same;
+  kept = λ other is. subst (λ (t : Table). 1 ≤ get_or t.map.staged other 0) (sym same) is;
+  marked = λ other at_least lt. subst (λ (t : Table). 1 ≤ get_or t.map.staged other 0) (sym same) (has other (omega arith));
+}
+
+-- a page whose words were there already
+module _ (a b : Outside (List ℕ)) (p q : Table) (page at low high : ℕ) (put buffer : List ℕ) (same : SameContents a b) (is_q : q ≡ p)
+    (was_read : (held : Held) → (seen p a).contents (Some held) → buffer ≡ page_of page held) (from_low : 512 * page ≤ low) (to_high : high ≤ 512 * page + 512) where
+  word_there : (held : Held) → (seen p a).contents (Some held) → (index : ℕ) → low ≤ index → index < high → word_at buffer (index - 512 * page) ≡ word_at held.bytes index
+  word_there held was index at_least below = page_word page held buffer index (was_read held was) (omega arith) (omega arith)
+
+  pub part_same : (from : List ℕ) → IsPut (512 * page) low high at put buffer from → from ≡ buffer → Turns (seen p a) (seen q b) (HoldsPut low high at put)
+  part_same from puts unchanged = record {
+    forth = λ before was. (before, seen_kept p q a b is_q same (Some before) was, step before was);
+    back = λ after now.
+        let was = seen_kept q p b a (sym is_q) (record { kept = same.no_other; no_other = same.kept }) (Some after) now in
+        (after, was, step after was);
+  }
+    where
+      step : (held : Held) → (seen p a).contents (Some held) → HoldsPut low high at put held held
+      step held was = record {
+        note = refl;
+        long = refl;
+        here = λ index at_least below.
+            sym (word_there held was index at_least below) ∙ sym (ap (λ (xs : List ℕ). word_at xs (index - 512 * page)) unchanged) ∙ puts.here index at_least below;
+        elsewhere = λ index apart. refl;
+      }
+
+  -- where the words are there nothing changes
+  pub differs_not : Differs (512 * page) low high at put buffer → (held : Held) → (seen p a).contents (Some held) → HoldsPut low high at put held held → ⊥
+  differs_not differs held was there = differs.other (word_there held was differs.index differs.low_is differs.below ∙ there.here differs.index differs.low_is differs.below)
+
+-- the words of a range are there, and so those of a part of it
+pub there_within : (low high from to at : ℕ) (put : List ℕ) (held : Held) → low ≤ from → to ≤ high → HoldsPut low high at put held held → HoldsPut from to at put held held
+there_within low high from to at put held le ge is = record {
+  note = refl;
+  long = refl;
+  here = λ index at_least below. is.here index (omega arith) (omega arith);
+  elsewhere = λ index apart. refl;
+}
+
+-- the pages of a range are staged or committed, behind those that were
+pub has_more : (used count : ℕ) (p q : Table) → HasPages p (pages_of_words used) → Marks (used / 512) (pages_of_words (used + count)) p q → HasPages q (pages_of_words (used + count))
+has_more used count p q has marks page lt = by (either page (used / 512))
+  where
+    by : (page < used / 512) ⊎ (used / 512 ≤ page) → 1 ≤ get_or q.map.staged page 0
+    by (inl before) = marks.kept page (has page (omega arith))
+    by (inr behind) = marks.marked page behind lt
+
+pub has_kept : (count from to : ℕ) (p q : Table) → HasPages p count → Marks from to p q → HasPages q count
+has_kept count from to p q has marks page lt = marks.kept page (has page lt)
+
+-- parts that are there, one after the other
+pub leaves_then : (p q r : Table) (a b c : Outside (List ℕ)) (low high from to at : ℕ) (put : List ℕ) → low ≤ from → to ≤ high → LeavesStaged p q a b low high at put → LeavesStaged q r b c from to at put →
+    LeavesStaged p r a c low high at put
+leaves_then p q r a b c low high from to at put le ge first next held was there =
+    let one = first held was there in
+    let two = next held one.1 (there_within low high from to at put held le ge there) in
+    (two.0 ∙ one.0, two.1)
+
+-- a page whose words are there already stages nothing
+pub leaves_same : (p q : Table) (a b : Outside (List ℕ)) (low high at : ℕ) (put : List ℕ) → q ≡ p → SameContents a b → LeavesStaged p q a b low high at put
+leaves_same p q a b low high at put is_q same held was there = (is_q, seen_kept p q a b is_q same (Some held) was)
+
+-- without pins no pin holds an older list
+pub latest_unpinned : (table : Table) → table.pins.items ≡ [] → AreLatest table
+latest_unpinned table none = λ pin lt. inr (ap (λ (pins : List (Option Pinned)). get_or pins pin None) none)
+
+-- so a page isn't put only where the device failed
+pub put_rose : {H T : Type 0} (outside : H → Outside (List ℕ)) (old new : H) (lived lives : Bool) (p q : Table) (page : ℕ) (result : Result T VolumeFault) → p.pins.items ≡ []
+    → IfErr result (IsPutFault outside old new lived lives p q page) → OnErr result (Rose (outside old).device_faults (outside new).device_faults)
+put_rose outside old new lived lives p q page (Ok x) none fault = tt
+put_rose outside old new lived lives p q page (Err Device) none fault = fault.0
+put_rose outside old new lived lives p q page (Err (Full held wanted pages)) none fault = absurd (fault.4 (latest_unpinned p none))
 
 pub stages_then : {X : Type 0} (a b c : Outside X) (m n most : ℕ) → Stages a b m → Stages b c n → m + n ≤ most → Stages a c most
 stages_then a b c m n most first next fits = record {
@@ -186,11 +291,11 @@ on_ok_two (Ok x) f p q = f p q
 on_ok_two (Err e) f p q = tt
 
 -- a step after calls that only look
-pub turns_looks : (p q : Committed) (s t : List Bool) (a b : Outside (List ℕ)) (c : Outside (Option Held)) (step : Held → Held → Type 0) → q ≡ p → t ≡ s → SameContents a b →
-    Turns (seen q t b) c step → Turns (seen p s a) c step
-turns_looks p q s t a b c step is_q is_t same turns = record {
-  forth = λ before was. turns.forth before (seen_kept p q s t a b is_q is_t same (Some before) was);
+pub turns_looks : (p q : Table) (a b : Outside (List ℕ)) (c : Outside (Option Held)) (step : Held → Held → Type 0) → q ≡ p → SameContents a b →
+    Turns (seen q b) c step → Turns (seen p a) c step
+turns_looks p q a b c step is_q same turns = record {
+  forth = λ before was. turns.forth before (seen_kept p q a b is_q same (Some before) was);
   back = λ after now.
       let it = turns.back after now in
-      (it.0, seen_kept q p t s b a (sym is_q) (sym is_t) (record { kept = same.no_other; no_other = same.kept }) (Some it.0) it.1, it.2);
+      (it.0, seen_kept q p b a (sym is_q) (record { kept = same.no_other; no_other = same.kept }) (Some it.0) it.1, it.2);
 }

@@ -1,12 +1,14 @@
 -- A volume as a space of words.
-use Rattle.std.specs.Prelude.{◌≡◌, ℕ, ◌*◌, ◌%◌, ◌^◌, ◌≤◌, Bool, List, [], map, Option, Some, None}
+use Rattle.std.specs.Prelude.{◌≡◌, ℕ, ◌*◌, ◌%◌, ◌^◌, ◌≤◌, List, [], map, Option, Some, None}
 use Rattle.std.specs.List.{range_with_len}
 use Rattle.std.specs.Option.{option_map}
 use Rattle.obj_layout.specs.ps_outside.Outside.{Outside, After, seen_as}
-use Rattle.shadow_volume.specs.Layout.{number_at, capacity_of}
-use Rattle.shadow_volume.specs.Found.{Held}
-use Rattle.shadow_volume.specs.Standing.{seen, held_in, IsFit}
-use Rattle.shadow_volume.specs.declared.note.Committed.{Committed}
+use Rattle.volume_parts.specs.Layout.{number_at}
+use Rattle.paged_volume.specs.Layout.{capacity_of}
+use Rattle.volume_parts.specs.Holding.{Held}
+use Rattle.paged_volume.specs.Standing.{seen, held_in, IsFit}
+use Rattle.paged_volume.specs.declared.committed.Committed.{Committed}
+use Rattle.paged_volume.specs.declared.table.Table.{Table}
 use Rattle.obj_layout.specs.Stored.{Space}
 
 -- the word with this index: the number that its eight bytes spell, the low one first
@@ -48,7 +50,7 @@ IsStaged used found space = option_map (space_of used) found ≡ Some space
 
 -- So many words can be used in a volume: as many as are committed, or more.
 pub record IsInOrder (used : ℕ) (committed : Committed) : Type 0 where
-  pub fit : IsFit committed.pages committed.note
+  pub fit : IsFit committed
   pub from : committed.note.used ≤ used
   pub within : used ≤ capacity_of committed.pages
 
@@ -59,14 +61,14 @@ pub record IsTold (used : ℕ) (committed : Committed) (volume : Outside (Option
 
 -- A volume with so many words staged, seen as spaces: a crash leaves a file with the space that is committed in it, without a word where no volume is
 -- found there; and a read gives the space that is staged, or none where the words can't be used.
-abbrev pub spaces : ℕ → Committed → List Bool → Outside (List ℕ) → Outside Space
-spaces used committed staged outside =
-    let volume = seen committed staged outside in
+abbrev pub spaces : ℕ → Table → Outside (List ℕ) → Outside Space
+spaces used table outside =
+    let volume = seen table outside in
     record {
       clock = outside.clock;
       told = outside.told;
       images = (seen_as space_filed outside).images;
-      contents = IsTold used committed volume;
+      contents = IsTold used table.committed volume;
       device_faults = outside.device_faults;
       output_faults = outside.output_faults;
       device_calls = outside.device_calls;

@@ -4,14 +4,14 @@ use Rattle.std.specs.List.{AllByRecursion, range_with_len}
 use Rattle.std.specs.Option.{option_map}
 use Rattle.std.proofs.lemmas.Option.{same_Some}
 use Rattle.obj_layout.specs.ps_outside.Outside.{Outside}
-use Rattle.shadow_volume.specs.Layout.{capacity_of}
-use Rattle.shadow_volume.specs.Found.{Held}
-use Rattle.shadow_volume.specs.Standing.{staged_in}
-use Rattle.shadow_volume.specs.Layout.{number_at}
-use Rattle.shadow_volume.specs.Standing.{IsFit}
-use Rattle.shadow_volume.specs.declared.note.Note.{Note}
-use Rattle.shadow_volume.specs.declared.note.Committed.{Committed}
-use Rattle.shadow_volume.proofs.Halves.{halves_within}
+use Rattle.paged_volume.specs.Layout.{capacity_of}
+use Rattle.volume_parts.specs.Holding.{Held}
+use Rattle.paged_volume.specs.Standing.{staged_in}
+use Rattle.volume_parts.specs.Layout.{number_at}
+use Rattle.paged_volume.specs.Standing.{IsFit}
+use Rattle.volume_parts.specs.declared.note.Note.{Note}
+use Rattle.paged_volume.specs.declared.committed.Committed.{Committed}
+use Rattle.paged_volume.proofs.Bounds.{capacity_low, pages_low}
 use Rattle.std.proofs.Math.Nat.{mod-lt}
 use Rattle.std.proofs.lemmas.List.FromFn.{length-map-range_with_len}
 use Rattle.obj_layout.specs.Stored.{Space, IsSpace}
@@ -28,16 +28,15 @@ unfolding words_of
 length_words count bytes = length-map-range_with_len (word_at bytes) 0 count
 
 -- the words that can be used are few
-pub capacity_low : (pages : ℕ) (note : Note) → IsFit pages note → capacity_of pages + 511 < 2 ^ 26
-capacity_low pages note fit =
-    let halves = halves_within pages fit.least fit.most in
-    let most = fit.most in
-    omega (arith, halves.1)
+pub words_low : (committed : Committed) → IsFit committed → capacity_of committed.pages + 511 < 2 ^ 28
+words_low committed fit =
+    let low = capacity_low committed.pages fit.head.least (pages_low committed.format committed.pages fit.head) in
+    omega (arith, low.1)
 
 -- the used words are few
-pub order_low : (used : ℕ) (committed : Committed) → IsInOrder used committed → (1 ≤ used) × (used < 2 ^ 26)
+pub order_low : (used : ℕ) (committed : Committed) → IsInOrder used committed → (1 ≤ used) × (used < 2 ^ 28)
 order_low used committed order =
-    let few = capacity_low committed.pages committed.note order.fit in
+    let few = words_low committed order.fit in
     let some = order.fit.some in
     let from = order.from in
     let within = order.within in
@@ -60,15 +59,15 @@ used_is used committed order =
     omega arith
 
 pub most_is : (used : ℕ) (committed : Committed) → IsInOrder used committed → min (capacity_of committed.pages) (2 ^ 30 - 1) ≡ capacity_of committed.pages
-most_is used committed order = let few = capacity_low committed.pages committed.note order.fit in omega arith
+most_is used committed order = let few = words_low committed order.fit in omega arith
 
 pub is_space : {H : Type 0} (outside : H → Outside (List ℕ)) (store : Store H) (space : Space) → (outside_of outside store).contents space → IsSpace (used_of store) (directory_of store) space
 is_space outside store space told =
     let was = told.staged.was in
-    let held = staged_in store.committed store.staged was.from in
+    let held = staged_in store.table was.from in
     let is : space_of store.used held ≡ space = same_Some (space_of store.used held) space (ap (λ (o : Option Held). option_map (space_of store.used) o) was.by ∙ told.staged.by) in
-    let low = order_low store.used store.committed told.order in
-    let used = used_is store.used store.committed told.order in
+    let low = order_low store.used store.table.committed told.order in
+    let used = used_is store.used store.table.committed told.order in
     let below = told.order.fit.below in
     let from = told.order.from in
     subst (λ (s : Space). IsSpace (used_of store) (directory_of store) s) is (record {
@@ -87,10 +86,10 @@ is_one outside store one a b is other =
     let x = is.staged.was in
     let y = other.staged.was in
     let same = one x.from y.from x.was y.was in
-    let held = λ (bytes : List ℕ). staged_in store.committed store.staged bytes in
+    let held = λ (bytes : List ℕ). staged_in store.table bytes in
     let is_a : space_of store.used (held x.from) ≡ a = same_Some (space_of store.used (held x.from)) a (ap (λ (o : Option Held). option_map (space_of store.used) o) x.by ∙ is.staged.by) in
     let is_b : space_of store.used (held y.from) ≡ b = same_Some (space_of store.used (held y.from)) b (ap (λ (o : Option Held). option_map (space_of store.used) o) y.by ∙ other.staged.by) in
-    sym is_a ∙ ap (λ (bytes : List ℕ). space_of store.used (staged_in store.committed store.staged bytes)) same ∙ is_b
+    sym is_a ∙ ap (λ (bytes : List ℕ). space_of store.used (staged_in store.table bytes)) same ∙ is_b
 
 pub in_bounds : {H : Type 0} (store : Store H) → (1 ≤ used_of store) × (used_of store < 2 ^ 30) × (most_of store < 2 ^ 30)
 in_bounds store = (omega arith, omega arith, omega arith)

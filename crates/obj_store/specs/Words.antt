@@ -1,6 +1,6 @@
 -- Words in pages, and words that were put in place of others.
-use Rattle.std.specs.Prelude.{◌≡◌, ◌⊎◌, ℕ, ◌+◌, ◌-◌, ◌<◌, ◌≤◌, List, length, slice_index}
-use Rattle.shadow_volume.specs.Found.{Held}
+use Rattle.std.specs.Prelude.{◌≡◌, ◌≢◌, ◌⊎◌, ℕ, ◌+◌, ◌-◌, ◌<◌, ◌≤◌, List, length, slice_index}
+use Rattle.volume_parts.specs.Holding.{Held}
 use Rattle.obj_store.specs.Spaces.{word_at}
 
 -- an index outside of a range
@@ -19,6 +19,13 @@ pub record IsPut (first low high at : ℕ) (put old new : List ℕ) : Type 0 whe
   pub long : length new ≡ length old
   pub here : (index : ℕ) → low ≤ index → index < high → word_at new (index - first) ≡ slice_index put (index - at)
   pub elsewhere : (index : ℕ) → first ≤ index → index < first + 512 → IsApart low high index → word_at new (index - first) ≡ word_at old (index - first)
+
+-- one of those words isn't there yet
+pub record Differs (first low high at : ℕ) (put page : List ℕ) : Type 0 where
+  pub index : ℕ
+  pub low_is : low ≤ index
+  pub below : index < high
+  pub other : word_at page (index - first) ≢ slice_index put (index - at)
 
 -- The same of what a volume holds: the words from `low` to `high` are those of `put`, which lie from `at` on.
 pub record HoldsPut (low high at : ℕ) (put : List ℕ) (old new : Held) : Type 0 where

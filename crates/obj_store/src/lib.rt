@@ -1,6 +1,7 @@
 //! A store of objects in a volume: a vault whose space is the words of the volume's pages.
 #![tactic(auto)]
 
+mod kept;
 mod laws;
 mod objects;
 mod reading;
@@ -11,5 +12,5 @@ mod writing;
 
 pub use laws::{what_is_left_of_the_device, what_is_put_is_told};
 pub use obj_layout;
-pub use shadow_volume;
+pub use paged_volume;
 pub use store::ObjStore;

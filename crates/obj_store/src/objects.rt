@@ -1,26 +1,29 @@
 //! The objects of a volume: how they are tested, read, appended and written over.
 
-ghost use Rattle.std.specs.Prelude.{◌≡◌, ◌≢◌, ◌⊎◌, ℕ, ◌+◌, ◌*◌, ◌/◌, ◌<◌, ◌≤◌, ◌^◌, List, length, take, drop, Option, Some, None, MatchOption, IfOk, IfErr, OnOk};
+ghost use Rattle.std.specs.Prelude.{◌≡◌, ◌≢◌, ◌⊎◌, ℕ, ◌+◌, ◌*◌, ◌/◌, ◌<◌, ◌≤◌, ◌^◌, List, [], length, take, drop, Option, Some, None, MatchOption, IfOk, IfErr, OnOk};
 ghost use Rattle.obj_layout.specs.ps_outside.Outside.{Rose};
 ghost use Rattle.obj_layout.specs.ps_outside.Past.{KeepsPast};
-ghost use Rattle.shadow_volume.specs.Attaching.{Looks};
-ghost use Rattle.shadow_volume.specs.Layout.{capacity_of, pages_of_words};
-ghost use Rattle.shadow_volume.specs.Standing.{IsAlive, seen};
-ghost use Rattle.shadow_volume.specs.Staging.{HasPages};
+ghost use Rattle.volume_parts.specs.Calls.{Looks};
+ghost use Rattle.paged_volume.specs.Layout.{capacity_of};
+ghost use Rattle.volume_parts.specs.Layout.{pages_of_words};
+ghost use Rattle.paged_volume.specs.Standing.{IsAlive, seen};
+ghost use Rattle.paged_volume.specs.Staging.{HasPages};
 ghost use Rattle.obj_layout.specs.Header.{HasFitFields, HasFitLengths, header_fault, header_words, object_length};
 ghost use Rattle.obj_layout.specs.Stored.{length_there, Space, Holds, IsHeaded, of_header, of_length, of_words, damage, appended, overwritten};
 ghost use Rattle.obj_layout.specs.Storing.{Becomes, reading, writing};
+ghost use Rattle.obj_store.specs.Kept.{AreHeld};
 ghost use Rattle.obj_store.specs.Spaces.{IsInOrder, spaces};
 ghost use Rattle.obj_store.specs.Tested.{Fits, TellsDamage, HasFour, IsObjectFault, IsAppendFault, IsObjectHeader, IsWhole, IsDamageAt};
-ghost use Rattle.obj_store.specs.Staging.{Stages};
+ghost use Rattle.paged_volume.specs.Staging.{Stages};
 
+use crate::kept::KeptPages;
 use crate::reading::read_words;
 use crate::writing::write_words;
 use obj_layout::header::{Header, LayoutFault, read_header};
 use obj_layout::vault::VaultFault;
+use paged_volume::Volume;
+use paged_volume::layout::{capacity, logical_pages};
 use ps_port::Host;
-use shadow_volume::Volume;
-use shadow_volume::layout::capacity;
 
 // The fault that tells these numbers at a PID.
 fn damaged(at: u64, found: u64, wanted: u64) -> VaultFault
@@ -106,44 +109,54 @@ fn header_of(
 /// two calls of the device at most.
 fn object_at<H: Host>(
     volume: &mut Volume<H>,
+    kept: &mut KeptPages,
     used: u64,
     pid: u64,
     wanted: Option<u64>,
 ) -> Result<Header, VaultFault>
-    requires alive { IsAlive volume.old.live volume.old.committed volume.old.staged.items (H.outside volume.old.host) }
-    requires order { IsInOrder used volume.old.committed }
+    requires alive { IsAlive volume.old.live volume.old.table (H.outside volume.old.host) }
+    requires kept { AreHeld kept.old.places.items volume.old.table (H.outside volume.old.host) }
+    requires order { IsInOrder used volume.old.table.committed }
     ensures fits { IfOk result (Fits pid used wanted) }
-    ensures header { IfOk result (IsObjectHeader (spaces used volume.old.committed volume.old.staged.items (H.outside volume.old.host)) pid wanted) }
-    ensures fault { IfErr result (IsObjectFault (spaces used volume.old.committed volume.old.staged.items (H.outside volume.old.host))
-        (spaces used volume.new.committed volume.new.staged.items (H.outside volume.new.host)) pid wanted) }
+    ensures header { IfOk result (IsObjectHeader (spaces used volume.old.table (H.outside volume.old.host)) pid wanted) }
+    ensures fault { IfErr result (IsObjectFault (spaces used volume.old.table (H.outside volume.old.host))
+        (spaces used volume.new.table (H.outside volume.new.host)) pid wanted) }
     ensures looks { Looks (H.outside volume.old.host) (H.outside volume.new.host) 2 }
-    ensures same { (volume.new.committed ≡ volume.old.committed) × (volume.new.staged.items ≡ volume.old.staged.items) }
-    ensures alive { OnOk result (IsAlive volume.new.live volume.new.committed volume.new.staged.items (H.outside volume.new.host)) }
+    ensures same { volume.new.table ≡ volume.old.table }
+    ensures alive { OnOk result (IsAlive volume.new.live volume.new.table (H.outside volume.new.host)) }
+    ensures kept { OnOk result (AreHeld kept.new.places.items volume.new.table (H.outside volume.new.host)) }
 {
     if let Some(fault) = fault_of_place(pid, used) {
         return Err(fault);
     }
     let mut four = [0u64; 4];
-    match read_words(volume, pid, &mut four) {
+    match read_words(volume, kept, pid, &mut four) {
         Ok(()) => header_of(&four, pid, used, wanted),
         Err(_) => Err(VaultFault::Device),
     }
 }
 
 /// How many words the object has, its header included.
-pub fn length_at<H: Host>(volume: &mut Volume<H>, used: u64, pid: u64) -> Result<u32, VaultFault>
-    requires alive { IsAlive volume.old.live volume.old.committed volume.old.staged.items (H.outside volume.old.host) }
-    requires order { IsInOrder used volume.old.committed }
-    ensures told { IfOk result (λ count. (words : List ℕ) → Holds (spaces used volume.old.committed volume.old.staged.items (H.outside volume.old.host)) pid words → length words ≡ count) }
-    ensures stands { IfOk result (λ count. (space : Space) → (spaces used volume.old.committed volume.old.staged.items (H.outside volume.old.host)).contents space → length_there pid space ≡ count) }
-    ensures sound { OnOk result (IsWhole (spaces used volume.old.committed volume.old.staged.items (H.outside volume.old.host)) pid None) }
-    ensures fault { IfErr result (IsObjectFault (spaces used volume.old.committed volume.old.staged.items (H.outside volume.old.host))
-        (spaces used volume.new.committed volume.new.staged.items (H.outside volume.new.host)) pid None) }
+pub fn length_at<H: Host>(
+    volume: &mut Volume<H>,
+    kept: &mut KeptPages,
+    used: u64,
+    pid: u64,
+) -> Result<u32, VaultFault>
+    requires alive { IsAlive volume.old.live volume.old.table (H.outside volume.old.host) }
+    requires kept { AreHeld kept.old.places.items volume.old.table (H.outside volume.old.host) }
+    requires order { IsInOrder used volume.old.table.committed }
+    ensures told { IfOk result (λ count. (words : List ℕ) → Holds (spaces used volume.old.table (H.outside volume.old.host)) pid words → length words ≡ count) }
+    ensures stands { IfOk result (λ count. (space : Space) → (spaces used volume.old.table (H.outside volume.old.host)).contents space → length_there pid space ≡ count) }
+    ensures sound { OnOk result (IsWhole (spaces used volume.old.table (H.outside volume.old.host)) pid None) }
+    ensures fault { IfErr result (IsObjectFault (spaces used volume.old.table (H.outside volume.old.host))
+        (spaces used volume.new.table (H.outside volume.new.host)) pid None) }
     ensures looks { Looks (H.outside volume.old.host) (H.outside volume.new.host) 2 }
-    ensures same { (volume.new.committed ≡ volume.old.committed) × (volume.new.staged.items ≡ volume.old.staged.items) }
-    ensures alive { OnOk result (IsAlive volume.new.live volume.new.committed volume.new.staged.items (H.outside volume.new.host)) }
+    ensures same { volume.new.table ≡ volume.old.table }
+    ensures alive { OnOk result (IsAlive volume.new.live volume.new.table (H.outside volume.new.host)) }
+    ensures kept { OnOk result (AreHeld kept.new.places.items volume.new.table (H.outside volume.new.host)) }
 {
-    match object_at(volume, used, pid, None) {
+    match object_at(volume, kept, used, pid, None) {
         Ok(header) => Ok(length_of(&header)),
         Err(fault) => Err(fault),
     }
@@ -168,24 +181,27 @@ fn test_words(words: &[u64], pid: u64, used: u64) -> Result<(), VaultFault>
 /// Gives the words of an object, as many as `into` has.
 pub fn fetch_at<H: Host>(
     volume: &mut Volume<H>,
+    kept: &mut KeptPages,
     used: u64,
     pid: u64,
     into: &mut [u64],
 ) -> Result<(), VaultFault>
-    requires alive { IsAlive volume.old.live volume.old.committed volume.old.staged.items (H.outside volume.old.host) }
-    requires order { IsInOrder used volume.old.committed }
-    ensures read { OnOk result ((space : Space) → (spaces used volume.old.committed volume.old.staged.items (H.outside volume.old.host)).contents space →
+    requires alive { IsAlive volume.old.live volume.old.table (H.outside volume.old.host) }
+    requires kept { AreHeld kept.old.places.items volume.old.table (H.outside volume.old.host) }
+    requires order { IsInOrder used volume.old.table.committed }
+    ensures read { OnOk result ((space : Space) → (spaces used volume.old.table (H.outside volume.old.host)).contents space →
         take (length into.old) (drop pid space.words) ≡ into.new) }
     ensures headed { OnOk result (IsHeaded into.new) }
-    ensures sound { OnOk result (IsWhole (spaces used volume.old.committed volume.old.staged.items (H.outside volume.old.host)) pid (Some (length into.old))) }
-    ensures fault { IfErr result (IsObjectFault (spaces used volume.old.committed volume.old.staged.items (H.outside volume.old.host))
-        (spaces used volume.new.committed volume.new.staged.items (H.outside volume.new.host)) pid (Some (length into.old))) }
+    ensures sound { OnOk result (IsWhole (spaces used volume.old.table (H.outside volume.old.host)) pid (Some (length into.old))) }
+    ensures fault { IfErr result (IsObjectFault (spaces used volume.old.table (H.outside volume.old.host))
+        (spaces used volume.new.table (H.outside volume.new.host)) pid (Some (length into.old))) }
     ensures looks { Looks (H.outside volume.old.host) (H.outside volume.new.host) (reading (length into.old)) }
-    ensures same { (volume.new.committed ≡ volume.old.committed) × (volume.new.staged.items ≡ volume.old.staged.items) }
-    ensures alive { OnOk result (IsAlive volume.new.live volume.new.committed volume.new.staged.items (H.outside volume.new.host)) }
+    ensures same { volume.new.table ≡ volume.old.table }
+    ensures alive { OnOk result (IsAlive volume.new.live volume.new.table (H.outside volume.new.host)) }
+    ensures kept { OnOk result (AreHeld kept.new.places.items volume.new.table (H.outside volume.new.host)) }
 {
-    let _header = object_at(volume, used, pid, Some(into.len() as u64))?;
-    match read_words(volume, pid, into) {
+    let _header = object_at(volume, kept, used, pid, Some(into.len() as u64))?;
+    match read_words(volume, kept, pid, into) {
         Ok(()) => test_words(into, pid, used),
         Err(_) => Err(VaultFault::Device),
     }
@@ -194,22 +210,27 @@ pub fn fetch_at<H: Host>(
 /// Stores a new object after the used words.
 pub fn append_at<H: Host>(
     volume: &mut Volume<H>,
+    kept: &mut KeptPages,
     used: u64,
     words: &[u64],
 ) -> Result<(), VaultFault>
-    requires alive { IsAlive volume.old.live volume.old.committed volume.old.staged.items (H.outside volume.old.host) }
-    requires order { IsInOrder used volume.old.committed }
-    requires has { HasPages volume.old.committed volume.old.staged.items (pages_of_words used) }
-    ensures becomes { OnOk result (Becomes (spaces used volume.old.committed volume.old.staged.items (H.outside volume.old.host))
-        (spaces (used + length words.now) volume.new.committed volume.new.staged.items (H.outside volume.new.host)) (appended words.now)) }
-    ensures fault { IfErr result (IsAppendFault (H.outside volume.old.host) (H.outside volume.new.host) used (length words.now) (capacity_of volume.old.committed.pages)) }
+    requires alive { IsAlive volume.old.live volume.old.table (H.outside volume.old.host) }
+    requires kept { AreHeld kept.old.places.items volume.old.table (H.outside volume.old.host) }
+    requires order { IsInOrder used volume.old.table.committed }
+    requires has { HasPages volume.old.table (pages_of_words used) }
+    requires unpinned { volume.old.table.pins.items ≡ [] }
+    ensures becomes { OnOk result (Becomes (spaces used volume.old.table (H.outside volume.old.host))
+        (spaces (used + length words.now) volume.new.table (H.outside volume.new.host)) (appended words.now)) }
+    ensures fault { IfErr result (IsAppendFault (H.outside volume.old.host) (H.outside volume.new.host) used (length words.now) (capacity_of volume.old.table.committed.pages)) }
     ensures past { KeepsPast (H.outside volume.old.host) (H.outside volume.new.host) }
-    ensures stages { Stages (seen volume.old.committed volume.old.staged.items (H.outside volume.old.host)) (seen volume.new.committed volume.new.staged.items (H.outside volume.new.host))
+    ensures stages { Stages (seen volume.old.table (H.outside volume.old.host)) (seen volume.new.table (H.outside volume.new.host))
         (writing (length words.now)) }
-    ensures committed { volume.new.committed ≡ volume.old.committed }
-    ensures order { OnOk result (IsInOrder (used + length words.now) volume.new.committed) }
-    ensures has { OnOk result (HasPages volume.new.committed volume.new.staged.items (pages_of_words (used + length words.now))) }
-    ensures alive { OnOk result (IsAlive volume.new.live volume.new.committed volume.new.staged.items (H.outside volume.new.host)) }
+    ensures committed { volume.new.table.committed ≡ volume.old.table.committed }
+    ensures unpinned { volume.new.table.pins.items ≡ [] }
+    ensures order { OnOk result (IsInOrder (used + length words.now) volume.new.table.committed) }
+    ensures has { OnOk result (HasPages volume.new.table (pages_of_words (used + length words.now))) }
+    ensures alive { OnOk result (IsAlive volume.new.live volume.new.table (H.outside volume.new.host)) }
+    ensures kept { OnOk result (AreHeld kept.new.places.items volume.new.table (H.outside volume.new.host)) }
 {
     let wanted = words.len() as u64;
     let capacity = capacity(volume.pages());
@@ -220,7 +241,8 @@ pub fn append_at<H: Host>(
             capacity,
         });
     }
-    match write_words(volume, used, words) {
+    let had = logical_pages(used) as u32;
+    match write_words(volume, kept, had, used, words) {
         Ok(()) => Ok(()),
         Err(_) => Err(VaultFault::Device),
     }
@@ -229,27 +251,33 @@ pub fn append_at<H: Host>(
 /// Puts these words in place of those of an object.
 pub fn overwrite_at<H: Host>(
     volume: &mut Volume<H>,
+    kept: &mut KeptPages,
     used: u64,
     pid: u64,
     words: &[u64],
 ) -> Result<(), VaultFault>
-    requires alive { IsAlive volume.old.live volume.old.committed volume.old.staged.items (H.outside volume.old.host) }
-    requires order { IsInOrder used volume.old.committed }
-    requires has { HasPages volume.old.committed volume.old.staged.items (pages_of_words used) }
-    ensures becomes { OnOk result (Becomes (spaces used volume.old.committed volume.old.staged.items (H.outside volume.old.host))
-        (spaces used volume.new.committed volume.new.staged.items (H.outside volume.new.host)) (overwritten pid words.now)) }
-    ensures sound { OnOk result (IsWhole (spaces used volume.old.committed volume.old.staged.items (H.outside volume.old.host)) pid (Some (length words.now))) }
-    ensures fault { IfErr result (IsObjectFault (spaces used volume.old.committed volume.old.staged.items (H.outside volume.old.host))
-        (spaces used volume.new.committed volume.new.staged.items (H.outside volume.new.host)) pid (Some (length words.now))) }
+    requires alive { IsAlive volume.old.live volume.old.table (H.outside volume.old.host) }
+    requires kept { AreHeld kept.old.places.items volume.old.table (H.outside volume.old.host) }
+    requires order { IsInOrder used volume.old.table.committed }
+    requires has { HasPages volume.old.table (pages_of_words used) }
+    requires unpinned { volume.old.table.pins.items ≡ [] }
+    ensures becomes { OnOk result (Becomes (spaces used volume.old.table (H.outside volume.old.host))
+        (spaces used volume.new.table (H.outside volume.new.host)) (overwritten pid words.now)) }
+    ensures sound { OnOk result (IsWhole (spaces used volume.old.table (H.outside volume.old.host)) pid (Some (length words.now))) }
+    ensures fault { IfErr result (IsObjectFault (spaces used volume.old.table (H.outside volume.old.host))
+        (spaces used volume.new.table (H.outside volume.new.host)) pid (Some (length words.now))) }
     ensures past { KeepsPast (H.outside volume.old.host) (H.outside volume.new.host) }
-    ensures stages { Stages (seen volume.old.committed volume.old.staged.items (H.outside volume.old.host)) (seen volume.new.committed volume.new.staged.items (H.outside volume.new.host))
+    ensures stages { Stages (seen volume.old.table (H.outside volume.old.host)) (seen volume.new.table (H.outside volume.new.host))
         (writing (length words.now)) }
-    ensures committed { volume.new.committed ≡ volume.old.committed }
-    ensures has { OnOk result (HasPages volume.new.committed volume.new.staged.items (pages_of_words used)) }
-    ensures alive { OnOk result (IsAlive volume.new.live volume.new.committed volume.new.staged.items (H.outside volume.new.host)) }
+    ensures committed { volume.new.table.committed ≡ volume.old.table.committed }
+    ensures unpinned { volume.new.table.pins.items ≡ [] }
+    ensures has { OnOk result (HasPages volume.new.table (pages_of_words used)) }
+    ensures alive { OnOk result (IsAlive volume.new.live volume.new.table (H.outside volume.new.host)) }
+    ensures kept { OnOk result (AreHeld kept.new.places.items volume.new.table (H.outside volume.new.host)) }
 {
-    let _header = object_at(volume, used, pid, Some(words.len() as u64))?;
-    match write_words(volume, pid, words) {
+    let _header = object_at(volume, kept, used, pid, Some(words.len() as u64))?;
+    let had = logical_pages(used) as u32;
+    match write_words(volume, kept, had, pid, words) {
         Ok(()) => Ok(()),
         Err(_) => Err(VaultFault::Device),
     }

@@ -1,12 +1,14 @@
 ghost use Rattle.std.specs.Prelude.{◌≡◌, ℕ, ◌+◌, ◌<◌, ◌≤◌, ◌^◌, List, length, true, IfOk, IfErr};
-ghost use Rattle.shadow_volume.specs.Attaching.{IsRefused};
+ghost use Rattle.paged_volume.specs.Attaching.{IsRefused};
 
+use crate::kept::KeptPages;
 use crate::objects::{append_at, fetch_at, length_at, overwrite_at};
 use crate::settling::settle_all;
 use obj_layout::vault::{Vault, VaultFault};
+use paged_volume::layout::capacity;
+use paged_volume::volume_parts::OpenFault;
+use paged_volume::{Refused, Volume};
 use ps_port::Host;
-use shadow_volume::layout::capacity;
-use shadow_volume::{Refused, Volume};
 use std::alloc::Global;
 use std::marker::Model;
 
@@ -15,6 +17,8 @@ use std::marker::Model;
 #[derive(Drop)]
 pub struct ObjStore<H: Host> {
     volume: Volume<H>,
+    // A few of its pages, so that objects near one another don't read a page each.
+    kept: KeptPages,
     // The words that are used as they are staged.
     used: u64,
     // No call has answered a fault.
@@ -41,11 +45,22 @@ impl<H: Host> ObjStore<H> {
         ensures ok { IfOk result (λ store. IsOpened H.outside (H.outside host) store) }
         ensures err { IfErr result (λ refused. IsRefused (H.outside host) (H.outside refused.host) refused.cause) }
     {
+        let kept = match KeptPages::new(alloc) {
+            Ok(kept) => kept,
+            Err(_) => {
+                return Err(Refused {
+                    cause: OpenFault::Memory,
+                    host,
+                });
+            }
+        };
         match Volume::attach(alloc, host) {
             Ok(volume) => {
+                volume.sound();
                 let used = volume.note().used;
                 Ok(ObjStore {
                     volume,
+                    kept,
                     used,
                     live: true,
                 })
@@ -76,7 +91,7 @@ impl<H: Host> Vault for ObjStore<H> {
     ghost directory_at = { λ store. directory_of store };
 
     fn length(&mut self, pid: u64) -> Result<u32, VaultFault> {
-        match length_at(&mut self.volume, self.used, pid) {
+        match length_at(&mut self.volume, &mut self.kept, self.used, pid) {
             Ok(count) => Ok(count),
             Err(fault) => {
                 self.live = false;
@@ -86,7 +101,7 @@ impl<H: Host> Vault for ObjStore<H> {
     }
 
     fn fetch(&mut self, pid: u64, into: &mut [u64]) -> Result<(), VaultFault> {
-        match fetch_at(&mut self.volume, self.used, pid, into) {
+        match fetch_at(&mut self.volume, &mut self.kept, self.used, pid, into) {
             Ok(()) => Ok(()),
             Err(fault) => {
                 self.live = false;
@@ -97,7 +112,7 @@ impl<H: Host> Vault for ObjStore<H> {
 
     fn append(&mut self, words: &[u64]) -> Result<u64, VaultFault> {
         let pid = self.used;
-        match append_at(&mut self.volume, pid, words) {
+        match append_at(&mut self.volume, &mut self.kept, pid, words) {
             Ok(()) => {
                 self.used = pid + words.len() as u64;
                 Ok(pid)
@@ -110,7 +125,7 @@ impl<H: Host> Vault for ObjStore<H> {
     }
 
     fn overwrite(&mut self, pid: u64, words: &[u64]) -> Result<(), VaultFault> {
-        match overwrite_at(&mut self.volume, self.used, pid, words) {
+        match overwrite_at(&mut self.volume, &mut self.kept, self.used, pid, words) {
             Ok(()) => Ok(()),
             Err(fault) => {
                 self.live = false;
@@ -121,7 +136,10 @@ impl<H: Host> Vault for ObjStore<H> {
 
     fn settle(&mut self, directory: u64) -> Result<(), VaultFault> {
         match settle_all(&mut self.volume, self.used, directory) {
-            Ok(()) => Ok(()),
+            Ok(()) => {
+                self.kept.clear();
+                Ok(())
+            }
             Err(fault) => {
                 self.live = false;
                 Err(fault)

@@ -6,7 +6,7 @@ ghost use Rattle.obj_store.specs.obj_layout.Stored.{IsHeaded};
 use memory_host::MemoryHost;
 use obj_store::ObjStore;
 use obj_store::obj_layout::vault::{Vault, VaultFault};
-use obj_store::shadow_volume::format;
+use obj_store::paged_volume::format;
 use std::alloc::{AllocError, Global};
 
 /// The room of a host: bytes and records of its calls.

@@ -10,7 +10,7 @@ use std::alloc::Global;
 use std::test::Fail;
 
 /// More calls than a test makes.
-const MOST_CALLS: u64 = 15;
+const MOST_CALLS: u64 = 17;
 
 /// Stores a text and settles it.
 fn store_text(store: &mut ObjStore<MemoryHost>) -> Result<(), VaultFault>
@@ -65,8 +65,8 @@ fn is_settled_over(alloc: Global, file: &[u8], failing: &[u64], calls: u64, is_m
 #[test]
 fn a_stop_while_a_text_is_settled(rt: HostRuntime) -> Result<(), Fail> {
     let file = new_file(rt.alloc())?;
-    for calls in 6..MOST_CALLS {
-        assert!(rt; is_settled_over(rt.alloc(), &file, &[], calls, calls >= 13));
+    for calls in 7..MOST_CALLS {
+        assert!(rt; is_settled_over(rt.alloc(), &file, &[], calls, calls >= 15));
     }
     Ok(())
 }
@@ -74,8 +74,8 @@ fn a_stop_while_a_text_is_settled(rt: HostRuntime) -> Result<(), Fail> {
 #[test]
 fn one_call_that_fails(rt: HostRuntime) -> Result<(), Fail> {
     let file = new_file(rt.alloc())?;
-    for failing in 6..MOST_CALLS {
-        assert!(rt; is_settled_over(rt.alloc(), &file, &[failing], u64::MAX, failing >= 13));
+    for failing in 7..MOST_CALLS {
+        assert!(rt; is_settled_over(rt.alloc(), &file, &[failing], u64::MAX, failing >= 15));
     }
     Ok(())
 }
@@ -109,13 +109,13 @@ fn is_fetch_failed(alloc: Global, file: &[u8], failing: u64) -> bool {
         return false;
     };
     let mut store = store;
-    is_fetched(&mut store, failing < 9)
+    is_fetched(&mut store, failing < 8)
 }
 
 #[test]
 fn a_call_that_fails_while_a_text_is_fetched(rt: HostRuntime) -> Result<(), Fail> {
     let file = settled_file(rt.alloc())?;
-    for failing in 6..10 {
+    for failing in 7..10 {
         assert!(rt; is_fetch_failed(rt.alloc(), &file, failing));
     }
     Ok(())
@@ -197,8 +197,38 @@ fn calls_of_page(alloc: Global, is_settled: bool) -> Option<u64> {
 
 #[test]
 fn the_calls_of_two_pages(rt: HostRuntime) {
-    // Six to attach; the first page is read and written, the second written.
-    assert_eq!(rt; calls_of_page(rt.alloc(), false), Some(9));
-    // Two writes and three syncs more.
-    assert_eq!(rt; calls_of_page(rt.alloc(), true), Some(14));
+    // Seven to attach; the first page is read and written, the second written.
+    assert_eq!(rt; calls_of_page(rt.alloc(), false), Some(10));
+    // The map page, the root page and the selector are written, with three syncs.
+    assert_eq!(rt; calls_of_page(rt.alloc(), true), Some(16));
+}
+
+/// Fetches a text twice, and writes over it by the words that it has.
+fn rewrite(store: &mut ObjStore<MemoryHost>) -> Result<(), VaultFault>
+    requires { store.old.live ≡ true }
+{
+    fetch(store, 1)?;
+    fetch(store, 1)?;
+    store.overwrite(1, &text(3, 4))
+}
+
+// How many calls that takes over a file in which the text is settled, and how many of them are writes.
+fn calls_of_rewriting(alloc: Global, file: &[u8]) -> Option<(u64, u64)> {
+    let Some(store) = store_in(alloc, file) else {
+        return None;
+    };
+    let mut store = store;
+    if rewrite(&mut store).is_err() {
+        return None;
+    }
+    let host = store.release();
+    Some((host.clock(), host.writes()))
+}
+
+#[test]
+fn what_is_there_is_not_written(rt: HostRuntime) -> Result<(), Fail> {
+    let file = settled_file(rt.alloc())?;
+    // Seven to attach; the page is read once.
+    assert_eq!(rt; calls_of_rewriting(rt.alloc(), &file), Some((8, 0)));
+    Ok(())
 }

@@ -1,6 +1,6 @@
 -- How large the numbers of a volume are.
 use Rattle.std.proofs.Common.{◌≡◌, inl, inr, ℕ, ◌+◌, ◌-◌, ◌*◌, ◌/◌, ◌^◌, ◌<◌, ◌≤◌, Bool, true, false, refl, ap, arith, nat_eq, if◌then◌else◌}
-use Rattle.shadow_volume.specs.Layout.{root_at, pages_of_words}
+use Rattle.volume_parts.specs.Layout.{root_at, pages_of_words}
 use Rattle.std.proofs.lemmas.Bool.{cases_lt, lt-ltb, le-ltb}
 use Rattle.paged_volume.specs.Planning.{depth_of}
 use Rattle.paged_volume.specs.Layout.{least_indexed, most_pages_of, capacity_pages, map_pages_of, maps_at}

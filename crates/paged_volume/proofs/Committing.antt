@@ -5,10 +5,10 @@ use Rattle.std.specs.Option.{option_map}
 use Rattle.ps_port.specs.ps_outside.Outside.{Outside, Leaves}
 use Rattle.ps_port.proofs.of_ps_outside.Moments.{along_as}
 use Rattle.page_map.specs.Map.{MapView, settled}
-use Rattle.shadow_volume.specs.Layout.{pages_of_words}
-use Rattle.shadow_volume.specs.Found.{Held}
-use Rattle.shadow_volume.specs.Standing.{saved, next_note}
-use Rattle.shadow_volume.specs.Switching.{Was, StaysHeld}
+use Rattle.volume_parts.specs.Layout.{pages_of_words}
+use Rattle.volume_parts.specs.Holding.{Held}
+use Rattle.volume_parts.specs.Holding.{saved, next_note}
+use Rattle.volume_parts.specs.Calls.{Was, StaysHeld}
 use Rattle.paged_volume.specs.Layout.{capacity_pages, capacity_of, map_pages_of}
 use Rattle.paged_volume.specs.Found.{bytes_named}
 use Rattle.paged_volume.specs.Standing.{IsFit, IsTable, IsAlive, Says, HasNames, map_count, held_in, staged_in, staged_bytes, committed_in, seen, with_zeros}

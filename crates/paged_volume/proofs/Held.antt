@@ -5,8 +5,8 @@ use Rattle.std.proofs.lemmas.Bool.{cases_lt, cases_eq, eq-eqb, ne_eqb}
 use Rattle.std.proofs.lemmas.Grind.{same_number_lists}
 use Rattle.std.proofs.lemmas.List.{get_or-take, get_or-drop, get_or-replicate, length-replicate, take-append-le, take_all}
 use Rattle.ps_port.specs.ps_outside.Outside.{Outside, After}
-use Rattle.shadow_volume.specs.Layout.{number_at, selects, pages_of_words}
-use Rattle.shadow_volume.specs.Found.{Held}
+use Rattle.volume_parts.specs.Layout.{number_at, selects, pages_of_words}
+use Rattle.volume_parts.specs.Holding.{Held}
 use Rattle.paged_volume.specs.Layout.{capacity_pages, maps_at, index_number, page_number}
 use Rattle.paged_volume.specs.Found.{a_volume, found_in, numbers_of, byte_named, bytes_named, after_names}
 use Rattle.paged_volume.specs.Standing.{IsFit, IsNamedOnce, AreUnnamed, Says, HasHead, HasRoot, index_of, maps_of, map_names, place_by, map_count, logical_of, held_in, held_of, committed_in, staged_in, staged_bytes, with_zeros, seen}

@@ -15,8 +15,10 @@ pub mod Selecting
 pub mod Synced
 pub mod Changed
 pub mod New
+pub mod Opening
 pub mod Choosing
 pub mod Planned
 pub mod PinLaws
 pub mod Room
 pub mod Committing
+pub use Rattle.volume_parts.proofs as of_volume_parts

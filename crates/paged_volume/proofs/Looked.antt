@@ -2,11 +2,11 @@
 use Rattle.std.proofs.Common.{◌≡◌, ℕ, ◌+◌, ◌≤◌, Bool, List, [], length, sym, ◌∙◌, ap, subst, arith, Option}
 use Rattle.ps_port.specs.ps_outside.Outside.{Outside}
 use Rattle.page_map.specs.Map.{MapView, settled}
-use Rattle.shadow_volume.specs.Layout.{selects}
-use Rattle.shadow_volume.specs.Attaching.{Looks}
-use Rattle.shadow_volume.specs.declared.finding.OpenFault.{OpenFault}
-use Rattle.shadow_volume.specs.declared.finding.OpenFault.TheVariants.{Device, NotAVolume, Damaged, Memory}
-use Rattle.shadow_volume.proofs.Looking.{looks_then, rose_then}
+use Rattle.volume_parts.specs.Layout.{selects}
+use Rattle.volume_parts.specs.Calls.{Looks}
+use Rattle.volume_parts.specs.declared.open_fault.OpenFault.{OpenFault}
+use Rattle.volume_parts.specs.declared.open_fault.OpenFault.TheVariants.{Device, NotAVolume, Damaged, Memory}
+use Rattle.volume_parts.proofs.Looking.{looks_then, rose_then}
 use Rattle.paged_volume.specs.Found.{found_in, names_tests, after_names}
 use Rattle.paged_volume.specs.Standing.{IsFit, IsTable, Says, HasHead, HasRoot, HasNames, logical_of, map_count}
 use Rattle.paged_volume.specs.Naming.{IsNaming, IsFailed, FailsBy}

@@ -9,7 +9,7 @@ use Rattle.page_map.specs.Numbers.{first_numbers, number_at, with_numbers}
 use Rattle.page_map.proofs.NumberLaws.{length_first_numbers}
 use Rattle.ps_port.specs.Disk.{written}
 use Rattle.ps_port.specs.DiskLaws.{written_elsewhere, length-written}
-use Rattle.shadow_volume.proofs.Gate.{written_inside}
+use Rattle.volume_parts.proofs.Gate.{written_inside}
 use Rattle.paged_volume.specs.Layout.{capacity_pages, map_pages_of}
 use Rattle.paged_volume.specs.Found.{numbers_of, unnamed}
 use Rattle.paged_volume.specs.Standing.{IsFit, AreUnnamed, index_of, maps_of, map_names}

@@ -11,11 +11,11 @@ use Rattle.ps_port.specs.ps_outside.Outside.{Outside, Leaves}
 use Rattle.ps_port.proofs.of_ps_outside.Moments.{along_weaker}
 use Rattle.ps_port.specs.Disk.{Torn, Written, written}
 use Rattle.ps_port.specs.DiskLaws.{written_elsewhere, length-written}
-use Rattle.shadow_volume.specs.Layout.{number_at, magic, gate, selects}
+use Rattle.volume_parts.specs.Layout.{number_at, magic, gate, selects}
 use Rattle.ps_port.proofs.Torn.{byte_written}
-use Rattle.shadow_volume.specs.Making.{IsOld, IsShut, IsZeroed, empty_note, empty_held}
-use Rattle.shadow_volume.proofs.Numbers.{number_same}
-use Rattle.shadow_volume.proofs.Gate.{written_before, written_inside, zeroed_more}
+use Rattle.volume_parts.specs.Making.{IsOld, IsShut, IsZeroed, empty_note, empty_held}
+use Rattle.volume_parts.proofs.Numbers.{number_same}
+use Rattle.volume_parts.proofs.Gate.{written_before, written_inside, zeroed_more}
 use Rattle.paged_volume.specs.Planning.{depth_of}
 use Rattle.paged_volume.specs.Making.{Number, number, new_numbers, byte_of, Stand, IsNew, IsBegun, IsMaking}
 use Rattle.paged_volume.specs.Layout.{maps_at}

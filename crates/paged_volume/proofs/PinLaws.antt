@@ -12,8 +12,8 @@ use Rattle.page_map.specs.Pages.{is_free, may_be_free, names, one_names, no_page
 use Rattle.page_map.specs.Map.{MapView, IsMap, list_names, with_pin, with_pins}
 use Rattle.page_map.proofs.PageLaws.{is_free_where, length_where, within}
 use Rattle.page_map.proofs.MapLaws.{one_names_set, one_names_no_pages}
-use Rattle.shadow_volume.specs.Found.{Held}
-use Rattle.shadow_volume.specs.Switching.{StaysHeld}
+use Rattle.volume_parts.specs.Holding.{Held}
+use Rattle.volume_parts.specs.Calls.{StaysHeld}
 use Rattle.paged_volume.specs.Layout.{capacity_pages, capacity_of}
 use Rattle.paged_volume.specs.Found.{numbers_of, bytes_named}
 use Rattle.paged_volume.specs.Standing.{IsTable, IsSpare, IsPinned, Says, held_in, with_zeros, map_names, logical_of, map_count, numbers_of_table, uses}

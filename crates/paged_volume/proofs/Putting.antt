@@ -11,8 +11,8 @@ use Rattle.ps_port.proofs.of_ps_outside.Moments.{along_as, along_now}
 use Rattle.page_map.specs.Pages.{is_free, names, one_names}
 use Rattle.page_map.specs.Map.{MapView, IsMap, with_staged}
 use Rattle.page_map.proofs.PageLaws.{is_free_taken, and_true}
-use Rattle.shadow_volume.specs.Found.{Held}
-use Rattle.shadow_volume.proofs.Gate.{written_inside}
+use Rattle.volume_parts.specs.Holding.{Held}
+use Rattle.volume_parts.proofs.Gate.{written_inside}
 use Rattle.paged_volume.specs.Layout.{capacity_pages}
 use Rattle.paged_volume.specs.Found.{byte_named, bytes_named, numbers_of}
 use Rattle.paged_volume.specs.Standing.{IsAlive, IsTable, IsSpare, Says, map_names, logical_of, map_count, numbers_of_table, uses, held_in, staged_in, staged_bytes, seen}

@@ -8,12 +8,12 @@ use Rattle.page_map.specs.Map.{MapView, AreGood, IsFault, IsBadNumber, with_take
 use Rattle.page_map.specs.declared.fault.MapFault.{MapFault}
 use Rattle.page_map.specs.declared.fault.MapFault.TheVariants.{BadNumber}
 use Rattle.page_map.specs.Numbers.{first_numbers}
-use Rattle.shadow_volume.specs.Layout.{number_at, root_at}
-use Rattle.shadow_volume.specs.declared.finding.OpenFault.{OpenFault}
-use Rattle.shadow_volume.specs.declared.finding.OpenFault.TheVariants.{Device, NotAVolume, Damaged, Memory}
-use Rattle.shadow_volume.specs.Attaching.{Looks}
-use Rattle.shadow_volume.proofs.Looking.{rose_then}
-use Rattle.shadow_volume.proofs.Numbers.{number_within}
+use Rattle.volume_parts.specs.Layout.{number_at, root_at}
+use Rattle.volume_parts.specs.declared.open_fault.OpenFault.{OpenFault}
+use Rattle.volume_parts.specs.declared.open_fault.OpenFault.TheVariants.{Device, NotAVolume, Damaged, Memory}
+use Rattle.volume_parts.specs.Calls.{Looks}
+use Rattle.volume_parts.proofs.Looking.{rose_then}
+use Rattle.volume_parts.proofs.Numbers.{number_within}
 use Rattle.paged_volume.specs.Layout.{maps_at, in_map_page, index_number, map_place, map_number, page_place, page_number, map_pages_of}
 use Rattle.paged_volume.specs.Found.{damage, bound_of, numbers_of, unnamed, name_tests, names_tests}
 use Rattle.paged_volume.specs.Standing.{IsFit, AreUnnamed, HasNames, index_of, maps_of, map_names, place_by, logical_of, map_count}

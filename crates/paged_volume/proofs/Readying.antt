@@ -2,16 +2,16 @@
 use Rattle.std.proofs.Common.{◌≡◌, ◌≢◌, ◌⊎◌, inl, inr, ℕ, ◌+◌, ◌*◌, ◌<◌, ◌≤◌, Bool, true, false, not, List, length, get_or, take, drop, sym, ◌∙◌, ap, subst, arith, Result, Ok, Err}
 use Rattle.std.specs.Prelude.{OnOk}
 use Rattle.std.proofs.lemmas.Result.{on_err_weaker}
-use Rattle.shadow_volume.specs.Switching.{Works}
-use Rattle.shadow_volume.proofs.Looking.{rose_then}
+use Rattle.volume_parts.specs.Calls.{Works}
+use Rattle.volume_parts.proofs.Looking.{rose_then}
 use Rattle.std.proofs.lemmas.Bool.{cases_lt}
 use Rattle.ps_port.specs.ps_outside.Outside.{Outside, Leaves, After, IsDeviceCall}
 use Rattle.ps_port.proofs.of_ps_outside.Moments.{along_then, along_now}
 use Rattle.ps_port.specs.Disk.{Torn, Written, written}
 use Rattle.ps_port.specs.DiskLaws.{written_torn}
 use Rattle.ps_port.proofs.Torn.{written_range}
-use Rattle.shadow_volume.specs.Layout.{number_at, root_at}
-use Rattle.shadow_volume.proofs.Numbers.{number_within}
+use Rattle.volume_parts.specs.Layout.{number_at, root_at}
+use Rattle.volume_parts.proofs.Numbers.{number_within}
 use Rattle.paged_volume.specs.Layout.{capacity_pages, map_pages_of}
 use Rattle.paged_volume.specs.Standing.{IsFit, IsNamedOnce, IsSpare, Says, index_of, maps_of, map_count}
 use Rattle.paged_volume.specs.Switching.{IsNext, IsKept, SamePages, HasMaps, HasIndex, IsReady}

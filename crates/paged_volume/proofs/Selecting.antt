@@ -6,8 +6,8 @@ use Rattle.ps_port.proofs.of_ps_outside.Moments.{along_then, along_weaker}
 use Rattle.ps_port.specs.Disk.{Torn, Written, written}
 use Rattle.ps_port.specs.DiskLaws.{written_torn}
 use Rattle.ps_port.proofs.Torn.{written_range, byte_written}
-use Rattle.shadow_volume.specs.Layout.{number_at, root_at, selects}
-use Rattle.shadow_volume.proofs.Numbers.{number_within}
+use Rattle.volume_parts.specs.Layout.{number_at, root_at, selects}
+use Rattle.volume_parts.proofs.Numbers.{number_within}
 use Rattle.paged_volume.specs.Standing.{IsFit, IsNamedOnce, HasHead, HasRoot, index_of, maps_of}
 use Rattle.paged_volume.specs.Switching.{IsNext, IsKept, IsReady, IsRootPage, IsRooted, IsSwitched, IsEither, next_table, first_name}
 use Rattle.paged_volume.specs.declared.table.Table.{Table}

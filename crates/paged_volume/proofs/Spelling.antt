@@ -7,8 +7,8 @@ use Rattle.byteorder.specs.Numbers.{little_number-reads_back, length-bytes_low_f
 use Rattle.ps_port.specs.Disk.{Torn, written}
 use Rattle.ps_port.specs.DiskLaws.{written_torn, length-written}
 use Rattle.ps_port.proofs.Torn.{written_range}
-use Rattle.shadow_volume.specs.Layout.{number_at}
-use Rattle.shadow_volume.proofs.Numbers.{number_torn, number_within}
+use Rattle.volume_parts.specs.Layout.{number_at}
+use Rattle.volume_parts.proofs.Numbers.{number_torn, number_within}
 use Rattle.paged_volume.specs.Standing.{maps_of, logical_of}
 use Rattle.paged_volume.specs.Switching.{IsRootPage}
 use Rattle.paged_volume.specs.declared.committed.Committed.{Committed}

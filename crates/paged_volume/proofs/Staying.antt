@@ -5,8 +5,8 @@ use Rattle.ps_port.specs.Disk.{Torn, IsOutside}
 use Rattle.std.proofs.lemmas.List.{get_or_past}
 use Rattle.std.proofs.lemmas.List.Folds.{list_any_at}
 use Rattle.page_map.specs.Pages.{names, one_names}
-use Rattle.shadow_volume.specs.Layout.{number_at, root_at, selects}
-use Rattle.shadow_volume.proofs.Numbers.{number_torn}
+use Rattle.volume_parts.specs.Layout.{number_at, root_at, selects}
+use Rattle.volume_parts.proofs.Numbers.{number_torn}
 use Rattle.paged_volume.specs.Layout.{capacity_pages, maps_at}
 use Rattle.paged_volume.specs.Found.{bytes_named, numbers_of}
 use Rattle.paged_volume.specs.Standing.{IsFit, IsNamedOnce, IsSpare, Says, HasHead, HasRoot, HasNames, index_of, maps_of, map_names, place_by, logical_of, map_count, numbers_of_table, held_in}

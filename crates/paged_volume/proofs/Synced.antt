@@ -4,7 +4,7 @@ use Rattle.std.specs.Prelude.{Result, OnOk}
 use Rattle.std.proofs.lemmas.Result.{on_ok_weaker}
 use Rattle.ps_port.specs.ps_outside.Outside.{Outside, After, SameContents}
 use Rattle.ps_port.specs.Disk.{Written, written}
-use Rattle.shadow_volume.specs.Switching.{StaysHeld}
+use Rattle.volume_parts.specs.Calls.{StaysHeld}
 
 module _ {E : Type 0} (result : Result (Unit {0}) E) (a b c : Outside (List ℕ)) (at : ℕ) (from : List ℕ) (same : SameContents b c) where
   pub written_durable : ((bytes : List ℕ) → a.contents bytes → a.images a.clock bytes) → ((bytes : List ℕ) → b.contents bytes → After a.contents (Written at from) bytes) →

@@ -3,10 +3,10 @@ use Rattle.std.proofs.Common.{◌≡◌, ◌≢◌, ◌⊎◌, inl, inr, ℕ, �
 use Rattle.std.proofs.lemmas.Bool.{cases_lt, cases_eq, le-ltb, lt-ltb, ltb-false, eq-eqb, eqb-true, ne_eqb}
 use Rattle.std.specs.Option.{option_or}
 use Rattle.ps_port.specs.ps_outside.Outside.{Outside}
-use Rattle.shadow_volume.specs.Layout.{magic, number_at, gate, selects, root_at, pages_of_words}
-use Rattle.shadow_volume.proofs.Numbers.{number_within}
-use Rattle.shadow_volume.specs.declared.finding.OpenFault.{OpenFault}
-use Rattle.shadow_volume.specs.declared.finding.OpenFault.TheVariants.{Device, NotAVolume, Damaged, Memory}
+use Rattle.volume_parts.specs.Layout.{magic, number_at, gate, selects, root_at, pages_of_words}
+use Rattle.volume_parts.proofs.Numbers.{number_within}
+use Rattle.volume_parts.specs.declared.open_fault.OpenFault.{OpenFault}
+use Rattle.volume_parts.specs.declared.open_fault.OpenFault.TheVariants.{Device, NotAVolume, Damaged, Memory}
 use Rattle.paged_volume.specs.Layout.{most_pages_of, capacity_of}
 use Rattle.paged_volume.specs.Found.{no_volume, damaged, found_in, damage, after_head, after_root, after_names, head_damage, root_damage, head_tests, root_tests, names_tests, wants_equal, wants_between, wants_pages, wants_depth}
 use Rattle.paged_volume.specs.Standing.{IsHeadFit, IsDepth, IsFit, HasHead, HasRoot, logical_of}
@@ -115,7 +115,7 @@ unfolding head_tests
 head_passes spelled format pages present is fit some =
     or_none _ _ (equal_none 1 spelled magic is) (or_none _ _ (between_none 7 format 1 2 fit.formats.0 fit.formats.1) (or_none _ _ (between_none 8 pages 32 (most_pages_of format) fit.least fit.most) (pages_none present pages some)))
 
-head_passed : (spelled format pages present : ℕ) → head_tests spelled format pages present ≡ None → (spelled ≡ magic) × IsHeadFit format pages × (pages ≤ present)
+pub head_passed : (spelled format pages present : ℕ) → head_tests spelled format pages present ≡ None → (spelled ≡ magic) × IsHeadFit format pages × (pages ≤ present)
 unfolding head_tests
 head_passed spelled format pages present e =
     let first = none_or _ _ e in
@@ -133,7 +133,7 @@ root_passes committed root logical fit is =
     (or_none _ _ (between_none (root + 16) note.directory 0 (note.used - 1) (omega arith) (let below = fit.below in omega arith))
     (depth_none committed.format committed.pages (root + 4092) committed.depth fit.head.formats fit.depth)))
 
-root_passed : (committed : Committed) (root logical : ℕ) → IsHeadFit committed.format committed.pages → root_tests committed.format committed.pages root committed.note logical committed.depth ≡ None →
+pub root_passed : (committed : Committed) (root logical : ℕ) → IsHeadFit committed.format committed.pages → root_tests committed.format committed.pages root committed.note logical committed.depth ≡ None →
     IsFit committed × (logical ≡ logical_of committed)
 unfolding root_tests
 root_passed committed root logical head e =

@@ -13,8 +13,8 @@ use Rattle.ps_port.proofs.Torn.{written_range}
 use Rattle.page_map.specs.Pages.{one_names}
 use Rattle.page_map.specs.Numbers.{AreNumbers, bytes_of, numbers_from}
 use Rattle.page_map.proofs.RoundLaws.{read_as_written}
-use Rattle.shadow_volume.specs.Layout.{number_at}
-use Rattle.shadow_volume.proofs.Numbers.{number_within}
+use Rattle.volume_parts.specs.Layout.{number_at}
+use Rattle.volume_parts.proofs.Numbers.{number_within}
 use Rattle.paged_volume.specs.Layout.{capacity_pages, map_pages_of}
 use Rattle.paged_volume.specs.Found.{numbers_of}
 use Rattle.paged_volume.specs.Standing.{IsFit, IsNamedOnce, IsSpare, Says, index_of, maps_of, map_names, place_by, logical_of, map_count, staged_bytes}

@@ -2,11 +2,11 @@
 use Rattle.std.specs.Prelude.{◌≡◌, ℕ, ◌+◌, Bool, List, [], Option}
 use Rattle.std.specs.Option.{option_map}
 use Rattle.ps_port.specs.ps_outside.Outside.{Outside, SettlesFrom, After, Rose}
-use Rattle.shadow_volume.specs.Layout.{number_at, root_at}
-use Rattle.shadow_volume.specs.Found.{Held, note_at}
-use Rattle.shadow_volume.specs.Attaching.{Looks}
-use Rattle.shadow_volume.specs.declared.finding.OpenFault.{OpenFault}
-use Rattle.shadow_volume.specs.declared.finding.OpenFault.TheVariants.{Device, NotAVolume, Damaged, Memory}
+use Rattle.volume_parts.specs.Layout.{number_at, root_at}
+use Rattle.volume_parts.specs.Holding.{Held, note_at}
+use Rattle.volume_parts.specs.Calls.{Looks}
+use Rattle.volume_parts.specs.declared.open_fault.OpenFault.{OpenFault}
+use Rattle.volume_parts.specs.declared.open_fault.OpenFault.TheVariants.{Device, NotAVolume, Damaged, Memory}
 use Rattle.paged_volume.specs.Layout.{depth_at}
 use Rattle.paged_volume.specs.Found.{a_volume, no_volume, damaged, damage, found_in, held_at}
 use Rattle.paged_volume.specs.Standing.{IsAlive, seen, held_in, with_zeros, map_count}

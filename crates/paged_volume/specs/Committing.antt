@@ -3,9 +3,9 @@ use Rattle.std.specs.Prelude.{◌≡◌, ◌⊎◌, ℕ, ◌+◌, ◌/◌, ◌<�
 use Rattle.ps_port.specs.ps_outside.Outside.{Outside, Leaves, TellsNothing, Rose}
 use Rattle.page_map.specs.Pages.{held_of}
 use Rattle.page_map.specs.Map.{MapView}
-use Rattle.shadow_volume.specs.Found.{Held}
-use Rattle.shadow_volume.specs.Standing.{saved}
-use Rattle.shadow_volume.specs.Switching.{Was}
+use Rattle.volume_parts.specs.Holding.{Held}
+use Rattle.volume_parts.specs.Holding.{saved}
+use Rattle.volume_parts.specs.Calls.{Was}
 use Rattle.paged_volume.specs.Pinning.{outdated, AreLatest}
 use Rattle.paged_volume.specs.Standing.{IsTable, Says, with_zeros}
 use Rattle.paged_volume.specs.Switching.{next_table}

@@ -3,9 +3,9 @@ use Rattle.std.specs.Prelude.{ℕ, zero, suc, ◌+◌, ◌-◌, ◌*◌, ◌/◌
 use Rattle.std.specs.List.{range_with_len}
 use Rattle.std.specs.Option.{option_or}
 use Rattle.page_map.specs.Pages.{is_free, free_where, may_be_free, names}
-use Rattle.shadow_volume.specs.Layout.{least_bytes, least_pages, magic, number_at, gate, selects, root_at, pages_of_words}
-use Rattle.shadow_volume.specs.Found.{Held, note_at}
-use Rattle.shadow_volume.specs.declared.note.Note.{Note}
+use Rattle.volume_parts.specs.Layout.{least_bytes, least_pages, magic, number_at, gate, selects, root_at, pages_of_words}
+use Rattle.volume_parts.specs.Holding.{Held, note_at}
+use Rattle.volume_parts.specs.declared.note.Note.{Note}
 use Rattle.paged_volume.specs.Layout.{most_pages_of, least_indexed, capacity_of, map_pages_of, depth_at, index_number, map_place, map_number, page_place, page_number}
 use Rattle.paged_volume.specs.declared.damage.Damage.{Damage}
 

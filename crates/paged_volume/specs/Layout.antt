@@ -1,6 +1,6 @@
 -- Where the parts of a volume lie in the bytes of its file. A page is named by its number, the place of its first byte divided by 4,096.
 use Rattle.std.specs.Prelude.{ℕ, ◌+◌, ◌-◌, ◌*◌, ◌/◌, ◌%◌, Bool, List, nat_eq, if◌then◌else◌}
-use Rattle.shadow_volume.specs.Layout.{number_at, root_at}
+use Rattle.volume_parts.specs.Layout.{number_at, root_at}
 
 -- the most pages of a volume of this format, 1 or 2
 abbrev pub most_pages_of : ℕ → ℕ

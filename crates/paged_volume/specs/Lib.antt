@@ -10,4 +10,5 @@ pub mod Changing
 pub mod Planning
 pub mod Committing
 pub mod Making
-pub use Rattle.shadow_volume.specs as shadow_volume
+pub mod Opening
+pub use Rattle.volume_parts.specs as volume_parts

@@ -2,8 +2,8 @@
 use Rattle.std.specs.Prelude.{◌≡◌, ◌⊎◌, ℕ, ◌+◌, ◌-◌, ◌*◌, ◌<◌, ◌≤◌, ◌&&◌, List, [], ◌∷◌, length, slice_index, nat_le, nat_lt, if◌then◌else◌}
 use Rattle.byteorder.specs.Endian.{little_bytes}
 use Rattle.ps_port.specs.ps_outside.Outside.{Outside, Leaves}
-use Rattle.shadow_volume.specs.Layout.{magic, gate}
-use Rattle.shadow_volume.specs.Making.{IsOld, IsShut, IsBeforeShut}
+use Rattle.volume_parts.specs.Layout.{magic, gate}
+use Rattle.volume_parts.specs.Making.{IsOld, IsShut, IsBeforeShut}
 use Rattle.paged_volume.specs.Planning.{depth_of}
 
 -- a number in a file: where it stands, how many bytes it has, and what it is

@@ -3,9 +3,9 @@ use Rattle.std.specs.Prelude.{◌≡◌, ℕ, ◌+◌, ◌*◌, ◌<◌, ◌≤�
 use Rattle.ps_port.specs.ps_outside.Outside.{Outside, Rose}
 use Rattle.page_map.specs.Pages.{no_pages}
 use Rattle.page_map.specs.Map.{MapView}
-use Rattle.shadow_volume.specs.Layout.{number_at, root_at}
-use Rattle.shadow_volume.specs.declared.finding.OpenFault.{OpenFault}
-use Rattle.shadow_volume.specs.declared.finding.OpenFault.TheVariants.{Device, NotAVolume, Damaged, Memory}
+use Rattle.volume_parts.specs.Layout.{number_at, root_at}
+use Rattle.volume_parts.specs.declared.open_fault.OpenFault.{OpenFault}
+use Rattle.volume_parts.specs.declared.open_fault.OpenFault.TheVariants.{Device, NotAVolume, Damaged, Memory}
 use Rattle.paged_volume.specs.Layout.{capacity_pages, map_pages_of}
 use Rattle.paged_volume.specs.Found.{damage, numbers_of, unnamed, name_tests}
 use Rattle.paged_volume.specs.Standing.{AreUnnamed, IsFit, index_of, maps_of, map_names, place_by}

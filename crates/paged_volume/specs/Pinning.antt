@@ -3,8 +3,8 @@ use Rattle.std.specs.Prelude.{◌≡◌, ◌≢◌, ◌⊎◌, ℕ, ◌<◌, ◌
 use Rattle.std.specs.Option.{option_map}
 use Rattle.ps_port.specs.ps_outside.Outside.{Outside, After}
 use Rattle.page_map.specs.Pages.{no_pages}
-use Rattle.shadow_volume.specs.Layout.{pages_of_words}
-use Rattle.shadow_volume.specs.Found.{Held}
+use Rattle.volume_parts.specs.Layout.{pages_of_words}
+use Rattle.volume_parts.specs.Holding.{Held}
 use Rattle.paged_volume.specs.Layout.{capacity_pages, capacity_of}
 use Rattle.paged_volume.specs.Found.{bytes_named}
 use Rattle.paged_volume.specs.declared.pinned.Pinned.{Pinned}

@@ -2,7 +2,7 @@
 use Rattle.std.specs.Prelude.{◌≡◌, ◌≢◌, ℕ, ◌+◌, ◌^◌, ◌<◌, ◌≤◌, Bool, true, false, List, length, slice_index, nat_lt, not, if◌then◌else◌}
 use Rattle.page_map.specs.Pages.{is_free, held_of}
 use Rattle.page_map.specs.Map.{MapView, with_taken}
-use Rattle.shadow_volume.specs.Standing.{next_note}
+use Rattle.volume_parts.specs.Holding.{next_note}
 use Rattle.paged_volume.specs.Layout.{least_indexed}
 use Rattle.paged_volume.specs.Standing.{IsFit, Says, index_of, maps_of, logical_of, map_count}
 use Rattle.paged_volume.specs.Changing.{next_number, is_changed, changed_pages}

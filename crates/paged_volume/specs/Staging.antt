@@ -4,7 +4,7 @@ use Rattle.ps_port.specs.ps_outside.Outside.{Outside, LeavesSame, TellsNothing, 
 use Rattle.ps_port.specs.Disk.{written}
 use Rattle.page_map.specs.Pages.{is_free, held_of, IsTaken}
 use Rattle.page_map.specs.Map.{MapView, list_names, with_taken}
-use Rattle.shadow_volume.specs.Found.{Held}
+use Rattle.volume_parts.specs.Holding.{Held}
 use Rattle.paged_volume.specs.Pinning.{AreLatest}
 use Rattle.paged_volume.specs.declared.table.Table.{Table}
 use Rattle.paged_volume.specs.declared.volume.VolumeFault.{VolumeFault}

@@ -2,9 +2,9 @@
 use Rattle.std.specs.Prelude.{◌≡◌, ◌⊎◌, ℕ, ◌+◌, ◌-◌, ◌*◌, ◌/◌, ◌^◌, ◌<◌, ◌≤◌, Bool, true, false, ◌||◌, List, [], ◌++◌, length, replicate, slice_index, Option, Some, None}
 use Rattle.ps_port.specs.ps_outside.Outside.{Outside, After}
 use Rattle.page_map.specs.Pages.{is_free, names, one_names}
-use Rattle.shadow_volume.specs.Layout.{number_at, magic, gate, selects, root_at, pages_of_words}
-use Rattle.shadow_volume.specs.Found.{Held, note_at}
-use Rattle.shadow_volume.specs.declared.note.Note.{Note}
+use Rattle.volume_parts.specs.Layout.{number_at, magic, gate, selects, root_at, pages_of_words}
+use Rattle.volume_parts.specs.Holding.{Held, note_at}
+use Rattle.volume_parts.specs.declared.note.Note.{Note}
 use Rattle.paged_volume.specs.Layout.{most_pages_of, least_indexed, capacity_pages, capacity_of, map_pages_of, depth_at, maps_at, in_map_page, index_number}
 use Rattle.paged_volume.specs.Found.{Found, a_volume, no_volume, damaged, found_in, numbers_of, unnamed, bytes_named}
 use Rattle.paged_volume.specs.Pinning.{pin_of, pinned_list, IsPin}

@@ -2,8 +2,8 @@
 use Rattle.std.specs.Prelude.{◌≡◌, ◌≢◌, ◌⊎◌, ℕ, ◌+◌, ◌*◌, ◌/◌, ◌<◌, ◌≤◌, ◌^◌, min, true, not, List, [], length, take, drop, slice_index, nat_eq, if◌then◌else◌}
 use Rattle.ps_port.specs.ps_outside.Outside.{Outside, After}
 use Rattle.page_map.specs.Pages.{one_names}
-use Rattle.shadow_volume.specs.Layout.{number_at, root_at}
-use Rattle.shadow_volume.specs.Found.{note_at}
+use Rattle.volume_parts.specs.Layout.{number_at, root_at}
+use Rattle.volume_parts.specs.Holding.{note_at}
 use Rattle.paged_volume.specs.Layout.{capacity_pages, map_pages_of}
 use Rattle.paged_volume.specs.Found.{numbers_of}
 use Rattle.paged_volume.specs.Changing.{is_changed}

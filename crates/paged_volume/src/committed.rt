@@ -1,4 +1,4 @@
-use shadow_volume::Note;
+use volume_parts::Note;
 
 /// What is committed in a volume: its format, how many pages it has, which root page is selected, and what that page says. The depth is 1
 /// where an index page names the map pages, else 0.

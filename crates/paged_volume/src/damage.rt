@@ -1,9 +1,9 @@
 ghost use Rattle.std.specs.Prelude.{◌≡◌, ◌≤◌, None};
 ghost use Rattle.paged_volume.specs.Found.{wants_equal, wants_between, wants_pages, wants_depth, bound_of};
-ghost use Rattle.shadow_volume.specs.declared.finding.OpenFault.TheVariants.{Damaged};
+ghost use Rattle.volume_parts.specs.declared.open_fault.OpenFault.TheVariants.{Damaged};
 
 use crate::layout::LEAST_INDEXED;
-use shadow_volume::OpenFault;
+use volume_parts::OpenFault;
 
 /// A test that failed: the number at this place in the file isn't what was wanted, or isn't within it.
 #[derive(Clone, Copy)]

@@ -2,7 +2,7 @@
 
 ghost use Rattle.std.specs.Prelude.{◌≡◌, ℕ, ◌+◌, ◌^◌, ◌<◌, List, [], length, IfErr, IfOk};
 ghost use Rattle.ps_port.specs.ps_outside.Outside.{SettlesFrom};
-ghost use Rattle.shadow_volume.specs.Attaching.{Looks};
+ghost use Rattle.volume_parts.specs.Calls.{Looks};
 ghost use Rattle.paged_volume.specs.Standing.{IsFit, IsTable, Says, map_count};
 ghost use Rattle.paged_volume.specs.Naming.{IsNaming};
 ghost use Rattle.paged_volume.specs.Attaching.{IsRefusal};
@@ -15,8 +15,8 @@ use crate::root::read_root;
 use crate::table::Table;
 use page_map::PageMap;
 use ps_port::Host;
-use shadow_volume::OpenFault;
 use std::alloc::{AllocError, Global};
+use volume_parts::OpenFault;
 
 // A table of what is committed, with no page named yet.
 fn new_table(alloc: Global, committed: Committed) -> Result<Table, AllocError>

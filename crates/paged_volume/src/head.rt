@@ -2,8 +2,8 @@
 
 ghost use Rattle.std.specs.Prelude.{◌≡◌, ℕ, ◌+◌, ◌*◌, ◌/◌, ◌<◌, ◌≤◌, List, length, slice_index, None, Some, OnOk, IfErr, IfOk};
 ghost use Rattle.ps_port.specs.ps_outside.Outside.{Rose};
-ghost use Rattle.shadow_volume.specs.Layout.{gate};
-ghost use Rattle.shadow_volume.specs.Attaching.{Looks};
+ghost use Rattle.volume_parts.specs.Layout.{gate};
+ghost use Rattle.volume_parts.specs.Calls.{Looks};
 ghost use Rattle.paged_volume.specs.Found.{head_tests};
 ghost use Rattle.paged_volume.specs.Standing.{IsHeadFit, HasHead};
 ghost use Rattle.paged_volume.specs.Attaching.{IsHead, IsRefusal};
@@ -12,7 +12,7 @@ use crate::damage::{Damage, wants_between, wants_equal, wants_pages};
 use crate::layout::{LEAST_BYTES, LEAST_PAGES, MAGIC, PAGE_BYTES, most_pages_of};
 use byteorder::{ByteOrder, LittleEndian};
 use ps_port::{Host, HostFailed};
-use shadow_volume::OpenFault;
+use volume_parts::OpenFault;
 
 /// The numbers of page 0 after the gate.
 #[derive(Clone, Copy)]

@@ -1,8 +1,8 @@
 //! How many pages a volume can have, that they suffice, and that a new volume is a volume.
 
 ghost use Rattle.std.specs.Prelude.{◌≡◌, ℕ, ◌+◌, ◌*◌, ◌<◌, ◌≤◌, List, false};
-ghost use Rattle.shadow_volume.specs.Layout.{gate};
-ghost use Rattle.shadow_volume.specs.Making.{empty_held};
+ghost use Rattle.volume_parts.specs.Layout.{gate};
+ghost use Rattle.volume_parts.specs.Making.{empty_held};
 ghost use Rattle.paged_volume.specs.Layout.{capacity_pages, map_pages_of};
 ghost use Rattle.paged_volume.specs.Found.{found_in, a_volume};
 ghost use Rattle.paged_volume.specs.Making.{IsNew};

@@ -3,7 +3,7 @@
 ghost use Rattle.std.specs.Prelude.{◌≡◌, ◌+◌, ◌*◌, ◌<◌, ◌≤◌, ◌^◌};
 ghost use Rattle.paged_volume.specs.Layout.{most_pages_of, capacity_pages, capacity_of, map_pages_of};
 
-pub use shadow_volume::layout::{
+pub use volume_parts::layout::{
     LEAST_BYTES, LEAST_PAGES, MAGIC, PAGE_BYTES, logical_pages, root_at,
 };
 

@@ -27,6 +27,6 @@ pub use committed::Committed;
 pub use laws::{a_new_volume_is_found, the_pages_suffice, what_volumes_hold};
 pub use making::format;
 pub use pinned::Pinned;
-pub use shadow_volume;
 pub use table::Table;
 pub use volume::{Refused, Volume, VolumeFault};
+pub use volume_parts;

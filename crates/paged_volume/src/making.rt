@@ -2,10 +2,10 @@
 
 ghost use Rattle.std.specs.Prelude.{◌≡◌, ℕ, ◌+◌, ◌*◌, ◌^◌, ◌<◌, ◌≤◌, List, ◌∷◌, length, OnOk, IfErr, IfOk};
 ghost use Rattle.ps_port.specs.ps_outside.Outside.{After, Leaves, LeavesSame, SameContents, TellsNothing, Rose};
-ghost use Rattle.shadow_volume.specs.Layout.{gate};
-ghost use Rattle.shadow_volume.specs.Making.{IsCause, IsNone, IsShut, IsGateOf, IsZeroed};
-ghost use Rattle.shadow_volume.specs.Switching.{Works};
-ghost use Rattle.shadow_volume.specs.declared.making.FormatFault.TheVariants.{Device};
+ghost use Rattle.volume_parts.specs.Layout.{gate};
+ghost use Rattle.volume_parts.specs.Making.{IsCause, IsNone, IsShut, IsGateOf, IsZeroed};
+ghost use Rattle.volume_parts.specs.Calls.{Works};
+ghost use Rattle.volume_parts.specs.declared.format_fault.FormatFault.TheVariants.{Device};
 ghost use Rattle.paged_volume.specs.Making.{IsNew, IsBegun, IsMaking, OpensGate, ShutsGate, Number, Stand, number, new_numbers};
 
 use crate::head::read_byte;
@@ -15,7 +15,7 @@ use crate::syncing::write_synced;
 use crate::writing::write_page;
 use byteorder::{ByteOrder, LittleEndian};
 use ps_port::{Host, HostFailed};
-use shadow_volume::FormatFault;
+use volume_parts::FormatFault;
 
 // The first pages of a new volume, in which its numbers stand; all pages after them are blank.
 const FRONT_PAGES: u32 = 6;

@@ -5,8 +5,8 @@ ghost use Rattle.ps_port.specs.ps_outside.Outside.{Rose};
 ghost use Rattle.page_map.specs.Pages.{is_free};
 ghost use Rattle.page_map.specs.Map.{with_taken};
 ghost use Rattle.page_map.specs.declared.fault.MapFault.TheVariants.{BadNumber};
-ghost use Rattle.shadow_volume.specs.Layout.{number_at, root_at};
-ghost use Rattle.shadow_volume.specs.Attaching.{Looks};
+ghost use Rattle.volume_parts.specs.Layout.{number_at, root_at};
+ghost use Rattle.volume_parts.specs.Calls.{Looks};
 ghost use Rattle.paged_volume.specs.Layout.{index_number, maps_at};
 ghost use Rattle.paged_volume.specs.Found.{damage, bound_of, name_tests, names_tests, numbers_of};
 ghost use Rattle.paged_volume.specs.Standing.{IsFit, HasNames, index_of, maps_of, place_by, logical_of, map_count};
@@ -19,7 +19,7 @@ use crate::table::Table;
 use byteorder::{ByteOrder, LittleEndian};
 use page_map::{MapFault, PageMap};
 use ps_port::Host;
-use shadow_volume::OpenFault;
+use volume_parts::OpenFault;
 
 /// How many logical pages are committed.
 pub fn logical_of(committed: Committed) -> u32

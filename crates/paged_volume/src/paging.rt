@@ -3,7 +3,7 @@
 ghost use Rattle.std.specs.Prelude.{◌≡◌, ℕ, ◌+◌, ◌*◌, ◌<◌, ◌≤◌, ◌^◌, List, length};
 ghost use Rattle.byteorder.specs.Endian.{little_bytes};
 ghost use Rattle.ps_port.specs.Disk.{written};
-ghost use Rattle.shadow_volume.specs.Layout.{number_at};
+ghost use Rattle.volume_parts.specs.Layout.{number_at};
 ghost use Rattle.paged_volume.specs.Standing.{IsFit, maps_of};
 ghost use Rattle.paged_volume.specs.Switching.{IsRootPage};
 

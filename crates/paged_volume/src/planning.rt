@@ -16,7 +16,7 @@ use crate::names::{logical_of, map_count};
 use crate::pinning::outdate;
 use crate::table::Table;
 use page_map::PageMap;
-use shadow_volume::Note;
+use volume_parts::Note;
 
 /// The depth that a commit writes.
 pub fn depth_of(pages: u32) -> u32

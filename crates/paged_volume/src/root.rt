@@ -2,8 +2,8 @@
 
 ghost use Rattle.std.specs.Prelude.{◌≡◌, ℕ, ◌+◌, ◌*◌, ◌<◌, ◌≤◌, ◌%◌, ◌==◌, ◌^◌, List, length, take, drop, slice_index, None, Some, OnOk, IfErr, IfOk};
 ghost use Rattle.ps_port.specs.ps_outside.Outside.{Rose};
-ghost use Rattle.shadow_volume.specs.Layout.{root_at, selects};
-ghost use Rattle.shadow_volume.specs.Attaching.{Looks};
+ghost use Rattle.volume_parts.specs.Layout.{root_at, selects};
+ghost use Rattle.volume_parts.specs.Calls.{Looks};
 ghost use Rattle.paged_volume.specs.Found.{root_tests};
 ghost use Rattle.paged_volume.specs.Standing.{IsHeadFit, HasHead, IsFit, HasRoot};
 ghost use Rattle.paged_volume.specs.Attaching.{IsRoot, IsRefusal};
@@ -14,7 +14,7 @@ use crate::head::{Head, read_byte};
 use crate::layout::{PAGE_BYTES, capacity, logical_pages, root_at};
 use byteorder::{ByteOrder, LittleEndian};
 use ps_port::{Host, HostFailed};
-use shadow_volume::{Note, OpenFault};
+use volume_parts::{Note, OpenFault};
 
 /// The numbers of a root page: what it says of a commit, how many logical pages there are, and the depth.
 #[derive(Clone, Copy)]

@@ -2,7 +2,7 @@
 
 ghost use Rattle.std.specs.Prelude.{◌≡◌, ℕ, ◌+◌, ◌*◌, ◌<◌, ◌≤◌, not, List, OnOk, if◌then◌else◌};
 ghost use Rattle.ps_port.specs.ps_outside.Outside.{Leaves};
-ghost use Rattle.shadow_volume.specs.Switching.{Works, StaysHeld};
+ghost use Rattle.volume_parts.specs.Calls.{Works, StaysHeld};
 ghost use Rattle.paged_volume.specs.Standing.{Says};
 ghost use Rattle.paged_volume.specs.Planning.{wanted_pages};
 ghost use Rattle.paged_volume.specs.Switching.{IsNext, IsKept, IsRooted, IsSwitched, IsEither, first_name};

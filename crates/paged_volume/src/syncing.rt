@@ -3,7 +3,7 @@
 ghost use Rattle.std.specs.Prelude.{◌≡◌, ℕ, ◌+◌, ◌≤◌, List, length, OnOk};
 ghost use Rattle.ps_port.specs.ps_outside.Outside.{After, Leaves, LeavesSame, SameContents, IsDeviceCall};
 ghost use Rattle.ps_port.specs.Disk.{Torn, Written};
-ghost use Rattle.shadow_volume.specs.Switching.{Works, StaysHeld};
+ghost use Rattle.volume_parts.specs.Calls.{Works, StaysHeld};
 
 use ps_port::{Host, HostFailed};
 

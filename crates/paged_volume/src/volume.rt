@@ -5,9 +5,9 @@ ghost use Rattle.std.specs.Option.{option_map};
 ghost use Rattle.ps_port.specs.ps_outside.Past.{KeepsPast};
 ghost use Rattle.ps_port.specs.ps_outside.Outside.{After, TellsPrefix, ToldAll, IsPutCall, Rose};
 ghost use Rattle.page_map.specs.Pages.{held_of};
-ghost use Rattle.shadow_volume.specs.Found.{Held};
-ghost use Rattle.shadow_volume.specs.Attaching.{Looks};
-ghost use Rattle.shadow_volume.specs.Layout.{pages_of_words};
+ghost use Rattle.volume_parts.specs.Holding.{Held};
+ghost use Rattle.volume_parts.specs.Calls.{Looks};
+ghost use Rattle.volume_parts.specs.Layout.{pages_of_words};
 ghost use Rattle.paged_volume.specs.Layout.{capacity_pages, capacity_of};
 ghost use Rattle.paged_volume.specs.Standing.{IsAlive, IsFit, logical_of, held_in, seen, with_zeros};
 ghost use Rattle.paged_volume.specs.Attaching.{IsAttached, IsRefused};
@@ -26,8 +26,8 @@ use crate::planning::{next_committed, plan, turn, wanted_pages};
 use crate::rooting::switch_to;
 use crate::table::Table;
 use ps_port::{Host, HostFailed};
-use shadow_volume::{Note, OpenFault};
 use std::alloc::{AllocError, Global};
+use volume_parts::{Note, OpenFault};
 
 /// A host without a volume, and why there is none.
 #[derive(Drop)]
@@ -143,6 +143,7 @@ impl<H: Host> Volume<H> {
         ensures past { KeepsPast (H.outside self.old.host) (H.outside self.new.host) }
         ensures calls { TakesCalls (H.outside self.old.host) (H.outside self.new.host) self.old.table.map (switched used directory self.old.table.committed) used }
         ensures committed { OnOk result (self.new.table.committed ≡ switched used directory self.old.table.committed) }
+        ensures uncommitted { OnErr result (self.new.table.committed ≡ self.old.table.committed) }
         ensures blank { OnOk result (self.new.table.map.staged ≡ self.new.table.map.committed) }
         ensures numbers { OnOk result ((page : ℕ) → slice_index self.new.table.map.committed page ≡ next_number self.old.table.map (pages_of_words used) page) }
         ensures pins { OnOk result (self.new.table.pins.items ≡ map outdated self.old.table.pins.items) }

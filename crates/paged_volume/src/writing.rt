@@ -4,7 +4,7 @@ ghost use Rattle.std.specs.Prelude.{◌≡◌, ℕ, ◌+◌, ◌*◌, ◌<◌, �
 ghost use Rattle.ps_port.specs.ps_outside.Outside.{After, Leaves};
 ghost use Rattle.ps_port.specs.Disk.{Torn, Written, written};
 ghost use Rattle.ps_port.specs.ps_outside.Outside.{IsDeviceCall};
-ghost use Rattle.shadow_volume.specs.Switching.{Works, StaysHeld};
+ghost use Rattle.volume_parts.specs.Calls.{Works, StaysHeld};
 ghost use Rattle.paged_volume.specs.Standing.{Says, logical_of, map_count};
 ghost use Rattle.paged_volume.specs.Changing.{is_changed, changed_pages};
 ghost use Rattle.paged_volume.specs.Planning.{wanted_pages};

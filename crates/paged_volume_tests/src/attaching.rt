@@ -1,7 +1,7 @@
 //! The calls of the device that attaching makes.
 
 use crate::files::{FIRST, INDEXED, Part, SMALL, file_of, is_found};
-use paged_volume::shadow_volume::OpenFault;
+use paged_volume::volume_parts::OpenFault;
 use std::alloc::Global;
 
 // The volume is found in so many calls, and in no fewer.

@@ -2,7 +2,7 @@
 
 use memory_host::MemoryHost;
 use paged_volume::Volume;
-use paged_volume::shadow_volume::OpenFault;
+use paged_volume::volume_parts::OpenFault;
 use std::alloc::{AllocError, Global};
 
 /// The room of a host: bytes and records of its calls.

@@ -1,7 +1,7 @@
 //! Files whose numbers were changed.
 
 use crate::files::{FIRST, INDEXED, Part, SMALL, file_of, is_found, put};
-use paged_volume::shadow_volume::OpenFault;
+use paged_volume::volume_parts::OpenFault;
 use std::alloc::Global;
 
 /// Bytes put at a place of a file, and what is found then.

@@ -4,9 +4,13 @@
 #[cfg(test)]
 mod attaching;
 #[cfg(test)]
+mod changing;
+#[cfg(test)]
 mod files;
 #[cfg(test)]
 mod forged;
+#[cfg(test)]
+mod full;
 #[cfg(test)]
 mod making;
 #[cfg(test)]

@@ -4,7 +4,7 @@ use crate::files::{INDEXED, Part, SMALL, file_of};
 use crate::volumes::{Content, content_at, host_of};
 use memory_host::MemoryHost;
 use paged_volume::format;
-use paged_volume::shadow_volume::{FormatFault, Note, OpenFault};
+use paged_volume::volume_parts::{FormatFault, Note, OpenFault};
 use std::alloc::Global;
 
 /// How many calls the making of a volume of 32 pages makes: two writes and syncs of the gate, the first pages, 26 blank ones, a sync, and the size before.

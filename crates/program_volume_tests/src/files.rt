@@ -48,7 +48,7 @@ fn a_short_file_is_no_volume(rt: HostRuntime) {
 // A byte of a volume of 32 pages, what stands there instead, what is output, and the status.
 struct Forged(usize, u8, &'static [u8], u8);
 
-static FORGED: [Forged; 12] = [
+static FORGED: [Forged; 16] = [
     Forged(0, 0, b"not a volume: 131072 bytes, gate 0\n", 9),
     Forged(0, 255, b"not a volume: 131072 bytes, gate 255\n", 9),
     Forged(
@@ -57,14 +57,18 @@ static FORGED: [Forged; 12] = [
         b"damaged at 1: found 54203818332928, wanted 54203818333008\n",
         10,
     ),
-    Forged(7, 1, b"damaged at 7: found 1, wanted 0\n", 10),
+    Forged(7, 0, b"damaged at 7: found 0, wanted 1\n", 10),
+    Forged(7, 3, b"damaged at 7: found 3, wanted 2\n", 10),
     Forged(8, 31, b"damaged at 8: found 31, wanted 32\n", 10),
     Forged(8, 33, b"damaged at 8: found 32, wanted 33\n", 10),
-    Forged(10, 2, b"damaged at 8: found 131104, wanted 131072\n", 10),
+    Forged(10, 32, b"damaged at 8: found 2097184, wanted 1048576\n", 10),
     Forged(8200, 0, b"damaged at 8200: found 0, wanted 1\n", 10),
     Forged(8202, 1, b"damaged at 8200: found 65537, wanted 6656\n", 10),
     Forged(8216, 2, b"damaged at 8216: found 2, wanted 1\n", 10),
     Forged(8208, 1, b"damaged at 8208: found 1, wanted 0\n", 10),
+    Forged(12_284, 1, b"damaged at 12284: found 1, wanted 0\n", 10),
+    Forged(8220, 3, b"damaged at 8220: found 3, wanted 4\n", 10),
+    Forged(16_384, 4, b"damaged at 16384: found 4, wanted 0\n", 10),
     Forged(4096, 1, b"damaged at 12296: found 0, wanted 1\n", 10),
 ];
 
@@ -103,7 +107,7 @@ fn is_told(alloc: Global, call: u64) -> bool {
 
 #[test]
 fn a_device_that_fails_is_told(rt: HostRuntime) {
-    for call in 0..6 {
+    for call in 0..7 {
         assert!(rt; is_told(rt.alloc(), call), "call {call}");
     }
 }

@@ -52,9 +52,9 @@ fn is_image(alloc: Global, host: &MemoryHost, moment: u64, filler: u8) -> Result
     Ok(is_whole_or_none(&answer, &image))
 }
 
-// The same of each image of each moment.
-fn are_images(alloc: Global, host: &MemoryHost) -> bool {
-    for moment in 0..host.clock() {
+// The same of each image from this moment on.
+fn are_images(alloc: Global, host: &MemoryHost, from: u64) -> bool {
+    for moment in from..host.clock() {
         for filler in [0, 255] {
             if is_image(alloc, host, moment, filler) != Ok(true) {
                 return false;
@@ -64,10 +64,10 @@ fn are_images(alloc: Global, host: &MemoryHost) -> bool {
     true
 }
 
-// Whether the making is answered so where these calls fail, and leaves such images.
-fn is_stopped(alloc: Global, failing: &[u64], told: &[u8], status: u8) -> bool {
+// Whether the making is answered so where these calls fail, and leaves such images from this moment on.
+fn is_stopped(alloc: Global, failing: &[u64], from: u64, told: &[u8], status: u8) -> bool {
     match answer_over(alloc, format("32"), b"", failing) {
-        Ok(answer) => answer.is(told, status) && are_images(alloc, answer.host()),
+        Ok(answer) => answer.is(told, status) && are_images(alloc, answer.host(), from),
         Err(_) => false,
     }
 }
@@ -79,14 +79,14 @@ fn calls_of_making(alloc: Global) -> Result<u64, AllocError> {
 
 #[test]
 fn a_stop_while_a_volume_is_made_leaves_none_or_all(rt: HostRuntime) {
-    assert!(rt; is_stopped(rt.alloc(), &[], b"", 0));
+    assert!(rt; is_stopped(rt.alloc(), &[], 0, b"", 0));
     let Ok(calls) = calls_of_making(rt.alloc()) else {
         panic!(rt; "out of memory");
     };
     assert!(rt; calls > 0);
     for call in 0..calls {
         assert!(rt;
-            is_stopped(rt.alloc(), &[call], b"device fault\n", 6),
+            is_stopped(rt.alloc(), &[call], call, b"device fault\n", 6),
             "call {call}"
         );
     }

@@ -16,12 +16,13 @@ use Rattle.ps_parse.proofs.Faults.{no_fault_of_tree, one_fault}
 use Rattle.ps_built.specs.Library.{first_unbuilt_library}
 use Rattle.ps_meaning.specs.ps_typing.Fault.{Fault}
 use Rattle.ps_meaning.specs.ps_typing.Program.{Verdict, check_program, Typed, Fails}
-use Rattle.ps_volumes.specs.shadow_volume.Found.{Held, Found, no_volume, damaged, damage, found_in}
-use Rattle.ps_volumes.specs.shadow_volume.Found as found
-use Rattle.ps_volumes.specs.shadow_volume.Making.{IsNone}
-use Rattle.ps_volumes.specs.shadow_volume.declared.finding.Damage.{Damage}
-use Rattle.ps_volumes.specs.shadow_volume.declared.finding.OpenFault.{OpenFault}
-use Rattle.ps_volumes.specs.shadow_volume.declared.finding.OpenFault.TheVariants as cause
+use Rattle.ps_volumes.specs.volume_parts.Holding.{Held}
+use Rattle.ps_volumes.specs.paged_volume.Found.{Found, no_volume, damaged, damage, found_in}
+use Rattle.ps_volumes.specs.paged_volume.Found as found
+use Rattle.ps_volumes.specs.volume_parts.Making.{IsNone}
+use Rattle.ps_volumes.specs.paged_volume.declared.damage.Damage.{Damage}
+use Rattle.ps_volumes.specs.volume_parts.declared.open_fault.OpenFault.{OpenFault}
+use Rattle.ps_volumes.specs.volume_parts.declared.open_fault.OpenFault.TheVariants as cause
 use Rattle.ps_words.specs.Words.{RunOf, CommandOf, a_run, a_volume}
 use Rattle.ps_volumes.specs.ps_reports.Reports.{usage_line, memory_line, unreadable_line, too_long_line, fault_line, not_a_volume_line, damaged_line, already_line}
 use Rattle.ps_volumes.specs.ps_reports.Answering.{Answers, whole, cut}

@@ -6,8 +6,8 @@ use Rattle.ps_port.specs.ps_outside.Past.{KeepsTold}
 use Rattle.ps_port.specs.Telling.{LeavesDevice}
 use Rattle.ps_port.proofs.of_ps_outside.Moments.{along_then, along_now, settles_then}
 use Rattle.ps_port.proofs.Telling.{device_then}
-use Rattle.ps_volumes.proofs.of_shadow_volume.Shutting.{shuts_then, opens_then}
-use Rattle.ps_volumes.specs.shadow_volume.declared.finding.OpenFault.{OpenFault}
+use Rattle.ps_volumes.proofs.of_paged_volume.Opening.{shuts_then, opens_then}
+use Rattle.ps_volumes.specs.volume_parts.declared.open_fault.OpenFault.{OpenFault}
 use Rattle.ps_volumes.specs.ps_reports.declared.status.Status.{Status}
 use Rattle.ps_volumes.specs.ps_reports.declared.report.Report.{Report}
 use Rattle.ps_volumes.specs.ps_reports.Answering.{Answers, EndsIn, Tells}

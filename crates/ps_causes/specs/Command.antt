@@ -6,8 +6,9 @@ use Rattle.ps_built.specs.ps_program.Node.{BodyNode}
 use Rattle.ps_port.specs.ps_outside.Outside.{Outside, Leaves}
 use Rattle.ps_port.specs.Telling.{LeavesDevice}
 use Rattle.ps_port.specs.Texts.{IsTextOf}
-use Rattle.ps_volumes.specs.shadow_volume.Making.{IsMaking, ShutsAt}
-use Rattle.ps_volumes.specs.shadow_volume.declared.finding.OpenFault.{OpenFault}
+use Rattle.ps_volumes.specs.paged_volume.Making.{IsMaking}
+use Rattle.ps_volumes.specs.paged_volume.Opening.{ShutsAt}
+use Rattle.ps_volumes.specs.volume_parts.declared.open_fault.OpenFault.{OpenFault}
 use Rattle.ps_words.specs.Words.{RunOf, CommandOf, a_run, a_volume}
 use Rattle.ps_volumes.specs.ps_reports.Reports.{usage_line, memory_line, unreadable_line, too_long_line, fault_line, area_full_line, device_line}
 use Rattle.ps_volumes.specs.ps_reports.declared.status.Status.{Status}

@@ -2,11 +2,13 @@
 use Rattle.std.proofs.Common.{◌≡◌, ℕ, List, [], sym, subst}
 use Rattle.std.specs.Prelude.{Ok, Err}
 use Rattle.ps_port.specs.ps_outside.Outside.{Outside, Leaves, TellsNothing, Rose}
-use Rattle.obj_store.specs.shadow_volume.Attaching.{IsRefused}
-use Rattle.obj_store.specs.shadow_volume.Layout.{gate as gate_of}
-use Rattle.obj_store.specs.shadow_volume.Making.{IsMaking, IsNew, IsNone, IsCause, ShutsAt, OpensAt}
-use Rattle.obj_store.specs.shadow_volume.declared.finding.OpenFault.{OpenFault}
-use Rattle.obj_store.specs.shadow_volume.declared.making.FormatFault.TheVariants.{Device, AlreadyVolume}
+use Rattle.obj_store.specs.paged_volume.Attaching.{IsRefused}
+use Rattle.obj_store.specs.volume_parts.Layout.{gate as gate_of}
+use Rattle.obj_store.specs.paged_volume.Making.{IsMaking, IsNew}
+use Rattle.obj_store.specs.volume_parts.Making.{IsNone, IsCause}
+use Rattle.obj_store.specs.paged_volume.Opening.{ShutsAt, OpensAt}
+use Rattle.obj_store.specs.volume_parts.declared.open_fault.OpenFault.{OpenFault}
+use Rattle.obj_store.specs.volume_parts.declared.format_fault.FormatFault.TheVariants.{Device, AlreadyVolume}
 use Rattle.ps_reports.specs.declared.report.Report.{Report}
 use Rattle.ps_reports.specs.declared.report.Report.TheVariants as reports
 use Rattle.ps_volumes.specs.Attaching.{IsUnattached, report_for}

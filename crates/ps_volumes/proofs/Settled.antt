@@ -5,7 +5,7 @@ use Rattle.ps_port.specs.ps_outside.Past.{KeepsTold}
 use Rattle.ps_port.proofs.of_ps_outside.PastMoments.{past_along}
 use Rattle.ps_port.proofs.of_ps_outside.Moments.{along_then, along_now, settles_then}
 use Rattle.ps_port.specs.Telling.{LeavesDevice}
-use Rattle.obj_store.specs.shadow_volume.Found.{held_at}
+use Rattle.obj_store.specs.paged_volume.Found.{held_at}
 use Rattle.obj_store.specs.Store.{Store}
 use Rattle.obj_store.specs.Opening.{IsOpened}
 use Rattle.ps_reports.specs.Answering.{Answers, whole, cut}
@@ -40,9 +40,9 @@ module _ {H : Type 0} (outside : H → Outside (List ℕ)) (old : Outside (List 
     };
     settles = settled;
     found = λ bytes at. record {
-      pages = store.committed.pages;
-      second = store.committed.second;
-      held = held_at store.committed.pages store.committed.second bytes;
+      pages = store.table.committed.pages;
+      second = store.table.committed.second;
+      held = held_at store.table.committed.second bytes;
       found = (is.found bytes at).volume;
     };
   }

@@ -1,10 +1,11 @@
 -- What is left of a device whose volume was attached, or couldn't be.
 use Rattle.std.specs.Prelude.{◌≡◌, ℕ, Bool, List}
 use Rattle.ps_port.specs.ps_outside.Outside.{Outside, LeavesSame, SettlesFrom, TellsNothing, Rose}
-use Rattle.obj_store.specs.shadow_volume.Found.{Held, a_volume, found_in}
-use Rattle.obj_store.specs.shadow_volume.Attaching.{IsNoVolume}
-use Rattle.obj_store.specs.shadow_volume.declared.finding.OpenFault.{OpenFault}
-use Rattle.obj_store.specs.shadow_volume.declared.finding.OpenFault.TheVariants.{Device, NotAVolume, Damaged, Memory}
+use Rattle.obj_store.specs.volume_parts.Holding.{Held}
+use Rattle.obj_store.specs.paged_volume.Found.{a_volume, found_in}
+use Rattle.obj_store.specs.paged_volume.Attaching.{IsNoVolume}
+use Rattle.obj_store.specs.volume_parts.declared.open_fault.OpenFault.{OpenFault}
+use Rattle.obj_store.specs.volume_parts.declared.open_fault.OpenFault.TheVariants.{Device, NotAVolume, Damaged, Memory}
 use Rattle.ps_reports.specs.declared.report.Report.{Report}
 use Rattle.ps_reports.specs.declared.report.Report.TheVariants as reports
 use Rattle.ps_reports.specs.Reporting as reported

@@ -1,8 +1,10 @@
 -- What is due where a volume is made, and what is left of the device.
 use Rattle.std.specs.Prelude.{◌≡◌, ℕ, ◌≤◌, List, [], length, Result, Ok, Err}
 use Rattle.ps_port.specs.ps_outside.Outside.{Outside, Leaves, TellsNothing, Rose}
-use Rattle.obj_store.specs.shadow_volume.Layout.{gate}
-use Rattle.obj_store.specs.shadow_volume.Making.{IsMaking, IsNew, IsNone, ShutsAt, OpensAt}
+use Rattle.obj_store.specs.volume_parts.Layout.{gate}
+use Rattle.obj_store.specs.paged_volume.Making.{IsMaking, IsNew}
+use Rattle.obj_store.specs.volume_parts.Making.{IsNone}
+use Rattle.obj_store.specs.paged_volume.Opening.{ShutsAt, OpensAt}
 use Rattle.ps_reports.specs.declared.report.Report.{Report}
 use Rattle.ps_reports.specs.Reporting.{line_of}
 use Rattle.ps_reports.specs.Reporting as reported

@@ -5,7 +5,8 @@ ghost use Rattle.obj_store.specs.Opening.{IsOpened};
 ghost use Rattle.ps_volumes.specs.Attaching.{IsUnattached, report_for};
 
 use obj_store::ObjStore;
-use obj_store::shadow_volume::{OpenFault, Refused};
+use obj_store::paged_volume::Refused;
+use obj_store::paged_volume::volume_parts::OpenFault;
 use ps_port::Host;
 use ps_reports::Report;
 use std::alloc::Global;

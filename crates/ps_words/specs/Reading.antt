@@ -37,4 +37,4 @@ pub record IsArea (run : RunOf) : Type 0 where
 -- the numbers of a command are in their bounds
 abbrev pub IsWithin : CommandOf → Type 0
 IsWithin (a_run run) = IsArea run
-IsWithin (a_volume pages) = (32 ≤ pages) × (pages ≤ 131072)
+IsWithin (a_volume pages) = (32 ≤ pages) × (pages ≤ 1048576)

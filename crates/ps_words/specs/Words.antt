@@ -86,10 +86,10 @@ run_of words =
     let input = taken (codes "--input") turns.behind in
     run_with (area_given area.value) (turns_given turns.value) (input_given input.value) (file_given input.behind)
 
--- the pages of a new volume, after the volume: one word, of 1 to 6 digits, from 32 to 131,072
+-- the pages of a new volume, after the volume: one word, of 1 to 7 digits, from 32 to 1,048,576
 abbrev pub pages_given : List (List ℕ) → Option ℕ
 pages_given [] = None
-pages_given (digits ∷ []) = number_of 6 32 131072 digits
+pages_given (digits ∷ []) = number_of 7 32 1048576 digits
 pages_given (digits ∷ word ∷ words) = None
 
 -- what words ask for: a run, or a new volume of so many pages

@@ -21,7 +21,7 @@ pub const MOST_TURNS: u64 = 1_000_000_000_000;
 pub const LEAST_PAGES: u64 = 32;
 
 /// The most pages of a volume.
-pub const MOST_PAGES: u64 = 131_072;
+pub const MOST_PAGES: u64 = 1_048_576;
 
 /// A run: the KiB that its area has, the turns that the program may take, the name of its input, where it has one, and that of its text.
 #[derive(Drop)]
@@ -87,10 +87,10 @@ fn read_command<'a>(name: &str, words: &'a [String]) -> Option<Command<'a>>
 // The pages of a new volume.
 fn read_pages(words: &[String]) -> Option<u32>
     ensures pages { result ≡ pages_given (words_of words.now) }
-    ensures bounds { IfSome result (λ pages. (32 ≤ pages) × (pages ≤ 131072)) }
+    ensures bounds { IfSome result (λ pages. (32 ≤ pages) × (pages ≤ 1048576)) }
 {
     match words {
-        [digits] => match read_number(digits.as_bytes(), 6, LEAST_PAGES, MOST_PAGES) {
+        [digits] => match read_number(digits.as_bytes(), 7, LEAST_PAGES, MOST_PAGES) {
             Some(pages) => Some(pages as u32),
             None => None,
         },

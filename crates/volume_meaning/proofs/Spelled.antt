@@ -11,9 +11,9 @@ use Rattle.heap_meaning.specs.obj_area.Words as words
 use Rattle.heap_meaning.specs.obj_area.Words.{first_word, bytes_of, AreWords}
 use Rattle.heap_meaning.proofs.of_obj_area.WordLaws as area
 use Rattle.heap_meaning.proofs.of_obj_area.WordLaws.{length-bytes_of}
-use Rattle.ps_volumes.specs.shadow_volume.Found.{Held}
-use Rattle.ps_volumes.specs.shadow_volume.Standing.{held_in}
-use Rattle.ps_volumes.specs.shadow_volume.declared.note.Note.{Note}
+use Rattle.ps_volumes.specs.volume_parts.Holding.{Held}
+use Rattle.ps_volumes.specs.paged_volume.Standing.{held_in}
+use Rattle.ps_volumes.specs.volume_parts.declared.note.Note.{Note}
 use Rattle.ps_volumes.specs.obj_store.Spaces.{word_at, words_of, space_of}
 use Rattle.volume_meaning.specs.Space.{holding, spaced, space_in}
 

@@ -9,11 +9,13 @@ use Rattle.ps_volumes.specs.obj_layout.declared.reference.Reference.TheVariants.
 use Rattle.ps_volumes.specs.obj_layout.Objects.{Placed, HoldsObjects}
 use Rattle.ps_volumes.specs.obj_layout.Stored.{Space}
 use Rattle.ps_volumes.proofs.of_obj_layout.StoredLaws.{HasObject-within}
-use Rattle.ps_volumes.specs.shadow_volume.Layout.{gate}
-use Rattle.ps_volumes.specs.shadow_volume.Found.{Held, Found, a_volume, no_volume, damaged, found_in}
-use Rattle.ps_volumes.specs.shadow_volume.Making.{IsNew, empty_held}
-use Rattle.ps_volumes.specs.shadow_volume.Standing.{held_in, held_of}
-use Rattle.ps_volumes.proofs.of_shadow_volume.New.{found_new}
+use Rattle.ps_volumes.specs.volume_parts.Layout.{gate}
+use Rattle.ps_volumes.specs.volume_parts.Holding.{Held}
+use Rattle.ps_volumes.specs.paged_volume.Found.{Found, a_volume, no_volume, damaged, found_in}
+use Rattle.ps_volumes.specs.paged_volume.Making.{IsNew}
+use Rattle.ps_volumes.specs.volume_parts.Making.{empty_held}
+use Rattle.ps_volumes.specs.paged_volume.Standing.{held_in, held_of}
+use Rattle.ps_volumes.proofs.of_paged_volume.New.{found_new}
 use Rattle.heap_meaning.specs.Paired.{paired}
 use Rattle.heap_fit.specs.ps_heap.Databases.{Database, every_root}
 use Rattle.heap_fit.specs.ps_heap.Held.{StoredHeap}
@@ -138,13 +140,13 @@ space-empty : space_of 1 empty_held ≡ empty_space
 unfolding words_of word_at
 space-empty = refl
 
-space-new : (pages : ℕ) (image : List ℕ) → 32 ≤ pages → pages ≤ 131072 → IsNew pages image → gate image ≡ 1 → space_in image ≡ Some empty_space
+space-new : (pages : ℕ) (image : List ℕ) → 32 ≤ pages → pages ≤ 1048576 → IsNew pages image → gate image ≡ 1 → space_in image ≡ Some empty_space
 unfolding space_in held_in
 space-new pages image least most new opened =
     ap (λ (found : Found). option_map (λ (held : Held). space_of held.note.used held) (held_of found)) (found_new pages image least most new opened)
     ∙ ap (λ (s : Space). Some s) space-empty
 
-pub new-stands : (pages : ℕ) (image : List ℕ) (heap : StoredHeap) → 32 ≤ pages → pages ≤ 131072 → IsNew pages image → gate image ≡ 1
+pub new-stands : (pages : ℕ) (image : List ℕ) (heap : StoredHeap) → 32 ≤ pages → pages ≤ 1048576 → IsNew pages image → gate image ≡ 1
     → heap.directory ≡ [] → Stands image heap
 new-stands pages image heap least most new opened none = record {
   space = empty_space;
@@ -152,7 +154,7 @@ new-stands pages image heap least most new opened none = record {
   stands = stands-without empty_space [] heap (omega arith, refl) refl none;
 }
 
-pub new-stands_alone : (pages : ℕ) (image : List ℕ) (heap : StoredHeap) → 32 ≤ pages → pages ≤ 131072 → IsNew pages image → gate image ≡ 1
+pub new-stands_alone : (pages : ℕ) (image : List ℕ) (heap : StoredHeap) → 32 ≤ pages → pages ≤ 1048576 → IsNew pages image → gate image ≡ 1
     → Stands image heap → heap.directory ≡ []
 new-stands_alone pages image heap least most new opened s =
     let same : Some s.space ≡ Some empty_space = sym s.found ∙ space-new pages image least most new opened in

@@ -9,7 +9,7 @@ use Rattle.ps_volumes.specs.obj_layout.Objects.{Placed, IsAmong}
 use Rattle.ps_volumes.specs.obj_layout.Objects as contents
 use Rattle.ps_volumes.specs.obj_layout.Stored.{Space}
 use Rattle.heap_meaning.specs.obj_area.Words.{bytes_of, word_bytes}
-use Rattle.ps_volumes.specs.shadow_volume.Standing.{held_in}
+use Rattle.ps_volumes.specs.paged_volume.Standing.{held_in}
 use Rattle.heap_meaning.specs.swizzle.Objects.{header_in, reference_at, object_in}
 use Rattle.heap_meaning.specs.swizzle.Joint.{Shown, shown_words}
 use Rattle.heap_meaning.specs.heap_places.Words.{int_in}

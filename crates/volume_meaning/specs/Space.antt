@@ -2,9 +2,9 @@
 use Rattle.std.specs.Prelude.{◌≡◌, ◌⊎◌, ℕ, ◌^◌, ◌<◌, List, [], take, drop, Option}
 use Rattle.std.specs.List.{AllByRecursion}
 use Rattle.std.specs.Option.{option_map}
-use Rattle.ps_volumes.specs.shadow_volume.Found.{Held}
-use Rattle.ps_volumes.specs.shadow_volume.Standing.{held_in}
-use Rattle.ps_volumes.specs.shadow_volume.declared.note.Note.{Note}
+use Rattle.ps_volumes.specs.volume_parts.Holding.{Held}
+use Rattle.ps_volumes.specs.paged_volume.Standing.{held_in}
+use Rattle.ps_volumes.specs.volume_parts.declared.note.Note.{Note}
 use Rattle.ps_volumes.specs.obj_layout.declared.kind.Kind.TheVariants.{Structure, Table}
 use Rattle.ps_volumes.specs.obj_layout.declared.reference.Reference.{Reference}
 use Rattle.ps_volumes.specs.obj_layout.declared.reference.Reference.TheVariants.{Pid}

@@ -3,12 +3,13 @@
 ghost use Rattle.std.specs.Prelude.{◌≡◌, ℕ, ◌≤◌, Bool, List, [], ◌++◌, length, Some};
 ghost use Rattle.heap_meaning.specs.obj_area.Words.{bytes_of, AreWords};
 ghost use Rattle.ps_volumes.specs.obj_layout.Stored.{Space, IsSpace};
-ghost use Rattle.ps_volumes.specs.shadow_volume.Layout.{gate};
-ghost use Rattle.ps_volumes.specs.shadow_volume.Found.{Held, found_in, a_volume, no_volume, damaged};
-ghost use Rattle.ps_volumes.specs.shadow_volume.declared.finding.Damage.{Damage};
-ghost use Rattle.ps_volumes.specs.shadow_volume.Making.{IsNew};
-ghost use Rattle.ps_volumes.specs.shadow_volume.Standing.{held_in};
-ghost use Rattle.ps_volumes.specs.shadow_volume.declared.note.Note.{Note};
+ghost use Rattle.ps_volumes.specs.volume_parts.Layout.{gate};
+ghost use Rattle.ps_volumes.specs.volume_parts.Holding.{Held};
+ghost use Rattle.ps_volumes.specs.paged_volume.Found.{found_in, a_volume, no_volume, damaged};
+ghost use Rattle.ps_volumes.specs.paged_volume.declared.damage.Damage.{Damage};
+ghost use Rattle.ps_volumes.specs.paged_volume.Making.{IsNew};
+ghost use Rattle.ps_volumes.specs.paged_volume.Standing.{held_in};
+ghost use Rattle.ps_volumes.specs.volume_parts.declared.note.Note.{Note};
 ghost use Rattle.heap_fit.specs.ps_heap.Held.{StoredHeap};
 ghost use Rattle.volume_meaning.specs.Space.{holding, spaced, space_in, HoldSame};
 ghost use Rattle.volume_meaning.specs.Stands.{Stands, StandsSince};
@@ -18,9 +19,9 @@ use ps_port::Host;
 
 /// A law: what `format` leaves stands for each heap without a database, and for no other.
 pub fn a_new_volume_stands_for_no_database()
-    ensures stands { (pages : ℕ) (image : List ℕ) (heap : StoredHeap) → 32 ≤ pages → pages ≤ 131072 → IsNew pages image → gate image ≡ 1 →
+    ensures stands { (pages : ℕ) (image : List ℕ) (heap : StoredHeap) → 32 ≤ pages → pages ≤ 1048576 → IsNew pages image → gate image ≡ 1 →
         heap.directory ≡ [] → Stands image heap }
-    ensures alone { (pages : ℕ) (image : List ℕ) (heap : StoredHeap) → 32 ≤ pages → pages ≤ 131072 → IsNew pages image → gate image ≡ 1 →
+    ensures alone { (pages : ℕ) (image : List ℕ) (heap : StoredHeap) → 32 ≤ pages → pages ≤ 1048576 → IsNew pages image → gate image ≡ 1 →
         Stands image heap → heap.directory ≡ [] }
 {}
 

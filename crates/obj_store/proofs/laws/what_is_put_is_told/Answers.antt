@@ -7,4 +7,4 @@ returns-clause-front g c = λ a b bytes result is. is.told
 pub returns-clause-all : goal.returns-clause-all
 returns-clause-all g c = λ a b bytes is.
     let seen = g.H.Host.outside in
-    all_put a.used b.used a.committed b.committed a.staged b.staged (seen a.host) (seen b.host) bytes tt is
+    all_put a.used b.used a.table b.table (seen a.host) (seen b.host) bytes tt is

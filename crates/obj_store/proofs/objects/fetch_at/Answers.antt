@@ -11,7 +11,7 @@ use Rattle.obj_store.proofs.objects.fetch_at.Goals as goal
 
 pub test_words-requires-clause-small : goal.test_words-requires-clause-small
 test_words-requires-clause-small g c =
-    let low = order_low c.args.used c.args.volume.now.committed c.requires.order in
+    let low = order_low c.args.used c.args.volume.now.table.committed c.requires.order in
     let few = low.1 in
     let small : c.args.used < 2 ^ 30 = omega arith in
     small
@@ -25,8 +25,8 @@ returns-in-Ok-clause-read g c =
     let count = length c.args.into.now in
     let within : c.args.pid + count ≤ c.args.used = omega (arith, fits.within, fits.as_wanted) in
     on_ok_of c.test_words.result
-    (words_read c.args.used c.args.pid count v.committed v.staged.items (o v.host) c.read_words.new.into c.read_words.ensures.size within
-    (λ held now. c.in-Ok.ensures.read held (seen_kept v.committed w.committed v.staged.items w.staged.items (o v.host) (o w.host) c.object_at.ensures.same.0 c.object_at.ensures.same.1 c.object_at.ensures.looks.same (Some held) now)))
+    (words_read c.args.used c.args.pid count v.table (o v.host) c.read_words.new.into c.read_words.ensures.size within
+    (λ held now. c.in-Ok.ensures.read held (seen_kept v.table w.table (o v.host) (o w.host) c.object_at.ensures.same c.object_at.ensures.looks.same (Some held) now)))
 
 pub returns-in-Ok-clause-fault : goal.returns-in-Ok-clause-fault
 returns-in-Ok-clause-fault g c =
@@ -42,14 +42,14 @@ returns-in-Ok-clause-fault g c =
     let size = c.read_words.ensures.size in
     let within : pid + count ≤ used = omega (arith, fits.within, fits.as_wanted) in
     let some : 4 ≤ count = omega (arith, fits.as_wanted) in
-    let outside = spaces used v.committed v.staged.items (o v.host) in
-    let there = words_read used pid count v.committed v.staged.items (o v.host) read size within
-    (λ held now. c.in-Ok.ensures.read held (seen_kept v.committed w.committed v.staged.items w.staged.items (o v.host) (o w.host) c.object_at.ensures.same.0 c.object_at.ensures.same.1 c.object_at.ensures.looks.same (Some held) now)) in
+    let outside = spaces used v.table (o v.host) in
+    let there = words_read used pid count v.table (o v.host) read size within
+    (λ held now. c.in-Ok.ensures.read held (seen_kept v.table w.table (o v.host) (o w.host) c.object_at.ensures.same c.object_at.ensures.looks.same (Some held) now)) in
     let front : (space : Space) → take 4 (drop pid space.words) ≡ take 4 (take count (drop pid space.words)) = λ space. sym (take-take 4 count (drop pid space.words) some) in
     if_err (TellsDamage pid (Some (length read)) (HasFour used pid (take 4 read)))
-    (IsObjectFault outside (spaces used z.committed z.staged.items (o z.host)) pid (Some count)) c.test_words.result
+    (IsObjectFault outside (spaces used z.table (o z.host)) pid (Some count)) c.test_words.result
     (λ fault is. inr (damage_weaker pid (Some count) (HasFour used pid (take 4 read)) (AreHeld outside) fault
-    (λ words are. held_four outside used pid (take 4 read) words (long_space used v.committed v.staged.items (o v.host))
+    (λ words are. held_four outside used pid (take 4 read) words (long_space used v.table (o v.host))
     (λ space held. front space ∙ ap (take 4) (there space held)) are)
     (subst (λ (n : ℕ). TellsDamage pid (Some n) (HasFour used pid (take 4 read)) fault) size is)))
     c.test_words.ensures.refused

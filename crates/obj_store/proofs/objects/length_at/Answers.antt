@@ -8,7 +8,7 @@ use Rattle.obj_store.proofs.objects.length_at.Goals as goal
 pub returns-in-Ok-clause-told : goal.returns-in-Ok-clause-told
 returns-in-Ok-clause-told g c = λ words h.
     let v = c.args.volume.now in
-    held_length (spaces c.args.used v.committed v.staged.items (g.H.Host.outside v.host)) c.args.pid None c.in-Ok.header words h c.in-Ok.ensures.fits.fields c.in-Ok.ensures.header
+    held_length (spaces c.args.used v.table (g.H.Host.outside v.host)) c.args.pid None c.in-Ok.header words h c.in-Ok.ensures.fits.fields c.in-Ok.ensures.header
     ∙ sym c.length_of.ensures
 
 pub returns-in-Ok-clause-stands : goal.returns-in-Ok-clause-stands

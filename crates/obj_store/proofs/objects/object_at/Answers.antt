@@ -10,7 +10,7 @@ use Rattle.obj_store.proofs.objects.object_at.Goals as goal
 
 pub fault_of_place-requires : goal.fault_of_place-requires
 fault_of_place-requires g c =
-    let low = order_low c.args.used c.args.volume.now.committed c.requires.order in
+    let low = order_low c.args.used c.args.volume.now.table.committed c.requires.order in
     let few = low.1 in
     let small : c.args.used < 2 ^ 30 = omega arith in
     small
@@ -18,14 +18,14 @@ fault_of_place-requires g c =
 pub returns-in-Some-clause-fault : goal.returns-in-Some-clause-fault
 returns-in-Some-clause-fault g c =
     let v = c.args.volume.now in
-    let outside = spaces c.args.used v.committed v.staged.items (g.H.Host.outside v.host) in
+    let outside = spaces c.args.used v.table (g.H.Host.outside v.host) in
     inr (damage_weaker c.args.pid c.args.wanted (λ words. length words ≡ c.args.used) (AreHeld outside) c.in-Some.fault
-    (λ words are. (λ i. length (are.are i)) ∙ long_space c.args.used v.committed v.staged.items (g.H.Host.outside v.host) are.space are.held)
+    (λ words are. (λ i. length (are.are i)) ∙ long_space c.args.used v.table (g.H.Host.outside v.host) are.space are.held)
     (c.in-Some.ensures c.args.wanted))
 
 pub header_of-requires-clause-small : goal.header_of-requires-clause-small
 header_of-requires-clause-small g c =
-    let low = order_low c.args.used c.args.volume.now.committed c.requires.order in
+    let low = order_low c.args.used c.args.volume.now.table.committed c.requires.order in
     let few = low.1 in
     let small : c.args.used < 2 ^ 30 = omega arith in
     small
@@ -40,10 +40,10 @@ returns-in-Ok-clause-header g c =
     let place = c.in_default.ensures in
     let low : 1 ≤ pid = omega (arith, place.0) in
     let high : pid + 4 ≤ used = omega (arith, place.1) in
-    if_ok_both (λ header. four ≡ header_words header) (IsObjectHeader (spaces used v.committed v.staged.items host) pid c.args.wanted) _ c.header_of.result
-    (λ header spelled sound. four_header (spaces used v.committed v.staged.items host) used pid c.args.wanted four header low high
-    (long_space used v.committed v.staged.items host)
-    (words_read used pid 4 v.committed v.staged.items host four c.read_words.ensures.size high c.in-Ok.ensures.read) spelled sound)
+    if_ok_both (λ header. four ≡ header_words header) (IsObjectHeader (spaces used v.table host) pid c.args.wanted) _ c.header_of.result
+    (λ header spelled sound. four_header (spaces used v.table host) used pid c.args.wanted four header low high
+    (long_space used v.table host)
+    (words_read used pid 4 v.table host four c.read_words.ensures.size high c.in-Ok.ensures.read) spelled sound)
     c.header_of.ensures.spelled c.header_of.ensures.sound
 
 pub returns-in-Ok-clause-fault : goal.returns-in-Ok-clause-fault
@@ -57,11 +57,11 @@ returns-in-Ok-clause-fault g c =
     let place = c.in_default.ensures in
     let low : 1 ≤ pid = omega (arith, place.0) in
     let high : pid + 4 ≤ used = omega (arith, place.1) in
-    let outside = spaces used v.committed v.staged.items host in
+    let outside = spaces used v.table host in
     if_err (IsDamageAt pid (of_words pid used four (header_fault four) c.args.wanted))
-    (IsObjectFault outside (spaces used w.committed w.staged.items (g.H.Host.outside w.host)) pid c.args.wanted) c.header_of.result
+    (IsObjectFault outside (spaces used w.table (g.H.Host.outside w.host)) pid c.args.wanted) c.header_of.result
     (λ fault is. inr (damage_weaker pid c.args.wanted (HasFour used pid four) (AreHeld outside) fault
-    (λ words are. held_four outside used pid four words (long_space used v.committed v.staged.items host)
-    (words_read used pid 4 v.committed v.staged.items host four c.read_words.ensures.size high c.in-Ok.ensures.read) are)
+    (λ words are. held_four outside used pid four words (long_space used v.table host)
+    (words_read used pid 4 v.table host four c.read_words.ensures.size high c.in-Ok.ensures.read) are)
     (four_damaged used pid c.args.wanted four fault low high is)))
     c.header_of.ensures.refused

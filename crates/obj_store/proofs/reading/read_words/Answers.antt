@@ -1,31 +1,31 @@
 use Rattle.std.proofs.Common.{◌∙◌, ◌+◌, ◌-◌, ◌/◌, ◌^◌, ◌<◌, length, arith, Some}
-use Rattle.shadow_volume.proofs.Looking.{looks_then}
-use Rattle.obj_store.specs.StoreLaws.{capacity_low}
+use Rattle.volume_parts.proofs.Looking.{looks_then}
+use Rattle.obj_store.specs.StoreLaws.{words_low}
 use Rattle.obj_store.proofs.ReadLaws.{seen_kept, more_read}
 use Rattle.obj_store.proofs.reading.read_words.Goals as goal
 
 pub overflow_cast-first : goal.overflow_cast-first
 overflow_cast-first g c =
-    let few = capacity_low c.args.volume.now.committed.pages c.args.volume.now.committed.note c.requires.alive.fit in
+    let few = words_low c.args.volume.now.table.committed c.requires.alive.is_table.fit in
     let within = c.requires.within in
     omega arith
 
 pub overflow_add-at : goal.overflow_add-at
 overflow_add-at g c =
-    let few = capacity_low c.args.volume.now.committed.pages c.args.volume.now.committed.note c.requires.alive.fit in
+    let few = words_low c.args.volume.now.table.committed c.requires.alive.is_table.fit in
     let within = c.requires.within in
     omega arith
 
 pub logical_pages-last-requires : goal.logical_pages-last-requires
 logical_pages-last-requires g c =
-    let few = capacity_low c.args.volume.now.committed.pages c.args.volume.now.committed.note c.requires.alive.fit in
+    let few = words_low c.args.volume.now.table.committed c.requires.alive.is_table.fit in
     let within = c.requires.within in
     let fits : c.args.at + length c.args.into.now + 511 < 2 ^ 64 = omega arith in
     fits
 
 pub overflow_cast-last : goal.overflow_cast-last
 overflow_cast-last g c =
-    let few = capacity_low c.args.volume.now.committed.pages c.args.volume.now.committed.note c.requires.alive.fit in
+    let few = words_low c.args.volume.now.table.committed c.requires.alive.is_table.fit in
     let within = c.requires.within in
     omega (arith, c.logical_pages-last.ensures)
 
@@ -38,10 +38,10 @@ loop-page-preserved g c =
     let is = c.read_part.ensures in
     record {
       read = λ held now. more_read c.loop-page.page c.args.at held c.args.into.now c.loop-page.into c.read_part.new.into inv.size (inv.read held now)
-          (c.in_ok-read_part.ensures.read held (seen_kept v.committed w.committed v.staged.items w.staged.items (o v.host) (o w.host) inv.committed inv.staged inv.looks.same (Some held) now));
+          (c.in_ok-read_part.ensures.read held (seen_kept v.table w.table (o v.host) (o w.host) inv.same inv.looks.same (Some held) now));
       size = is.size ∙ inv.size;
       looks = looks_then (o v.host) (o w.host) (o c.read_part.new.volume.host) (c.loop-page.page - c.args.at / 512) 1 _ inv.looks is.looks (let low = c.loop-page.auto.page in omega arith);
-      committed = is.same.0 ∙ inv.committed;
-      staged = is.same.1 ∙ inv.staged;
+      same = is.same ∙ inv.same;
+      kept = c.in_ok-read_part.ensures.kept;
       alive = c.in_ok-read_part.ensures.alive;
     }

@@ -1,7 +1,8 @@
 use Rattle.std.proofs.Common.{◌≡◌, ℕ, ◌-◌, ◌*◌, ◌<◌, length, get_or, Some, ◌+◌}
-use Rattle.shadow_volume.specs.Found.{Held}
-use Rattle.shadow_volume.specs.Standing.{IsAlive, seen}
-use Rattle.shadow_volume.specs.Attaching.{Looks}
+use Rattle.volume_parts.specs.Holding.{Held}
+use Rattle.paged_volume.specs.Standing.{IsAlive, seen}
+use Rattle.volume_parts.specs.Calls.{Looks}
+use Rattle.obj_store.specs.Kept.{AreHeld}
 use Rattle.obj_store.specs.Spaces.{word_at}
 use Rattle.obj_store.proofs.reading.read_words.Given as goal
 
@@ -10,11 +11,11 @@ abbrev pub invariant-loop-page : goal.invariant-loop-page
 invariant-loop-page g l =
     let outside = g.H.Host.outside in
     record {
-      read : (held : Held) → (seen l.fn.volume.committed l.fn.volume.staged.items (outside l.fn.volume.host)).contents (Some held) →
+      read : (held : Held) → (seen l.fn.volume.table (outside l.fn.volume.host)).contents (Some held) →
           (k : ℕ) → k < length l.fn.into → l.fn.at + k < 512 * l.page → get_or l.into k 0 ≡ word_at held.bytes (l.fn.at + k);
       size : length l.into ≡ length l.fn.into;
       looks : Looks (outside l.fn.volume.host) (outside l.volume.host) (l.page - l.first);
-      committed : l.volume.committed ≡ l.fn.volume.committed;
-      staged : l.volume.staged.items ≡ l.fn.volume.staged.items;
-      alive : IsAlive l.volume.live l.volume.committed l.volume.staged.items (outside l.volume.host);
+      same : l.volume.table ≡ l.fn.volume.table;
+      kept : AreHeld l.kept.places.items l.volume.table (outside l.volume.host);
+      alive : IsAlive l.volume.live l.volume.table (outside l.volume.host);
     }

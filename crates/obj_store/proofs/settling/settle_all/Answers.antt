@@ -1,7 +1,10 @@
-use Rattle.std.proofs.Common.{sym, subst, arith}
-use Rattle.shadow_volume.specs.declared.note.Committed.{Committed}
+use Rattle.std.proofs.Common.{◌<◌, sym, subst, arith}
+use Rattle.paged_volume.specs.Standing.{logical_of}
+use Rattle.paged_volume.proofs.Tables.{committed_staged}
+use Rattle.paged_volume.specs.declared.committed.Committed.{Committed}
 use Rattle.obj_store.specs.Spaces.{IsInOrder}
-use Rattle.obj_store.proofs.SettleLaws.{switch_becomes, switch_settles, switch_fails, switched_order}
+use Rattle.obj_store.proofs.SettleLaws.{switch_becomes, switch_settles, switch_fails, switch_rose, switched_order}
+use Rattle.paged_volume.specs.Planning.{switched}
 use Rattle.obj_store.proofs.settling.settle_all.Goals as goal
 
 pub returns-in-Ok-clause-becomes : goal.returns-in-Ok-clause-becomes
@@ -11,9 +14,9 @@ returns-in-Ok-clause-becomes g c =
     let z = c.switch.new.self in
     let order = c.requires.order in
     let below = c.requires.below in
-    let next = switched_order c.args.used c.args.directory v.committed z.committed order (omega arith) below c.in-Ok.ensures.committed in
+    let next = switched_order c.args.used c.args.directory v.table.committed z.table.committed order (omega arith) below c.in-Ok.ensures.committed in
     let is = c.in-Ok.ensures.switches in
-    switch_becomes c.args.used c.args.directory v.committed z.committed v.staged.items z.staged.items (o v.host) (o z.host) order next is.holds is.stays
+    switch_becomes c.args.used c.args.directory v.table z.table (o v.host) (o z.host) order next is.holds is.stays
 
 pub returns-in-Ok-clause-settles : goal.returns-in-Ok-clause-settles
 returns-in-Ok-clause-settles g c =
@@ -22,8 +25,8 @@ returns-in-Ok-clause-settles g c =
     let z = c.switch.new.self in
     let order = c.requires.order in
     let below = c.requires.below in
-    let next = switched_order c.args.used c.args.directory v.committed z.committed order (omega arith) below c.in-Ok.ensures.committed in
-    switch_settles c.args.used c.args.directory v.committed z.committed v.staged.items z.staged.items (o v.host) (o z.host) order next c.switch.ensures.past c.in-Ok.ensures.switches
+    let next = switched_order c.args.used c.args.directory v.table.committed z.table.committed order (omega arith) below c.in-Ok.ensures.committed in
+    switch_settles c.args.used c.args.directory v.table z.table (o v.host) (o z.host) order next c.switch.ensures.past (omega arith) c.switch.ensures.calls.most c.in-Ok.ensures.switches
 
 pub returns-in-Err-clause-settles : goal.returns-in-Err-clause-settles
 returns-in-Err-clause-settles g c =
@@ -31,5 +34,21 @@ returns-in-Err-clause-settles g c =
     let v = c.args.volume.now in
     let z = c.switch.new.self in
     let order = c.requires.order in
-    switch_fails c.args.used c.args.directory v.committed z.committed v.staged.items z.staged.items (o v.host) (o z.host) c.in-Err.field-0 order
-    (subst (λ (k : Committed). IsInOrder c.args.used k) (sym c.in-Err.ensures.same) order) c.switch.ensures.past c.in-Err.ensures.switches
+    switch_fails c.args.used c.args.directory v.table z.table (o v.host) (o z.host) c.in-Err.field-0 order
+    (subst (λ (k : Committed). IsInOrder c.args.used k) (sym c.in-Err.ensures.uncommitted) order) c.switch.ensures.past
+    (switch_rose o v.host z.host v.live z.live v.table z.table (switched c.args.used c.args.directory v.table.committed) c.in-Err.field-0 c.requires.unpinned c.in-Err.ensures.fault)
+    c.in-Err.ensures.switches
+
+pub returns-in-Ok-clause-order : goal.returns-in-Ok-clause-order
+returns-in-Ok-clause-order g c =
+    let v = c.args.volume.now in
+    let z = c.switch.new.self in
+    let below = c.requires.below in
+    switched_order c.args.used c.args.directory v.table.committed z.table.committed c.requires.order (omega arith) below c.in-Ok.ensures.committed
+
+pub returns-in-Err-clause-order : goal.returns-in-Err-clause-order
+returns-in-Err-clause-order g c = subst (λ (k : Committed). IsInOrder c.args.used k) (sym c.in-Err.ensures.uncommitted) c.requires.order
+
+pub returns-in-Ok-clause-has : goal.returns-in-Ok-clause-has
+returns-in-Ok-clause-has g c = λ page lt.
+    committed_staged c.switch.new.self.table c.in-Ok.ensures.alive.is_table page (subst (λ (k : Committed). page < logical_of k) (sym c.in-Ok.ensures.committed) lt)

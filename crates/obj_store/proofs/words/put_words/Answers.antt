@@ -1,10 +1,10 @@
-use Rattle.std.proofs.Common.{ℕ, ◌+◌, ◌≤◌, min, max, length, ap, sym, subst, arith}
+use Rattle.std.proofs.Common.{◌≡◌, ℕ, ◌+◌, ◌≤◌, min, max, true, false, length, ap, sym, subst, arith, ◌∙◌}
 use Rattle.obj_store.specs.Words.{IsPut}
 use Rattle.obj_store.proofs.WordLaws.{put_done}
 use Rattle.obj_store.proofs.words.put_words.Goals as goal
 
-pub returns : goal.returns
-returns c =
+pub returns-clause-put : goal.returns-clause-put
+returns-clause-put c =
     let a = c.args in
     let low = max a.at a.first in
     let high = min (a.at + length a.from.now) (a.first + 512) in
@@ -16,7 +16,7 @@ returns c =
     let is_low = ap (λ (p : ℕ × ℕ). p.0) ends in
     let is_high = ap (λ (p : ℕ × ℕ). p.1) ends in
     put_done a.first low high c.loop-index.index a.at a.from.now a.page.now c.loop-index.page
-    (subst (λ (n : ℕ). IsPut a.first n c.loop-index.index a.at a.from.now a.page.now c.loop-index.page) is_low c.loop-index.invariant)
+    (subst (λ (n : ℕ). IsPut a.first n c.loop-index.index a.at a.from.now a.page.now c.loop-index.page) is_low c.loop-index.invariant.put)
     (subst (λ (n : ℕ). n ≤ c.loop-index.index) is_high c.loop-index-test.false)
     (λ le. subst (λ (n : ℕ). c.loop-index.index ≤ n) is_high (c.loop-index.auto.index-end (subst (λ (n : ℕ). n ≤ c.meeting-low.result.1) (sym is_low) (subst (λ (n : ℕ). low ≤ n) (sym is_high) le))))
     ordered

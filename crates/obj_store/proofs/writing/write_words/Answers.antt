@@ -1,33 +1,33 @@
 use Rattle.std.proofs.Common.{◌∙◌, ◌+◌, ◌-◌, ◌*◌, ◌/◌, ◌^◌, ◌<◌, max, min, length, arith, refl}
 use Rattle.obj_layout.proofs.of_ps_outside.PastMoments.{past_none, past_then}
-use Rattle.shadow_volume.specs.Standing.{seen}
+use Rattle.paged_volume.specs.Standing.{seen}
 use Rattle.obj_store.specs.Words.{HoldsPut}
-use Rattle.obj_store.specs.StoreLaws.{capacity_low}
-use Rattle.obj_store.proofs.WriteLaws.{turns_then, next_put, marks_then, stages_then, calls_fit}
+use Rattle.obj_store.specs.StoreLaws.{words_low}
+use Rattle.obj_store.proofs.WriteLaws.{turns_then, next_put, marks_then, leaves_then, stages_then, calls_fit}
 use Rattle.obj_store.proofs.writing.write_words.Goals as goal
 
 pub overflow_cast-first : goal.overflow_cast-first
 overflow_cast-first g c =
-    let few = capacity_low c.args.volume.now.committed.pages c.args.volume.now.committed.note c.requires.alive.fit in
+    let few = words_low c.args.volume.now.table.committed c.requires.alive.is_table.fit in
     let within = c.requires.within in
     omega arith
 
 pub overflow_add-at : goal.overflow_add-at
 overflow_add-at g c =
-    let few = capacity_low c.args.volume.now.committed.pages c.args.volume.now.committed.note c.requires.alive.fit in
+    let few = words_low c.args.volume.now.table.committed c.requires.alive.is_table.fit in
     let within = c.requires.within in
     omega arith
 
 pub logical_pages-last-requires : goal.logical_pages-last-requires
 logical_pages-last-requires g c =
-    let few = capacity_low c.args.volume.now.committed.pages c.args.volume.now.committed.note c.requires.alive.fit in
+    let few = words_low c.args.volume.now.table.committed c.requires.alive.is_table.fit in
     let within = c.requires.within in
     let fits : c.args.at + length c.args.from.now + 511 < 2 ^ 64 = omega arith in
     fits
 
 pub overflow_cast-last : goal.overflow_cast-last
 overflow_cast-last g c =
-    let few = capacity_low c.args.volume.now.committed.pages c.args.volume.now.committed.note c.requires.alive.fit in
+    let few = words_low c.args.volume.now.table.committed c.requires.alive.is_table.fit in
     let within = c.requires.within in
     omega (arith, c.logical_pages-last.ensures)
 
@@ -39,7 +39,7 @@ returns-in_err-write_part-clause-stages g c =
     let z = c.write_part.new.volume in
     let page = c.loop-page.page in
     let low = c.loop-page.auto.page in
-    stages_then (seen v.committed v.staged.items (o v.host)) (seen w.committed w.staged.items (o w.host)) (seen z.committed z.staged.items (o z.host)) (2 * (page - c.args.at / 512)) 2 _
+    stages_then (seen v.table (o v.host)) (seen w.table (o w.host)) (seen z.table (o z.host)) (2 * (page - c.args.at / 512)) 2 _
     c.loop-page.invariant.stages c.write_part.ensures.stages
     (calls_fit c.args.at (length c.args.from.now) page (c.args.at / 512) refl low (let lt = c.loop-page-test.true in omega (arith, c.logical_pages-last.ensures)))
 
@@ -61,13 +61,17 @@ loop-page-preserved g c =
     let two = HoldsPut (max at (512 * page)) (min (at + length put) (512 * page + 512)) at put in
     let whole = HoldsPut at (max at (min (at + length put) (512 * (page + 1)))) at put in
     record {
-      turns = turns_then (seen v.committed v.staged.items (o v.host)) (seen w.committed w.staged.items (o w.host)) (seen z.committed z.staged.items (o z.host))
+      turns = turns_then (seen v.table (o v.host)) (seen w.table (o w.host)) (seen z.table (o z.host))
           one two whole inv.turns c.in_ok-write_part.ensures.turns (λ x y z first next. next_put at (length put) page put x y z starts ends first next);
-      stages = stages_then (seen v.committed v.staged.items (o v.host)) (seen w.committed w.staged.items (o w.host)) (seen z.committed z.staged.items (o z.host))
+      stages = stages_then (seen v.table (o v.host)) (seen w.table (o w.host)) (seen z.table (o z.host))
           (2 * (page - at / 512)) 2 _ inv.stages c.write_part.ensures.stages (omega arith);
       past = past_then inv.past c.write_part.ensures.past;
       committed = c.write_part.ensures.committed ∙ inv.committed;
-      marks = marks_then (at / 512) page (page + 1) v.staged.items w.staged.items z.staged.items inv.marks c.in_ok-write_part.ensures.marks;
+      unpinned = c.write_part.ensures.unpinned;
+      marks = marks_then (at / 512) page (page + 1) v.table w.table z.table (omega arith) (omega arith) inv.marks c.in_ok-write_part.ensures.marks;
+      unchanged = λ few. leaves_then v.table w.table z.table (o v.host) (o w.host) (o z.host) at (at + length put) (max at (512 * page)) (min (at + length put) (512 * page + 512)) at put (omega arith) (omega arith)
+          (inv.unchanged few) (c.in_ok-write_part.ensures.unchanged (omega arith));
+      kept = c.in_ok-write_part.ensures.kept;
       alive = c.in_ok-write_part.ensures.alive;
     }
 

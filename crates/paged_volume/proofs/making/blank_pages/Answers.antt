@@ -1,6 +1,6 @@
 use Rattle.std.proofs.Common.{ℕ, replicate, ◌∙◌, refl, arith}
 use Rattle.ps_port.proofs.of_ps_outside.Moments.{along_then, along_now}
-use Rattle.shadow_volume.proofs.Gate.{shut_stays}
+use Rattle.volume_parts.proofs.Gate.{shut_stays}
 use Rattle.paged_volume.proofs.Naming.{zero_at}
 use Rattle.paged_volume.proofs.New.{blank_more}
 use Rattle.paged_volume.proofs.making.blank_pages.Goals as goal

@@ -1,6 +1,6 @@
 use Rattle.std.proofs.Common.{◌≡◌, ℕ, ◌*◌, ◌≤◌, List}
 use Rattle.ps_port.specs.ps_outside.Outside.{Leaves, TellsNothing, After}
-use Rattle.shadow_volume.specs.Making.{IsShut, IsZeroed}
+use Rattle.volume_parts.specs.Making.{IsShut, IsZeroed}
 use Rattle.paged_volume.proofs.making.blank_pages.Given as goal
 
 -- the gate stays shut, and there are zeros so far

@@ -3,7 +3,7 @@ use Rattle.std.proofs.lemmas.List.{take_all}
 use Rattle.ps_port.specs.Disk.{written}
 use Rattle.std.proofs.lemmas.Result.{on_ok_weaker}
 use Rattle.ps_port.proofs.of_ps_outside.Moments.{along_then, along_weaker, along_now}
-use Rattle.shadow_volume.proofs.Gate.{shut_stays}
+use Rattle.volume_parts.proofs.Gate.{shut_stays}
 use Rattle.paged_volume.proofs.New.{begun_by}
 use Rattle.paged_volume.proofs.making.fill.Goals as goal
 

@@ -1,6 +1,6 @@
 use Rattle.std.proofs.Common.{inr}
 use Rattle.ps_port.proofs.of_ps_outside.Moments.{along_then}
-use Rattle.shadow_volume.proofs.Shutting.{old_then, before_shut}
+use Rattle.volume_parts.proofs.Shutting.{old_then, before_shut}
 use Rattle.paged_volume.specs.Making as making
 use Rattle.paged_volume.proofs.New.{making_old, making_shut, shut_written}
 use Rattle.paged_volume.proofs.making.format.Goals as goal

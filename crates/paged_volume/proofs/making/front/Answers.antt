@@ -1,5 +1,5 @@
 use Rattle.std.proofs.Common.{ℕ, ◌*◌, [], ◌∷◌, subst}
-use Rattle.shadow_volume.specs.Layout.{magic}
+use Rattle.volume_parts.specs.Layout.{magic}
 use Rattle.paged_volume.specs.Making.{number, new_numbers, Stand}
 use Rattle.paged_volume.proofs.New.{stand_none}
 use Rattle.paged_volume.proofs.making.front.Goals as goal

@@ -4,7 +4,7 @@ use Rattle.ps_port.proofs.of_ps_outside.Moments.{along_then, along_weaker, along
 use Rattle.ps_port.specs.Disk.{written}
 use Rattle.ps_port.specs.DiskLaws.{written_torn}
 use Rattle.ps_port.proofs.Torn.{byte_written}
-use Rattle.shadow_volume.specs.Layout.{gate}
+use Rattle.volume_parts.specs.Layout.{gate}
 use Rattle.paged_volume.specs.Making.{IsNew}
 use Rattle.paged_volume.proofs.New.{new_torn}
 use Rattle.paged_volume.proofs.making.open.Goals as goal

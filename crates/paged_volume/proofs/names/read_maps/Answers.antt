@@ -1,5 +1,5 @@
 use Rattle.std.proofs.Common.{ℕ, ◌*◌, ◌+◌, min, ◌∙◌, ap, subst, refl, arith}
-use Rattle.shadow_volume.proofs.Looking.{looks_none, looks_then}
+use Rattle.volume_parts.proofs.Looking.{looks_none, looks_then}
 use Rattle.paged_volume.specs.Standing.{map_count, logical_of}
 use Rattle.paged_volume.specs.Naming.{IsNaming}
 use Rattle.paged_volume.specs.declared.committed.Committed.{Committed}

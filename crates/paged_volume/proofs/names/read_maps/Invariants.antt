@@ -1,6 +1,6 @@
 use Rattle.std.proofs.Common.{◌≡◌, ◌<◌, ◌*◌, ℕ, List, min, slice_index}
-use Rattle.shadow_volume.specs.Layout.{number_at}
-use Rattle.shadow_volume.specs.Attaching.{Looks}
+use Rattle.volume_parts.specs.Layout.{number_at}
+use Rattle.volume_parts.specs.Calls.{Looks}
 use Rattle.paged_volume.specs.Standing.{place_by, logical_of, map_count}
 use Rattle.paged_volume.specs.Naming.{IsNaming}
 use Rattle.paged_volume.proofs.names.read_maps.Given as goal

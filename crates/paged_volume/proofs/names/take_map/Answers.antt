@@ -1,5 +1,5 @@
 use Rattle.std.proofs.Common.{◌≡◌, ℕ, ◌*◌, ◌+◌, ◌∙◌, ap, arith, get_or}
-use Rattle.shadow_volume.specs.Layout.{number_at}
+use Rattle.volume_parts.specs.Layout.{number_at}
 use Rattle.paged_volume.specs.Layout.{maps_at}
 use Rattle.paged_volume.specs.Naming.{names_at}
 use Rattle.paged_volume.proofs.Bounds.{are_low, skipped_low, skipped_to}

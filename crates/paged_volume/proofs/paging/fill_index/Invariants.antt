@@ -1,5 +1,5 @@
 use Rattle.std.proofs.Common.{◌≡◌, ◌<◌, ◌*◌, ℕ, length}
-use Rattle.shadow_volume.specs.Layout.{number_at}
+use Rattle.volume_parts.specs.Layout.{number_at}
 use Rattle.paged_volume.specs.Standing.{maps_of}
 use Rattle.paged_volume.proofs.paging.fill_index.Given as goal
 

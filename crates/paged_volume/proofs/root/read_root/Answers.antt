@@ -1,5 +1,5 @@
 use Rattle.std.proofs.Common.{ℕ, sym, ◌∙◌, ap, arith, take, drop}
-use Rattle.shadow_volume.proofs.Looking.{looks_then, looks_call}
+use Rattle.volume_parts.proofs.Looking.{looks_then, looks_call}
 use Rattle.paged_volume.specs.Found.{root_tests}
 use Rattle.paged_volume.proofs.Tests.{refused_root, root_was_passed, root_was_read, root_most, not_some}
 use Rattle.paged_volume.proofs.root.read_root.Goals as goal

@@ -1,6 +1,6 @@
 use Rattle.std.proofs.Common.{◌≡◌, ◌+◌, ℕ, refl, ◌∙◌, subst, arith}
 use Rattle.ps_port.proofs.of_ps_outside.Moments.{along_none, along_then, along_now}
-use Rattle.shadow_volume.proofs.Looking.{rose_then}
+use Rattle.volume_parts.proofs.Looking.{rose_then}
 use Rattle.paged_volume.specs.Standing.{logical_of, map_count}
 use Rattle.paged_volume.specs.Switching.{HasMaps}
 use Rattle.paged_volume.proofs.Turning.{kept_none, kept_then, kept_says, same_now, same_then}

@@ -1,6 +1,6 @@
 use Rattle.std.proofs.Common.{◌≡◌, ◌≤◌, ◌+◌, List, ℕ}
 use Rattle.ps_port.specs.ps_outside.Outside.{Leaves, TellsNothing, After}
-use Rattle.shadow_volume.specs.Switching.{StaysHeld}
+use Rattle.volume_parts.specs.Calls.{StaysHeld}
 use Rattle.paged_volume.specs.Standing.{logical_of}
 use Rattle.paged_volume.specs.Changing.{changed_pages}
 use Rattle.paged_volume.specs.Switching.{IsKept, SamePages, HasMaps}

@@ -1,6 +1,6 @@
 use Rattle.std.proofs.Common.{subst}
-use Rattle.obj_store.specs.shadow_volume.Making.{IsCause}
-use Rattle.obj_store.proofs.of_shadow_volume.Shutting.{shuts_at, opens_at}
+use Rattle.obj_store.specs.volume_parts.Making.{IsCause}
+use Rattle.obj_store.proofs.of_paged_volume.Opening.{shuts_at, opens_at}
 use Rattle.ps_volumes.proofs.Refused.{made_by, failed_by, left_by}
 use Rattle.ps_volumes.proofs.making.make_volume.Goals as goal
 

@@ -1,5 +1,5 @@
 use Rattle.std.proofs.Common.{◌≡◌, ◌∙◌, sym}
-use Rattle.ps_volumes.specs.shadow_volume.Found.{a_volume, no_volume, damaged}
+use Rattle.ps_volumes.specs.paged_volume.Found.{a_volume, no_volume, damaged}
 use Rattle.volume_meaning.proofs.Volumes.{volume-found}
 use Rattle.volume_meaning.proofs.laws.what_is_damaged_stands_for_no_heap.Goals as goal
 

@@ -1,4 +1,4 @@
-use Rattle.std.proofs.Common.{◌≡◌, length, take, drop, Some, Err, subst}
+use Rattle.std.proofs.Common.{◌≡◌, length, take, drop, Some, Err, subst, ◌∙◌, ap}
 use Rattle.obj_layout.specs.Stored.{Space}
 use Rattle.obj_layout.specs.Storing.{TestsObject}
 use Rattle.obj_store.specs.Store.{Store, outside_of}
@@ -21,10 +21,13 @@ returns-in-Err-clause-tested g c =
     let z = c.fetch_at.new.volume in
     let used = c.self.inside.used in
     subst (λ (s : Store g.row.H.Denot). TestsObject {T = Unit {0}} (outside_of o s) c.args.pid (Some (length c.args.into.now)) (Err c.in-Err.fault)) c.self.view_is
-    (tests_fault {T = Unit {0}} (spaces used v.committed v.staged.items (o v.host)) (spaces used z.committed z.staged.items (o z.host)) c.args.pid (Some (length c.args.into.now)) c.in-Err.fault c.in-Err.ensures.fault)
+    (tests_fault {T = Unit {0}} (spaces used v.table (o v.host)) (spaces used z.table (o z.host)) c.args.pid (Some (length c.args.into.now)) c.in-Err.fault c.in-Err.ensures.fault)
 
 pub returns-in-Ok-clause-stands : goal.returns-in-Ok-clause-stands
 returns-in-Ok-clause-stands g c =
     let o = g.H.Host.outside in
     let count = length c.args.into.now in
     subst (λ (s : Store g.row.H.Denot). (space : Space) → (outside_of o s).contents space → take count (drop c.args.pid space.words) ≡ c.fetch_at.new.into) c.self.view_is c.in-Ok.ensures.read
+
+pub fetch_at-requires-clause-kept : goal.fetch_at-requires-clause-kept
+fetch_at-requires-clause-kept g c = c.self.invariant.pages (ap (λ (s : Store g.row.H.Denot). s.live) c.self.view_is ∙ c.requires.alive)

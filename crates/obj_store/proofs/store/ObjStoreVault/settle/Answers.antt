@@ -12,7 +12,7 @@ returns-in-Ok-clause-settled g c =
     let v = c.self.inside.volume in
     let z = c.settle_all.new.volume in
     let used = c.self.inside.used in
-    let new = spaces used z.committed z.staged.items (o z.host) in
+    let new = spaces used z.table (o z.host) in
     subst (λ (s : Store g.row.H.Denot). Settles {T = Unit {0}} (outside_of o s) new (settling (used_of s)) (directed c.args.directory) (Ok tt)) c.self.view_is
-    (subst (λ (n : ℕ). Settles {T = Unit {0}} (spaces used v.committed v.staged.items (o v.host)) new (settling n) (directed c.args.directory) (Ok tt))
-    (sym (used_is used v.committed c.self.invariant.order)) c.in-Ok.ensures.settles)
+    (subst (λ (n : ℕ). Settles {T = Unit {0}} (spaces used v.table (o v.host)) new (settling n) (directed c.args.directory) (Ok tt))
+    (sym (used_is used v.table.committed c.self.invariant.order)) c.in-Ok.ensures.settles)

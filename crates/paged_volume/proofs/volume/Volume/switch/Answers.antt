@@ -108,6 +108,10 @@ returns-in-Err-clause-calls g c =
     takes_calls a b v.table c.plan.new.table c.args.used c.args.directory c.requires.alive.is_table follows plan
     (subst (λ (k : Committed). b.device_calls ≤ a.device_calls + (wanted_pages c.plan.new.table.map k + 5)) c.next_committed-next.ensures c.switch_to.ensures.calls)
 
+pub returns-in-Err-clause-uncommitted : goal.returns-in-Err-clause-uncommitted
+returns-in-Err-clause-uncommitted g c =
+    (subst (λ (k : Committed). IsPlanned c.args.self.now.table k c.plan.new.table) c.next_committed-next.ensures c.plan.ensures).committed
+
 pub returns-then-pages-held-clause-fault : goal.returns-then-pages-held-clause-fault
 returns-then-pages-held-clause-fault g c =
     let t = c.args.self.now.table in

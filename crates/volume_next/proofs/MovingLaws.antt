@@ -1,0 +1,137 @@
+-- A volume that was committed once more, or looked at alone.
+use Rattle.std.proofs.Common.{◌≡◌, ◌⊎◌, inl, inr, ⊎_elim, ℕ, ◌+◌, ◌-◌, ◌*◌, ◌%◌, ◌^◌, ◌≤◌, Bool, List, length, take, replicate, refl, sym, ◌∙◌, ap, subst, arith, Option, Some}
+use Rattle.std.specs.Option.{option_map}
+use Rattle.std.proofs.lemmas.List.{take-append-le, take_all}
+use Rattle.ps_port.specs.ps_outside.Outside.{Outside, After, Leaves, LeavesSame, TellsNothing}
+use Rattle.ps_port.specs.ps_outside.Past.{KeepsPast}
+use Rattle.ps_port.proofs.of_ps_outside.Moments.{along_then, along_now}
+use Rattle.volume_parts.specs.Layout.{pages_of_words, root_at}
+use Rattle.volume_parts.specs.Holding.{Held}
+use Rattle.volume_parts.specs.Holding.{saved}
+use Rattle.volume_parts.specs.Calls.{Was}
+use Rattle.volume_parts.specs.declared.note.Note.{Note}
+use Rattle.paged_volume.specs.Layout.{capacity_pages}
+use Rattle.paged_volume.specs.Found.{held_at, page_number}
+use Rattle.paged_volume.specs.Standing.{held_in, held_of, seen, with_zeros}
+use Rattle.paged_volume.specs.Attaching.{IsAttached}
+use Rattle.paged_volume.specs.declared.table.Table.{Table}
+use Rattle.paged_volume.proofs.Held.{length_bytes}
+use Rattle.volume_next.specs.Moving.{HoldsSame, IsKeptIn, IsCommittedIn, KeepsFrom, Moves}
+
+-- what was found where nothing was committed since
+module _ (a b : Outside (List ℕ)) (lives : Bool) (table : Table) (is : IsAttached a b lives table) where
+  start : List ℕ → Held
+  start bytes = held_at table.committed.second bytes
+
+  started : (bytes : List ℕ) → a.contents bytes → held_in bytes ≡ Some (start bytes)
+  unfolding held_in
+  started bytes at = ap held_of (is.found bytes at).volume
+
+  start_used : (bytes : List ℕ) → a.contents bytes → (start bytes).note ≡ table.committed.note
+  start_used bytes at = (is.found bytes at).note
+
+  pub kept_as : (image bytes : List ℕ) → a.contents bytes → held_in image ≡ held_in bytes → After a.contents IsKeptIn image
+  kept_as image bytes at same = record {
+    from = bytes;
+    was = at;
+    by = record {
+      was = start bytes;
+      now = start bytes;
+      was_found = started bytes at;
+      now_found = same ∙ started bytes at;
+      same = record { used = refl; directory = refl; bytes = refl };
+    };
+  }
+
+  -- looking leaves what was held
+  pub looked : KeepsFrom a b
+  looked = record {
+    since = is.settles.since;
+    from = is.settles.from;
+    until = is.settles.until;
+    before = λ m image low high at. is.looks.images.each m image low (let until = is.settles.until in omega arith) at;
+    settled = λ m image low high at. kept_as image image (is.settles.settled m image low high at) refl;
+    untold = is.settles.untold;
+  }
+
+  pub looks_moves : Moves a b
+  looks_moves = record { told = is.looks.told; counts = is.looks.counts; output = is.looks.output; keeps = looked }
+
+  module _ (c : Outside (List ℕ)) (other : Table) (past : KeepsPast b c) (told : TellsNothing b c)
+      (images : Leaves (seen table b) (seen other c) (λ found. (seen table b).images b.clock found ⊎ Was (seen table b) (saved table.committed.note.used table.committed.note.directory) found)) where
+    -- what is committed then
+    next : List ℕ → Held
+    next bytes = saved table.committed.note.used table.committed.note.directory (with_zeros table.committed.pages (start bytes))
+
+    next_bytes : (bytes : List ℕ) → a.contents bytes → (next bytes).bytes ≡ (start bytes).bytes
+    next_bytes bytes at =
+        let used : (start bytes).note.used ≡ table.committed.note.used = ap (λ (n : Note). n.used) (start_used bytes at) in
+        let count = 4096 * pages_of_words table.committed.note.used in
+        let long : length (start bytes).bytes ≡ count =
+        length_bytes _ (pages_of_words (start bytes).note.used) bytes ∙ ap (λ (n : ℕ). 4096 * pages_of_words n) used in
+        take-append-le count (start bytes).bytes (replicate (4096 * capacity_pages table.committed.pages - length (start bytes).bytes) 0) (omega arith) ∙ take_all count (start bytes).bytes (omega arith)
+
+    pub committed_as : (image : List ℕ) → Was (seen table b) (saved table.committed.note.used table.committed.note.directory) (held_in image) → After a.contents IsCommittedIn image
+    committed_as image was =
+        let at = is.holds was.from was.was in
+        let bytes = at.from in
+        let found : held_in image ≡ Some (next bytes) =
+        sym was.by
+        ∙ ap (λ (o : Option Held). option_map (saved table.committed.note.used table.committed.note.directory) o) (sym at.by ∙ ap (λ (o : Option Held). option_map (with_zeros table.committed.pages) o) (started bytes at.was)) in
+        record {
+          from = bytes;
+          was = at.was;
+          by = record {
+            was = start bytes;
+            now = next bytes;
+            was_found = started bytes at.was;
+            now_found = found;
+            same = record {
+              used = sym (ap (λ (n : Note). n.used) (start_used bytes at.was));
+              directory = sym (ap (λ (n : Note). n.directory) (start_used bytes at.was));
+              bytes = next_bytes bytes at.was;
+            };
+            counted = refl;
+          };
+        }
+
+    kept_then : (image : List ℕ) → After a.contents IsCommittedIn image → After a.contents IsKeptIn image
+    kept_then image at = record {
+      from = at.from;
+      was = at.was;
+      by = record { was = at.by.was; now = at.by.now; was_found = at.by.was_found; now_found = at.by.now_found; same = at.by.same };
+    }
+
+    either : (m n : ℕ) → (m ≤ n) ⊎ (n ≤ m)
+    either m n = grind arith
+
+    -- an image since the last look
+    image_since : (m : ℕ) (image : List ℕ) → b.clock ≤ m → m ≤ c.clock → c.images m image → After a.contents IsKeptIn image
+    image_since m image low high at = ⊎_elim
+        (λ old. kept_as image old.from (is.settles.settled b.clock old.from is.settles.until (omega arith) old.was) (sym old.by))
+        (λ new. kept_then image (committed_as image new))
+        (images.each m (held_in image) low high (record { from = image; was = at; by = refl }))
+
+    pub switched_keeps : KeepsFrom a c
+    switched_keeps =
+        let until = is.settles.until in
+        let later = past.later in
+        record {
+          since = is.settles.since;
+          from = is.settles.from;
+          until = omega arith;
+          before = λ m image low high at. is.looks.images.each m image low (omega arith) (past.no_other m image (omega arith) at);
+          settled = λ m image low high at. ⊎_elim
+              (λ early. kept_as image image (is.settles.settled m image low early (past.no_other m image early at)) refl)
+              (λ late. image_since m image late high at)
+              (either m b.clock);
+          untold = λ m bytes low high at. is.settles.untold m bytes low high (told.no_other m bytes (omega arith) at);
+        }
+
+    pub switched_moves : b.device_faults ≤ c.device_faults → c.output_faults ≡ b.output_faults → Moves a c
+    switched_moves counts output = record {
+      told = along_then is.looks.told told (along_now is.looks.told);
+      counts = let first = is.looks.counts in omega arith;
+      output = output ∙ is.looks.output;
+      keeps = switched_keeps;
+    }

@@ -1,0 +1,59 @@
+-- What is left of a volume that gets its index page.
+use Rattle.std.specs.Prelude.{◌≡◌, ℕ, ◌+◌, ◌%◌, ◌^◌, ◌≤◌, Bool, true, false, List, Option, Some}
+use Rattle.ps_port.specs.ps_outside.Outside.{Outside, After, LeavesSame, SameContents, TellsNothing, Rose}
+use Rattle.volume_parts.specs.Holding.{Held}
+use Rattle.volume_parts.specs.declared.open_fault.OpenFault.{OpenFault}
+use Rattle.volume_parts.specs.declared.open_fault.OpenFault.TheVariants.{Device}
+use Rattle.paged_volume.specs.Standing.{held_in}
+use Rattle.paged_volume.specs.Attaching.{IsRefused}
+
+-- the same words under the same directory, whichever commit it is
+pub record HoldsSame (old new : Held) : Type 0 where
+  pub used : new.note.used ≡ old.note.used
+  pub directory : new.note.directory ≡ old.note.directory
+  pub bytes : new.bytes ≡ old.bytes
+
+-- a file holds what another one held
+pub record IsKeptIn (old new : List ℕ) : Type 0 where
+  pub was : Held
+  pub now : Held
+  pub was_found : held_in old ≡ Some was
+  pub now_found : held_in new ≡ Some now
+  pub same : HoldsSame was now
+
+-- and by one commit more
+pub record IsCommittedIn (old new : List ℕ) : Type 0 where
+  pub was : Held
+  pub now : Held
+  pub was_found : held_in old ≡ Some was
+  pub now_found : held_in new ≡ Some now
+  pub same : HoldsSame was now
+  pub counted : now.note.commits ≡ (was.note.commits + 1) % 2 ^ 64
+
+-- Up to some moment a crash leaves what it could leave before; from then on it leaves a file that holds what a read gave at the start, and up to that moment
+-- nothing was output.
+pub record KeepsFrom (old new : Outside (List ℕ)) : Type 0 where
+  pub since : ℕ
+  pub from : old.clock ≤ since
+  pub until : since ≤ new.clock
+  pub before : (m : ℕ) (image : List ℕ) → old.clock ≤ m → m ≤ since → new.images m image → old.images old.clock image
+  pub settled : (m : ℕ) (image : List ℕ) → since ≤ m → m ≤ new.clock → new.images m image → After old.contents IsKeptIn image
+  pub untold : (m : ℕ) (bytes : List ℕ) → old.clock ≤ m → m ≤ since → new.told m bytes → old.told old.clock bytes
+
+-- Calls of the device that output nothing; and each image of the way holds what was held.
+pub record Moves (old new : Outside (List ℕ)) : Type 0 where
+  pub told : TellsNothing old new
+  pub counts : old.device_faults ≤ new.device_faults
+  pub output : new.output_faults ≡ old.output_faults
+  pub keeps : KeepsFrom old new
+
+-- Whether it was committed: then each image at the end holds it by one commit more, and is what a read gives where a content is told; else the device was only looked at.
+pub record IsMigrated (old new : Outside (List ℕ)) (committed : Bool) : Type 0 where
+  pub moves : Moves old new
+  pub once : committed ≡ true → (image : List ℕ) → new.images new.clock image → After old.contents IsCommittedIn image
+  pub left : committed ≡ false → LeavesSame old new × SameContents old new
+
+-- Why there is no such volume: as attaching says; or the device failed while it was committed, and each image holds what was held.
+pub data IsUnmoved (old new : Outside (List ℕ)) (cause : OpenFault) : Type 0 where
+  refused : IsRefused old new cause → IsUnmoved old new cause
+  cut : cause ≡ Device → Rose old.device_faults new.device_faults → Moves old new → IsUnmoved old new cause

@@ -1,0 +1,4 @@
+pub mod Gate
+pub mod Numbers
+pub mod Looking
+pub mod Shutting

@@ -1,0 +1,4 @@
+pub mod Layout
+pub mod Holding
+pub mod Calls
+pub mod Making
