@@ -11,7 +11,7 @@ use Rattle.volume_parts.specs.Holding.{saved}
 use Rattle.volume_parts.specs.Calls.{Was}
 use Rattle.volume_parts.specs.declared.note.Note.{Note}
 use Rattle.paged_volume.specs.Layout.{capacity_pages}
-use Rattle.paged_volume.specs.Found.{held_at, page_number}
+use Rattle.paged_volume.specs.Found.{held_at}
 use Rattle.paged_volume.specs.Standing.{held_in, held_of, seen, with_zeros}
 use Rattle.paged_volume.specs.Attaching.{IsAttached}
 use Rattle.paged_volume.specs.declared.table.Table.{Table}
