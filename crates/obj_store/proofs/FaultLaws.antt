@@ -5,7 +5,6 @@ use Rattle.obj_layout.specs.ps_outside.Past.{KeepsPast}
 use Rattle.obj_layout.proofs.of_ps_outside.PastMoments.{past_as}
 use Rattle.paged_volume.specs.Standing.{seen}
 use Rattle.paged_volume.specs.declared.table.Table.{Table}
-use Rattle.paged_volume.specs.declared.committed.Committed.{Committed}
 use Rattle.paged_volume.specs.declared.table.Table.{Table}
 use Rattle.obj_layout.specs.declared.vault.VaultFault.{VaultFault}
 use Rattle.obj_layout.specs.declared.vault.VaultFault.TheVariants.{Device, Output, Full, Damaged}

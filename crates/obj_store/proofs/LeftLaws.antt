@@ -1,5 +1,5 @@
 -- What is left of a store is left of its host.
-use Rattle.std.proofs.Common.{◌≡◌, ℕ, List, refl, subst, ap}
+use Rattle.std.proofs.Common.{ℕ, List, refl, subst, ap}
 use Rattle.obj_layout.specs.ps_outside.Outside.{Outside, LeavesSame}
 use Rattle.ps_port.specs.Telling.{TellsAll}
 use Rattle.std.specs.Prelude.{Ok}

@@ -3,7 +3,6 @@ use Rattle.std.proofs.Common.{◌≡◌, ℕ, ◌-◌, ◌*◌, ◌≤◌, Bool,
 use Rattle.std.specs.Option.{option_map}
 use Rattle.obj_layout.specs.ps_outside.Outside.{Outside, After}
 use Rattle.paged_volume.specs.Layout.{capacity_pages}
-use Rattle.volume_parts.specs.Layout.{pages_of_words}
 use Rattle.volume_parts.specs.Holding.{Held}
 use Rattle.paged_volume.specs.Standing.{IsFit, Says, held_in, with_zeros, seen, staged_in, committed_in, logical_of}
 use Rattle.paged_volume.specs.Attaching.{IsAttached}

@@ -11,7 +11,6 @@ use Rattle.obj_layout.specs.Storing.{Puts}
 use Rattle.volume_parts.specs.Holding.{Held}
 use Rattle.paged_volume.specs.Standing.{seen, staged_in}
 use Rattle.paged_volume.specs.declared.table.Table.{Table}
-use Rattle.paged_volume.specs.declared.committed.Committed.{Committed}
 use Rattle.paged_volume.specs.declared.table.Table.{Table}
 use Rattle.obj_layout.specs.Stored.{Space}
 use Rattle.obj_store.specs.Spaces.{word_at, words_of, space_of, space_filed, IsInOrder, spaces}

@@ -9,7 +9,6 @@ use Rattle.volume_parts.specs.Holding.{Held}
 use Rattle.paged_volume.specs.Standing.{staged_in}
 use Rattle.volume_parts.specs.Layout.{number_at}
 use Rattle.paged_volume.specs.Standing.{IsFit}
-use Rattle.volume_parts.specs.declared.note.Note.{Note}
 use Rattle.paged_volume.specs.declared.committed.Committed.{Committed}
 use Rattle.paged_volume.proofs.Bounds.{capacity_low, pages_low}
 use Rattle.std.proofs.Math.Nat.{mod-lt}

@@ -1,4 +1,4 @@
-use Rattle.std.proofs.Common.{◌≡◌, ℕ, ◌+◌, ◌≤◌, min, max, true, false, length, ap, sym, subst, arith, ◌∙◌}
+use Rattle.std.proofs.Common.{ℕ, ◌+◌, ◌≤◌, min, max, length, ap, sym, subst, arith}
 use Rattle.obj_store.specs.Words.{IsPut}
 use Rattle.obj_store.proofs.WordLaws.{put_done}
 use Rattle.obj_store.proofs.words.put_words.Goals as goal

@@ -1,4 +1,4 @@
-use Rattle.std.proofs.Common.{◌*◌, ◌+◌, ◌≤◌, ℕ, max, min, length, ap, subst, sym, ◌∙◌, arith, OnOk}
+use Rattle.std.proofs.Common.{◌*◌, ◌+◌, ◌≤◌, max, min, length, subst, arith, OnOk}
 use Rattle.obj_layout.proofs.of_ps_outside.PastMoments.{past_along, past_then}
 use Rattle.paged_volume.specs.Standing.{seen}
 use Rattle.paged_volume.specs.declared.table.Table.{Table}

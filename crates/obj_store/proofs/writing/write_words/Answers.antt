@@ -1,5 +1,5 @@
 use Rattle.std.proofs.Common.{◌∙◌, ◌+◌, ◌-◌, ◌*◌, ◌/◌, ◌^◌, ◌<◌, max, min, length, arith, refl}
-use Rattle.obj_layout.proofs.of_ps_outside.PastMoments.{past_none, past_then}
+use Rattle.obj_layout.proofs.of_ps_outside.PastMoments.{past_then}
 use Rattle.paged_volume.specs.Standing.{seen}
 use Rattle.obj_store.specs.Words.{HoldsPut}
 use Rattle.obj_store.specs.StoreLaws.{words_low}

@@ -1,4 +1,4 @@
-use Rattle.std.proofs.Common.{◌∙◌, ℕ, Ok, ap, subst, sym}
+use Rattle.std.proofs.Common.{◌∙◌, Ok, ap, subst, sym}
 use Rattle.volume_parts.specs.Layout.{pages_of_words}
 use Rattle.paged_volume.specs.Staging.{HasPages}
 use Rattle.paged_volume.specs.declared.table.Table.{Table}
