@@ -1,11 +1,11 @@
 -- A volume that was committed once more, or looked at alone.
-use Rattle.std.proofs.Common.{◌≡◌, ◌⊎◌, inl, inr, ⊎_elim, ℕ, ◌+◌, ◌-◌, ◌*◌, ◌%◌, ◌^◌, ◌≤◌, Bool, List, length, take, replicate, refl, sym, ◌∙◌, ap, subst, arith, Option, Some}
+use Rattle.std.proofs.Common.{◌≡◌, ◌⊎◌, inr, ⊎_elim, ℕ, ◌-◌, ◌*◌, ◌≤◌, Bool, true, false, List, [], length, get_or, replicate, refl, sym, ◌∙◌, ap, arith, Option, Some, None}
 use Rattle.std.specs.Option.{option_map}
 use Rattle.std.proofs.lemmas.List.{take-append-le, take_all}
-use Rattle.ps_port.specs.ps_outside.Outside.{Outside, After, Leaves, LeavesSame, TellsNothing}
+use Rattle.ps_port.specs.ps_outside.Outside.{Outside, After, Leaves, TellsNothing, Rose}
 use Rattle.ps_port.specs.ps_outside.Past.{KeepsPast}
 use Rattle.ps_port.proofs.of_ps_outside.Moments.{along_then, along_now}
-use Rattle.volume_parts.specs.Layout.{pages_of_words, root_at}
+use Rattle.volume_parts.specs.Layout.{pages_of_words}
 use Rattle.volume_parts.specs.Holding.{Held}
 use Rattle.volume_parts.specs.Holding.{saved}
 use Rattle.volume_parts.specs.Calls.{Was}
@@ -14,13 +14,18 @@ use Rattle.paged_volume.specs.Layout.{capacity_pages}
 use Rattle.paged_volume.specs.Found.{held_at}
 use Rattle.paged_volume.specs.Standing.{held_in, held_of, seen, with_zeros}
 use Rattle.paged_volume.specs.Attaching.{IsAttached}
+use Rattle.paged_volume.specs.Committing.{IsSwitchFault}
+use Rattle.paged_volume.specs.declared.committed.Committed.{Committed}
+use Rattle.paged_volume.specs.declared.pinned.Pinned.{Pinned}
 use Rattle.paged_volume.specs.declared.table.Table.{Table}
+use Rattle.paged_volume.specs.declared.volume.VolumeFault.{VolumeFault}
+use Rattle.paged_volume.specs.declared.volume.VolumeFault.TheVariants.{Device, Full}
 use Rattle.paged_volume.proofs.Held.{length_bytes}
-use Rattle.volume_next.specs.Moving.{HoldsSame, IsKeptIn, IsCommittedIn, KeepsFrom, Moves}
+use Rattle.volume_next.specs.Moving.{IsKeptIn, IsCommittedIn, KeepsFrom, Moves, IsMigrated}
 
 -- what was found where nothing was committed since
 module _ (a b : Outside (List ℕ)) (lives : Bool) (table : Table) (is : IsAttached a b lives table) where
-  start : List ℕ → Held
+  abbrev start : List ℕ → Held
   start bytes = held_at table.committed.second bytes
 
   started : (bytes : List ℕ) → a.contents bytes → held_in bytes ≡ Some (start bytes)
@@ -57,10 +62,17 @@ module _ (a b : Outside (List ℕ)) (lives : Bool) (table : Table) (is : IsAttac
   pub looks_moves : Moves a b
   looks_moves = record { told = is.looks.told; counts = is.looks.counts; output = is.looks.output; keeps = looked }
 
+  pub looked_alone : IsMigrated a b false
+  looked_alone = record {
+    moves = looks_moves;
+    once = λ e. absurd (cc);
+    left = λ e. (is.looks.images, is.looks.same);
+  }
+
   module _ (c : Outside (List ℕ)) (other : Table) (past : KeepsPast b c) (told : TellsNothing b c)
       (images : Leaves (seen table b) (seen other c) (λ found. (seen table b).images b.clock found ⊎ Was (seen table b) (saved table.committed.note.used table.committed.note.directory) found)) where
     -- what is committed then
-    next : List ℕ → Held
+    abbrev next : List ℕ → Held
     next bytes = saved table.committed.note.used table.committed.note.directory (with_zeros table.committed.pages (start bytes))
 
     next_bytes : (bytes : List ℕ) → a.contents bytes → (next bytes).bytes ≡ (start bytes).bytes
@@ -135,3 +147,18 @@ module _ (a b : Outside (List ℕ)) (lives : Bool) (table : Table) (is : IsAttac
       output = output ∙ is.looks.output;
       keeps = switched_keeps;
     }
+
+    pub committed_once : b.device_faults ≤ c.device_faults → c.output_faults ≡ b.output_faults
+        → ((found : Option Held) → (seen other c).images c.clock found → Was (seen table b) (saved table.committed.note.used table.committed.note.directory) found) → IsMigrated a c true
+    committed_once counts output kept = record {
+      moves = switched_moves counts output;
+      once = λ e image at. committed_as image (kept (held_in image) (record { from = image; was = at; by = refl }));
+      left = λ e. absurd (cc);
+    }
+
+-- without pins nothing is committed only where the device failed
+pub switch_failed : {H : Type 0} (outside : H → Outside (List ℕ)) (old new : H) (lived lives : Bool) (p q : Table) (next : Committed) (fault : VolumeFault) → p.pins.items ≡ []
+    → IsSwitchFault outside old new lived lives p q next fault → Rose (outside old).device_faults (outside new).device_faults
+switch_failed outside old new lived lives p q next Device none is = is.0
+switch_failed outside old new lived lives p q next (Full held wanted pages) none is =
+    absurd (is.7 (λ pin lt. inr (ap (λ (pins : List (Option Pinned)). get_or pins pin None) none)))

@@ -1,5 +1,5 @@
 -- What is left of a volume that gets its index page.
-use Rattle.std.specs.Prelude.{◌≡◌, ℕ, ◌+◌, ◌%◌, ◌^◌, ◌≤◌, Bool, true, false, List, Option, Some}
+use Rattle.std.specs.Prelude.{◌≡◌, ℕ, ◌+◌, ◌%◌, ◌^◌, ◌≤◌, Bool, true, false, List, Some}
 use Rattle.ps_port.specs.ps_outside.Outside.{Outside, After, LeavesSame, SameContents, TellsNothing, Rose}
 use Rattle.volume_parts.specs.Holding.{Held}
 use Rattle.volume_parts.specs.declared.open_fault.OpenFault.{OpenFault}
