@@ -50,7 +50,7 @@ runnable text unit program is unit_is units =
     let leaves = leaves_fit text is.tokens is.phrase is.scanned is.read in
     record {
       typed = program_typed is.phrase program lets is.typed;
-      runs = program_runs is.phrase program lets is.typed leaves is.built;
+      runs = program_runs is.phrase program lets is.typed leaves;
       valued = program_bodies_valued is.phrase program leaves is.typed;
       simple = of_outcome program (wants types.Void (end_line is.phrase) (check library_names is.phrase)) is.typed;
       units = units;

@@ -1,7 +1,7 @@
 -- A run goes on from each configuration that it comes to, and stops where the machine does.
 use Rattle.std.proofs.Common.{◌≡◌, List, [], ◌∷◌, ◌++◌, ap, ◌∙◌, subst, append_assoc}
 use Rattle.ps_heap.specs.Ends.{End}
-use Rattle.ps_meaning.specs.Event.{Event, Finish}
+use Rattle.ps_heap.specs.Events.{Event, Finish}
 use Rattle.ps_stepping.specs.Config.{Config}
 use Rattle.ps_stepping.specs.Machine.{Goes, Stops, Stuck, Steps, Runs, goes, stops}
 use Rattle.ps_stepping.proofs.Determined.{one_step}
@@ -20,12 +20,12 @@ follow total c next so_far events (goes {next = next'} {events = events'} s r) t
 follow total c next so_far events (stops {e = e} s is) t = absurd (let both : Stops e ≡ Goes events next = one_step c _ _ s t in cc)
 
 pub last_step : (total : List Event) (c : Config) (so_far : List Event) (e : End) → Runs total c so_far → Steps c (Stops e) →
-    total ≡ so_far ++ Finish e c.store.counted ∷ []
+    total ≡ so_far ++ Finish e c.store.held.counted ∷ []
 last_step total c so_far e (goes {next = next} {events = events} s r) t = absurd (let both : Goes events next ≡ Stops e = one_step c _ _ s t in cc)
 last_step total c so_far e (stops {e = e'} s is) t =
     let both : Stops e' ≡ Stops e = one_step c _ _ s t in
     let same : e' ≡ e = cc in
-    is ∙ ap (λ (x : End). so_far ++ Finish x c.store.counted ∷ []) same
+    is ∙ ap (λ (x : End). so_far ++ Finish x c.store.held.counted ∷ []) same
 
 pub never_stuck : (total : List Event) (c : Config) (so_far : List Event) → Runs total c so_far → Steps c Stuck → ⊥
 never_stuck total c so_far (goes {next = next} {events = events} s r) t = let both : Goes events next ≡ Stuck = one_step c _ _ s t in cc
@@ -35,4 +35,4 @@ never_stuck total c so_far (stops {e = e} s is) t = let both : Stops e ≡ Stuck
 pub front_of_run : (total : List Event) (c : Config) (so_far : List Event) → Runs total c so_far → (rest : List Event) × (total ≡ so_far ++ rest)
 front_of_run total c so_far (goes {next = next} {events = events} s r) =
     let more = front_of_run total next (so_far ++ events) r in (events ++ more.0, more.1 ∙ append_assoc so_far events more.0)
-front_of_run total c so_far (stops {e = e} s is) = (Finish e c.store.counted ∷ [], is)
+front_of_run total c so_far (stops {e = e} s is) = (Finish e c.store.held.counted ∷ [], is)

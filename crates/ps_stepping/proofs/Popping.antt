@@ -1,7 +1,7 @@
 -- What a step does to the stacks, where it begins with something that is popped.
 use Rattle.std.proofs.Common.{◌≡◌, ℕ, suc, ◌+◌, ℤ, Bool, true, false, List, [], ◌∷◌, length, refl, ap, subst, arith}
 use Rattle.std.specs.Prelude.{nat_lt, if◌then◌else◌}
-use Rattle.ps_meaning.specs.Event.{Event}
+use Rattle.ps_heap.specs.Events.{Event}
 use Rattle.ps_heap.specs.Values.{Value}
 use Rattle.ps_heap.specs.Values as value
 use Rattle.ps_stepping.specs.Config.{frame_words, Config, frame_in}

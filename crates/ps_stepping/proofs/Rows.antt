@@ -6,9 +6,10 @@ use Rattle.ps_code.specs.ps_base.declared.line.Line.{Line}
 use Rattle.ps_code.specs.ps_base.declared.trap.Trap.TheVariants.{Bounds}
 use Rattle.ps_code.specs.ps_base.declared.instr.Instr.TheVariants as instr
 use Rattle.ps_heap.specs.Ends.{Trapped, OutOfTurns, Done}
-use Rattle.ps_meaning.specs.Event.{Turn}
+use Rattle.ps_heap.specs.Events.{Turn}
 use Rattle.ps_heap.specs.Values.{Nil}
 use Rattle.ps_meaning.specs.Meaning.{with_local}
+use Rattle.ps_heap.proofs.Scenes.{uncommitted}
 use Rattle.ps_stepping.specs.Config.{Caller, Config}
 use Rattle.ps_stepping.specs.Machine.{Goes, Stops, Stuck, on, act}
 
@@ -32,7 +33,7 @@ at offset nums turns = record {
   locals = record { nums = λ s. pos 0; refs = λ s. Nil };
   scope = None;
   callers = [];
-  store = record { turns = turns; heap = []; input = []; counted = 0 };
+  store = record { turns = turns; input = []; held = uncommitted [] 0 };
 }
 
 abbrev loop : ℕ → (ℕ → ℤ) → ℕ → Config

@@ -1,6 +1,9 @@
 pub mod Config
 pub mod Steps
+pub mod Jumps
 pub mod Objects
+pub mod Library
+pub mod Scans
 pub mod Procedures
 pub mod Machine
 pub mod Path

@@ -3,7 +3,7 @@ use Rattle.std.specs.Prelude.{ℕ, ◌+◌, ℤ, Bool, List, [], ◌∷◌, leng
 use Rattle.ps_code.specs.ps_base.CodeUnit.{ConstantView, text, literal}
 use Rattle.ps_code.specs.ps_base.declared.line.Line.{Line}
 use Rattle.ps_heap.specs.Ends.{End, Trapped}
-use Rattle.ps_meaning.specs.Event.{Event}
+use Rattle.ps_heap.specs.Events.{Event}
 use Rattle.ps_heap.specs.Operators.{Answer, Gives, Traps}
 use Rattle.ps_heap.specs.Texts.{Attempt, Yields, Fails}
 use Rattle.ps_heap.specs.Values.{Value, number_of}

@@ -1,7 +1,7 @@
 ghost use Rattle.std.specs.Prelude.{◌≡◌, List, [], ◌∷◌, ◌++◌};
 ghost use Rattle.ps_code.specs.ps_base.declared.instr.Instr.{Instr};
 ghost use Rattle.ps_heap.specs.Ends.{End};
-ghost use Rattle.ps_meaning.specs.Event.{Event, Finish};
+ghost use Rattle.ps_heap.specs.Events.{Event, Finish};
 ghost use Rattle.ps_stepping.specs.Config.{Config, code_in, IsAt};
 ghost use Rattle.ps_stepping.specs.Effects.{effect_of, HasEffect};
 ghost use Rattle.ps_stepping.specs.Machine.{Step, Goes, Stops, Stuck, act, Steps, Runs};
@@ -21,7 +21,7 @@ pub fn rest_of_a_run()
     ensures rest { (total : List Event) (c last : Config) (before behind : List Event) → Runs total c [] → Reaches c before last →
         Finishes last behind → total ≡ before ++ behind }
     ensures end { (total : List Event) (c last : Config) (before : List Event) (e : End) → Runs total c [] → Reaches c before last →
-        Steps last (Stops e) → total ≡ before ++ Finish e last.store.counted ∷ [] }
+        Steps last (Stops e) → total ≡ before ++ Finish e last.store.held.counted ∷ [] }
     ensures goes { (total : List Event) (c last : Config) (before : List Event) → Runs total c [] → Reaches c before last → Steps last Stuck → ⊥ }
     ensures front { (total : List Event) (c last : Config) (before : List Event) → Runs total c [] → Reaches c before last →
         (behind : List Event) × (total ≡ before ++ behind) }
