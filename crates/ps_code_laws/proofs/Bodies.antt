@@ -1,6 +1,7 @@
 -- Bodies do what they mean, inside any bodies that wait, and so does a program.
 use Rattle.std.proofs.Common.{◌≡◌, ℕ, zero, suc, ◌+◌, ◌≤◌, List, [], ◌∷◌, ◌++◌, length, Option, Some, None, refl, sym, ◌∙◌, subst, append_assoc, append-nil, arith}
 use Rattle.std.specs.List.{AllByRecursion}
+use Rattle.std.proofs.lemmas.List.{map-append}
 use Rattle.ps_gen.specs.ps_base.TyView.{TyView, TyViews}
 use Rattle.ps_gen.specs.ps_base.TyView as types
 use Rattle.ps_gen.specs.ps_base.CodeUnit.{UnitView}
@@ -14,12 +15,12 @@ use Rattle.ps_typing_laws.specs.ps_typing.WellTyped as typed
 use Rattle.ps_stepping.specs.ps_heap.Objects.{Heap}
 use Rattle.ps_stepping.specs.ps_heap.Weights.{code_weight}
 use Rattle.ps_stepping.specs.ps_heap.Ends.{End, Done}
-use Rattle.ps_stepping.specs.ps_meaning.Event.{Event, Finish}
-use Rattle.ps_stepping.specs.ps_heap.Values.{Value}
+use Rattle.ps_stepping.specs.ps_heap.Events.{Event, Finish}
+use Rattle.ps_stepping.specs.ps_heap.Values.{Value, Routine}
 use Rattle.ps_stepping.specs.ps_meaning.Meaning.{Frame, Store, State, Outcome, Value_is, Ends, give, after, ◌>>=◌}
 use Rattle.ps_stepping.specs.ps_meaning.Frames.{arguments_on, frame_of_call, keep_all}
 use Rattle.ps_stepping.specs.ps_meaning.Calls.{body_meant, context}
-use Rattle.ps_stepping.specs.ps_meaning.Runs.{fresh_frame, fresh_store, fresh_state, outcome_of, all_events, run_events}
+use Rattle.ps_stepping.specs.ps_meaning.Runs.{Given, fresh_frame, fresh_store, fresh_state, outcome_with, all_events, events_with}
 use Rattle.ps_gen.specs.ps_emitter.Choices as choice
 use Rattle.ps_gen.specs.Units.{HasUnit, unit_of}
 use Rattle.ps_stepping.specs.Config.{frame_words, Caller, Config, code_in, frame_in, IsAt, start}
@@ -29,12 +30,12 @@ use Rattle.ps_stepping.specs.Path.{Reaches, Finishes}
 use Rattle.ps_stepping.specs.Path as path
 use Rattle.ps_soundness.specs.Running.{BodyRuns}
 use Rattle.ps_soundness.specs.Valued.{IsValued}
-use Rattle.ps_soundness.specs.Shapes.{type_of_body, IsTypedHeap}
+use Rattle.ps_soundness.specs.Shapes.{type_of_body}
 use Rattle.ps_soundness.proofs.Telling.{Told}
 use Rattle.ps_soundness.proofs.Calling.{ValuesOf}
 use Rattle.ps_code_laws.specs.Literals.{AreScopesValued, Fits}
-use Rattle.ps_code_laws.specs.Meets.{nums_left, refs_left, standing, ComesBack, Follows, AreHanded, HasRoom, Meets}
-use Rattle.ps_code_laws.specs.Compiled.{compiled_store}
+use Rattle.ps_code_laws.specs.Meets.{nums_left, refs_left, standing, ComesBack, Follows, AreHanded, HasRoom, IsFittingHeap, Meets}
+use Rattle.ps_code_laws.specs.Compiled.{compiled_store, compiled_event, compiled_events, WeighsUnits}
 use Rattle.ps_code_laws.proofs.Doing.{Way, if_lt, quiet}
 use Rattle.ps_code_laws.proofs.CallForms.{Returned}
 use Rattle.ps_code_laws.proofs.Calls.{Enters, Entered}
@@ -43,36 +44,43 @@ use Rattle.ps_code_laws.proofs.Naming.{names_in_body}
 use Rattle.ps_code_laws.proofs.Inside.{bodies_inside, bodies_fit}
 
 -- one step more before what follows
+with_end : (c : Config) (events later rest : List Event) → Finishes c (compiled_events events ++ (compiled_events later ++ rest)) →
+    Finishes c (compiled_events (events ++ later) ++ rest)
+with_end c events later rest h =
+    subst (λ (es : List Event). Finishes c (es ++ rest)) (sym (map-append compiled_event events later))
+    (subst (λ (es : List Event). Finishes c es) (sym (append_assoc (compiled_events events) (compiled_events later) rest)) h)
+
 back_goes : {c next : Config} {events : List Event} (later : List Event) (callers : List Caller) (gives : TyView) (v : Value) (store : Store) →
-    Steps c (Goes events next) → ComesBack next later callers gives v store → ComesBack c (events ++ later) callers gives v store
-back_goes {c = c} {events = events} later [] gives v store s h =
-    subst (λ (es : List Event). Finishes c es) (sym (append_assoc events later (Finish Done store.counted ∷ []))) (path.goes s h)
-back_goes later (caller ∷ callers) gives v store s h = path.more s h
+    Steps c (Goes (compiled_events events) next) → ComesBack next later callers gives v store → ComesBack c (events ++ later) callers gives v store
+back_goes {c = c} {events = events} later [] gives v store s h = with_end c events later (Finish Done store.held.counted ∷ []) (path.goes s h)
+back_goes {c = c} {events = events} later (caller ∷ callers) gives v store s h =
+    subst (λ (es : List Event). Reaches c es (resumed caller (nums_left gives v ++ caller.nums) (refs_left gives v ++ caller.refs) callers (compiled_store store)))
+    (sym (map-append compiled_event events later)) (path.more s h)
 
 follows_goes : {c next : Config} {events : List Event} (so_far : List Event) (callers : List Caller) (gives : TyView) (o : Outcome) →
-    Steps c (Goes events next) →
+    Steps c (Goes (compiled_events events) next) →
     Follows next (so_far ++ events) callers gives o → Follows c so_far callers gives o
 follows_goes {events = events} so_far callers gives (Value_is v f state) s h =
     (events ++ h.0, h.1 ∙ append_assoc so_far events h.0, back_goes h.0 callers gives v state.store s h.2)
 follows_goes {c = c} {events = events} so_far callers gives (Ends e state) s h = (
   events ++ h.0,
   h.1 ∙ append_assoc so_far events h.0,
-  subst (λ (es : List Event). Finishes c es) (sym (append_assoc events h.0 (Finish e state.store.counted ∷ []))) (path.goes s h.2),
+  with_end c events h.0 (Finish e state.store.held.counted ∷ []) (path.goes s h.2),
 )
 
 -- the end that an outcome has, where so many bytes are counted
 abbrev EndsSo : Outcome → End → ℕ → List Event → Type 0
 EndsSo (Value_is v f state) e counted so_far = ⊥
-EndsSo (Ends end state) e counted so_far = (e ≡ end) × (counted ≡ state.store.counted) × (state.events ≡ so_far)
+EndsSo (Ends end state) e counted so_far = (e ≡ end) × (counted ≡ state.store.held.counted) × (state.events ≡ so_far)
 
-follows_stops : {c : Config} {e : End} (so_far : List Event) (callers : List Caller) (gives : TyView) (o : Outcome) → Steps c (Stops e) →
-    EndsSo o e c.store.counted so_far → Follows c so_far callers gives o
+follows_stops : {c : Config} {e : End} {touched : ℕ} (so_far : List Event) (callers : List Caller) (gives : TyView) (o : Outcome) →
+    Steps c (Stops e touched) → EndsSo o e (touched + c.store.held.counted) so_far → Follows c so_far callers gives o
 follows_stops so_far callers gives (Value_is v f state) s h = absurd h
-follows_stops {c = c} {e = e} so_far callers gives (Ends end state) s h = (
+follows_stops {c = c} {e = e} {touched = touched} so_far callers gives (Ends end state) s h = (
   [],
   h.2 ∙ sym (append-nil so_far),
   subst (λ (counted : ℕ). Finishes c (Finish end counted ∷ [])) h.1
-      (subst (λ (e : End). Finishes c (Finish e c.store.counted ∷ [])) h.0 (path.stops s)),
+      (subst (λ (e : End). Finishes c (Finish e (touched + c.store.held.counted) ∷ [])) h.0 (path.stops s)),
 )
 
 -- the way to what an outcome says
@@ -83,12 +91,12 @@ way_to u callers gives o = record {
   Holds = λ c so_far. Follows c so_far callers gives o;
   Final = λ e counted so_far. EndsSo o e counted so_far;
   goes = λ {c} {next} {so_far} {events} s h. follows_goes so_far callers gives o s h;
-  stops = λ {c} {so_far} {e} s h. follows_stops so_far callers gives o s h;
+  stops = λ {c} {so_far} {e} {touched} s h. follows_stops so_far callers gives o s h;
 }
 
 -- the last instruction of a body
 return_stops : (u : UnitView) (k : ℕ) (gives : TyView) (v : Value) (f : Frame) (store : Store) →
-    act (instr.Return (choice.kind_of gives)) (standing u [] k (nums_left gives v ++ []) (refs_left gives v ++ []) f store) ≡ Stops Done
+    act (instr.Return (choice.kind_of gives)) (standing u [] k (nums_left gives v ++ []) (refs_left gives v ++ []) f store) ≡ Stops Done 0
 return_stops u k types.Int v f store = refl
 return_stops u k types.Bool v f store = refl
 return_stops u k types.Void v f store = refl
@@ -130,9 +138,9 @@ returns_to w of caller g room k at v f s h =
 
 -- where the bodies that are called inside it do what they mean
 enters_by : (told : Told) (m : ℕ) → ((v : Way) → Entered v m) → (w : Way) → Enters w m
-enters_by told m entered w caller of scope args ps g s few room typed_heap is are fits literals held reach =
+enters_by told m entered w caller of scope args ps g s few room typed_heap weighs is are fits literals held reach =
     body_does told w (caller ∷ w.callers) m scope args s is.wholes is.scopes of ps g (comes_to w caller g) is.ty_is is.typed is.runs is.stand fits few
-    (entered (within w of (caller ∷ w.callers))) typed_heap are literals held (returns_to w of caller g room) (closed_by w of caller g _ reach)
+    (entered (within w of (caller ∷ w.callers))) typed_heap weighs are literals held (returns_to w of caller g room) (closed_by w of caller g _ reach)
 
 -- by induction on the turns that may be left
 enters_up_to : (told : Told) (n m : ℕ) → m ≤ n → (w : Way) → Enters w m
@@ -174,11 +182,11 @@ body_meets told wholes scopes (body params gives tree text line) n typed_body ru
     let of : BodyNode = body params gives tree text line in
     let fits = names_in_body wholes typed_body runs (bodies_inside Fits of fit) valued in
     record {
-      follows = λ callers scope args state turns room typed_heap stand are literals held.
+      follows = λ callers scope args state turns room fitting stand are literals.
           let o = body_meant (context n (length callers)) of args (frame_of_call of scope args) state in
           let w = way_to (unit_of of) callers gives o in
           body_does told w callers n scope args state wholes scopes of (types_of_params params) gives (HasSo o) refl typed_body runs stand fits turns
-          (all_enter told n (within w of callers)) typed_heap (handed state.store.heap params args are) literals held
+          (all_enter told n (within w of callers)) fitting.typed fitting.weighs (handed state.store.held.objects params args are) literals fitting.fit
           (λ k at v f s h. comes_so (unit_of of) callers gives o room k at v f s h) (has_so (unit_of of) callers gives o);
     }
 
@@ -189,44 +197,51 @@ finishes_runs (path.goes {next = next} {events = events} {behind = behind} s res
     machine.goes s (subst (λ (all : List Event). machine.Runs all next (so_far ++ events)) (append_assoc so_far events behind)
     (finishes_runs rest (so_far ++ events)))
 
-runs_by : (c : Config) (gives : TyView) (o : Outcome) → Follows c [] [] gives o → machine.Runs (all_events o) c []
-unfolding all_events
-runs_by c gives (Value_is v f state) h =
-    subst (λ (es : List Event). machine.Runs (es ++ Finish Done state.store.counted ∷ []) c []) (sym h.1) (finishes_runs h.2 [])
-runs_by c gives (Ends e state) h =
-    subst (λ (es : List Event). machine.Runs (es ++ Finish e state.store.counted ∷ []) c []) (sym h.1) (finishes_runs h.2 [])
+-- with the end as it is
+with_finish : (events : List Event) (e : End) (counted : ℕ) → compiled_events (events ++ Finish e counted ∷ []) ≡ compiled_events events ++ Finish e counted ∷ []
+with_finish events e counted = map-append compiled_event events (Finish e counted ∷ [])
 
--- an empty heap is typed
-empty_typed : IsTypedHeap []
-empty_typed id object e = absurd cc
+runs_so : (c : Config) (all events : List Event) (e : End) (counted : ℕ) → all ≡ events → Finishes c (compiled_events events ++ Finish e counted ∷ []) →
+    machine.Runs (compiled_events (all ++ Finish e counted ∷ [])) c []
+runs_so c all events e counted same h =
+    subst (λ (es : List Event). machine.Runs (compiled_events (es ++ Finish e counted ∷ [])) c []) (sym same)
+    (subst (λ (es : List Event). machine.Runs es c []) (sym (with_finish events e counted)) (finishes_runs h []))
+
+runs_by : (c : Config) (gives : TyView) (o : Outcome) → Follows c [] [] gives o → machine.Runs (compiled_events (all_events o)) c []
+unfolding all_events
+runs_by c gives (Value_is v f state) h = runs_so c state.events h.0 Done state.store.held.counted h.1 h.2
+runs_by c gives (Ends e state) h = runs_so c state.events h.0 e state.store.held.counted h.1 h.2
+
+-- what the law of programs says of one
+abbrev pub RunsAsMeant : (Routine → ℕ) → Given → BodyNode → Type 0
+RunsAsMeant weigh given program =
+    machine.Runs (compiled_events (events_with weigh given program))
+    (start (unit_of program) (compiled_store (fresh_store weigh given (code_weight program)))) []
 
 -- a program is a body that is called with nothing
-program_by : (told : Told) (gives : TyView) (tree : Node) (line : Line) (turns : ℕ) (input : List ℕ) → IsBody [] (body [] gives tree None line) →
-    BodyRuns [] (body [] gives tree None line) → AllByRecursion Fits (bodies (body [] gives tree None line)) →
-    machine.Runs (run_events turns input (body [] gives tree None line))
-    (start (unit_of (body [] gives tree None line)) (fresh_store turns input (code_weight (body [] gives tree None line)))) []
-unfolding run_events outcome_of fresh_state fresh_frame body_meant keep_all ◌>>=◌ after give frame_of_call arguments_on
-program_by told gives tree line turns input typed_body runs fit =
+program_by : (told : Told) (gives : TyView) (tree : Node) (line : Line) (weigh : Routine → ℕ) (given : Given) → WeighsUnits weigh →
+    IsFittingHeap given.heap → IsBody [] (body [] gives tree None line) → BodyRuns [] (body [] gives tree None line) →
+    AllByRecursion Fits (bodies (body [] gives tree None line)) → RunsAsMeant weigh given (body [] gives tree None line)
+unfolding events_with outcome_with fresh_state fresh_store fresh_frame body_meant keep_all ◌>>=◌ after give frame_of_call arguments_on
+program_by told gives tree line weigh given weighs heap typed_body runs fit =
     let of : BodyNode = body [] gives tree None line in
-    let m = body_meets told [] [] of turns typed_body runs tt fit in
-    runs_by (start (unit_of of) (fresh_store turns input (code_weight of))) gives (outcome_of turns input of)
-    (m.follows [] None [] (fresh_state turns input (code_weight of)) (omega arith) tt empty_typed tt tt tt tt)
+    let m = body_meets told [] [] of given.turns typed_body runs tt fit in
+    runs_by (start (unit_of of) (compiled_store (fresh_store weigh given (code_weight of)))) gives (outcome_with weigh given of)
+    (m.follows [] None [] (fresh_state weigh given (code_weight of)) (omega arith) tt
+    (record { typed = (heap.typed, heap.roots); fit = heap.fit; weighs = weighs }) tt tt tt)
 
 -- and has no scope of its own
 no_scope : (gives : TyView) (tree : Node) (bytes : List ℕ) (line : Line) → IsBody [] (body [] gives tree (Some bytes) line) → ⊥
 no_scope gives tree bytes line (typed.of_params typed.scoped typed.Takes.no_more ended t) = cc
 
-pub program_runs : (told : Told) (program : BodyNode) (turns : ℕ) (input : List ℕ) → IsWellTyped program → BodyRuns [] program →
-    AllByRecursion (λ (of : BodyNode). IsValued (type_of_body of)) (bodies program) → first_complex (bodies program) ≡ None →
-    AllByRecursion HasUnit (bodies program) →
-    machine.Runs (run_events turns input program) (start (unit_of program) (fresh_store turns input (code_weight program))) []
-program_runs told (body params gives tree text line) turns input (no_params, is_void, typed_body) runs valued few units =
+pub program_runs : (told : Told) (program : BodyNode) (weigh : Routine → ℕ) (given : Given) → WeighsUnits weigh → IsFittingHeap given.heap →
+    IsWellTyped program → BodyRuns [] program → AllByRecursion (λ (of : BodyNode). IsValued (type_of_body of)) (bodies program) →
+    first_complex (bodies program) ≡ None → AllByRecursion HasUnit (bodies program) → RunsAsMeant weigh given program
+program_runs told (body params gives tree text line) weigh given weighs heap (no_params, is_void, typed_body) runs valued few units =
     let Done : List Param → Option (List ℕ) → Type 0 = λ ps scope. IsBody [] (body ps gives tree scope line) → BodyRuns [] (body ps gives tree scope line) →
-    AllByRecursion Fits (bodies (body ps gives tree scope line)) →
-    machine.Runs (run_events turns input (body ps gives tree scope line))
-    (start (unit_of (body ps gives tree scope line)) (fresh_store turns input (code_weight (body ps gives tree scope line)))) [] in
+    AllByRecursion Fits (bodies (body ps gives tree scope line)) → RunsAsMeant weigh given (body ps gives tree scope line) in
     let by_scope : (scope : Option (List ℕ)) → Done [] scope = λ scope. elim scope as (λ s. Done [] s) [
-      | None ↦ program_by told gives tree line turns input
+      | None ↦ program_by told gives tree line weigh given weighs heap
       | Some bytes ↦ λ is r f. absurd (no_scope gives tree bytes line is)
     ] in
     subst (λ (ps : List Param). Done ps text) (sym no_params) (by_scope text) typed_body runs

@@ -7,7 +7,7 @@ use Rattle.ps_gen.specs.ps_base.declared.instr.Instr.TheVariants as instr
 use Rattle.ps_stepping.specs.ps_heap.Values.{Value, Flag, number_of, word_of, is_one}
 use Rattle.ps_stepping.specs.ps_heap.Objects.{Heap}
 use Rattle.ps_stepping.specs.ps_meaning.Meaning.{Frame, Store, State, Outcome, Value_is, Ends, Meaning, give, after, ◌>>=◌, choose}
-use Rattle.ps_stepping.specs.ps_meaning.Evaluation.{is_equal}
+use Rattle.ps_stepping.specs.ps_meaning.Operations.{is_equal}
 use Rattle.ps_gen.specs.ps_emitter.Choices as choice
 use Rattle.ps_stepping.specs.Config.{code_in, IsAt}
 use Rattle.ps_stepping.specs.Machine.{on, act}

@@ -97,7 +97,7 @@ inside_comes heap wholes env ty (Ends e s) h = h
 pub sounds_inside : {env : Env} {free behind : Free} {t : Node} {ty : TyView} (told : Told) (wholes : List (List Field)) →
     IsTyped env free t ty behind → RunsIn (Some wholes) t → AllBelow env.locals free → Sounds (stand (Some wholes) env) (stand (Some wholes) env) t ty
 sounds_inside {env = env} {free = free} {behind = behind} {t = t} {ty = ty} told wholes typing runs below n depth heap = record {
-  runs = λ frame state g typed_heap are. inside_comes state.store.heap wholes env ty (eval (context n depth) t frame state)
+  runs = λ frame state g typed_heap are. inside_comes state.store.held.objects wholes env ty (eval (context n depth) t frame state)
       (comes_to_inside told n depth wholes env free behind t ty frame state typing runs below typed_heap are.0 are.1);
 }
 

@@ -36,11 +36,12 @@ use Rattle.ps_gen.specs.Units.{kept_at, size_kept_at, keeps, size_keeps, body_in
 use Rattle.ps_gen.proofs.Widths.{widths}
 use Rattle.ps_stepping.specs.Config.{Caller, frame_in}
 use Rattle.ps_soundness.specs.Running.{ArePlaces, RunsIn, BodyRuns}
-use Rattle.ps_soundness.specs.Shapes.{AreScopes, IsTypedHeap, type_of_body}
+use Rattle.ps_soundness.specs.Shapes.{AreScopes, IsTypedHeld, type_of_body}
 use Rattle.ps_soundness.proofs.Telling.{Told}
 use Rattle.ps_soundness.proofs.Growing.{grows_not, grows_new}
 use Rattle.ps_soundness.proofs.Calling.{ValuesOf, values_kept}
 use Rattle.ps_code_laws.specs.Literals.{BodyIs, BodiesAre, Fits}
+use Rattle.ps_code_laws.specs.Compiled.{WeighsUnits}
 use Rattle.ps_code_laws.specs.Meets.{nums_left, refs_left, standing}
 use Rattle.ps_code_laws.proofs.Standing.{Ahead, Named, all_ahead, all_named, front, behind, after_clause}
 use Rattle.ps_code_laws.proofs.Literals.{AreLiterals, InHeap}
@@ -127,13 +128,13 @@ within w of callers = record {
   Holds = λ c so_far. w.Holds c so_far;
   Final = λ e counted so_far. w.Final e counted so_far;
   goes = λ {c} {next} {so_far} {events} s h. w.goes s h;
-  stops = λ {c} {so_far} {e} s h. w.stops s h;
+  stops = λ {c} {so_far} {e} {touched} s h. w.stops s h;
 }
 
 -- what is so where a body has its value, or ends the run
 abbrev pub Closes : Way → (Value → State → Type 0) → Outcome → Type 0
 Closes w Is (Value_is u f s) = Is u s
-Closes w Is (Ends e s) = w.Final e s.store.counted s.events
+Closes w Is (Ends e s) = w.Final e s.store.held.counted s.events
 
 closes_in : (w : Way) (Is : Value → State → Type 0) (scope : Option ℕ) (o : Outcome) → Closes w Is (back_in scope o) → Closes w Is o
 unfolding back_in
@@ -181,18 +182,18 @@ inside_of v wholes params gives tree text line {env = env} {free = free} {free' 
 module _ (told : Told) (w : Way) (callers : List Caller) (turns : ℕ) (scope : Option ℕ) (args : List Value) (s : State) where
   -- From its first instruction a body does what it means, with these arguments and its scope in this one.
   pub body_does : (wholes scopes : List (List Field)) (of : BodyNode) (ps : TyViews) (g : TyView) (Is : Value → State → Type 0) →
-      types.Proc ps g ≡ type_of_body of → IsBody scopes of → BodyRuns wholes of → AreScopes s.store.heap scope wholes scopes →
-      BodyIs Fits IsValued of → s.store.turns ≤ turns → Entered (within w of callers) turns → IsTypedHeap s.store.heap →
-      ValuesOf s.store.heap ps args → AreLiterals Fits args → InHeap Fits s.store.heap → Returns (within w of callers) g Is →
+      types.Proc ps g ≡ type_of_body of → IsBody scopes of → BodyRuns wholes of → AreScopes s.store.held.objects scope wholes scopes →
+      BodyIs Fits IsValued of → s.store.turns ≤ turns → Entered (within w of callers) turns → IsTypedHeld s.store.held → WeighsUnits s.store.held.weigh →
+      ValuesOf s.store.held.objects ps args → AreLiterals Fits args → InHeap Fits s.store.held.objects → Returns (within w of callers) g Is →
       Closes w Is (body_meant (context turns (length callers)) of args (frame_of_call of scope args) s) →
       w.Holds (standing (unit_of of) callers 0 [] [] (frame_of_call of scope args) s.store) s.events
   unfolding body_meant scoped ◌>>=◌ after enter frame_of_call inside_of
   body_does wholes scopes (body params gives tree None line) ps g Is ty_is (typed.of_params {env = env} typed.unscoped takes ended t) runs stand fits few
-      enters typed_heap values literals held returns reach =
+      enters typed_heap weighs values literals held returns reach =
       let of = body params gives tree None line in
       let v = within w of callers in
       let u = unit_of of in
-      let heap = s.store.heap in
+      let heap = s.store.held.objects in
       let given : g ≡ gives = cc in
       let taken : ps ≡ types_of_params params = cc in
       let are = subst (λ (tys : TyViews). ValuesOf heap tys args) taken values in
@@ -214,14 +215,15 @@ module _ (told : Told) (w : Way) (callers : List Caller) (turns : ℕ) (scope : 
         typed = typed_heap;
         are = (locals_handed heap frame args takes passed are tt, stand);
         held = (frame_is Fits of scope args literals, held);
+        weighs = weighs;
       })
       (comes_at v gives Is (subst (λ (ty : TyView). Returns v ty Is) given returns) (0 + size_keeps params + size tree) at_return (m frame s) reach)
   body_does wholes scopes (body params gives tree (Some bytes) line) ps g Is ty_is (typed.of_params {env = env} typed.scoped takes ended t) runs stand
-      fits few enters typed_heap values literals held returns reach =
+      fits few enters typed_heap weighs values literals held returns reach =
       let of = body params gives tree (Some bytes) line in
       let v = within w of callers in
       let u = unit_of of in
-      let heap = s.store.heap in
+      let heap = s.store.held.objects in
       let given : g ≡ gives = cc in
       let taken : ps ≡ types_of_params params = cc in
       let are = subst (λ (tys : TyViews). ValuesOf heap tys args) taken values in
@@ -249,6 +251,7 @@ module _ (told : Told) (w : Way) (callers : List Caller) (turns : ℕ) (scope : 
         typed = typed_heap;
         are = (locals_handed heap frame args takes passed are tt, stand);
         held = (frame_is Fits of scope args literals, held);
+        weighs = weighs;
       } in
       let room : Room v (depth tree) [] []
       = let room = counted.room in let slots = fits.0.slots in record { on_nums = omega arith; on_refs = omega arith } in

@@ -13,19 +13,19 @@ use Rattle.ps_gen.specs.ps_base.declared.instr.Instr.TheVariants as instr
 use Rattle.ps_gen.specs.ps_program.declared.place.Place.TheVariants.{Plain}
 use Rattle.ps_stepping.specs.ps_heap.Operators.{Answer, Gives, Traps}
 use Rattle.ps_stepping.specs.ps_heap.Ends.{End, Trapped, OutOfTurns}
-use Rattle.ps_stepping.specs.ps_meaning.Event.{Event, Turn}
+use Rattle.ps_stepping.specs.ps_heap.Events.{Event, Turn}
 use Rattle.ps_stepping.specs.ps_heap.Values.{Value, Nothing, word_of, is_one, flag_of}
 use Rattle.ps_stepping.specs.ps_meaning.Meaning.{Frame, Store, State, Outcome, Value_is, Ends, Meaning, give, stop, after, ◌>>=◌, choose, answer, some_out, emit, in_places, is_width, written, with_turns, turned, spent, take_turn, with_local, get, set}
 use Rattle.ps_stepping.specs.ps_heap.Objects.{Heap}
-use Rattle.ps_stepping.specs.ps_meaning.Evaluation.{while_turns}
-use Rattle.ps_soundness.specs.Shapes.{IsOf, IsTypedHeap, Grows}
+use Rattle.ps_stepping.specs.ps_meaning.Loops.{while_turns}
+use Rattle.ps_soundness.specs.Shapes.{IsOf, IsTypedHeld, Grows}
 use Rattle.ps_soundness.proofs.Growing.{grows_not, grows_then}
 use Rattle.ps_soundness.proofs.Combining.{Standing, IsStanding, Sound, sound_then}
 use Rattle.ps_soundness.proofs.Combining as combining
 use Rattle.ps_stepping.specs.Config.{frame_words, Caller, Config, code_in, frame_in, IsAt}
 use Rattle.ps_stepping.specs.Machine.{Step, Goes, Stops, Stuck, on, push_num, push_ref, forward, back, turn_to, answered, act, Steps, at_instruction}
 use Rattle.ps_stepping.specs.Machine as machine
-use Rattle.ps_code_laws.specs.Compiled.{compiled, compiled_store}
+use Rattle.ps_code_laws.specs.Compiled.{compiled, compiled_store, compiled_events, WeighsUnits}
 use Rattle.ps_code_laws.specs.Meets.{nums_left, refs_left, standing}
 use Rattle.ps_code_laws.proofs.Clauses.{IsNum, int, bool, IsRef, str, pntr, vector, proc}
 use Rattle.ps_code_laws.proofs.Falls.{Falls, Falling, falls_then}
@@ -34,14 +34,15 @@ use Rattle.ps_code_laws.proofs.Literals.{IsLiteral, InHeap, InFrame}
 use Rattle.ps_code_laws.proofs.Holding.{Left, Holds, holds_then}
 
 -- A run of a unit, inside bodies that wait, that is to come to something: whatever is so of what a step returns is so of what it
--- starts from.
+-- starts from. The events are the meaning's.
 pub record Way : Type 1 where
   pub unit : UnitView
   pub callers : List Caller
   pub Holds : Config → List Event → Type 0
   pub Final : End → ℕ → List Event → Type 0
-  pub goes : {c next : Config} {so_far events : List Event} → Steps c (Goes events next) → Holds next (so_far ++ events) → Holds c so_far
-  pub stops : {c : Config} {so_far : List Event} {e : End} → Steps c (Stops e) → Final e c.store.counted so_far → Holds c so_far
+  pub goes : {c next : Config} {so_far events : List Event} → Steps c (Goes (compiled_events events) next) → Holds next (so_far ++ events) → Holds c so_far
+  pub stops : {c : Config} {so_far : List Event} {e : End} {touched : ℕ} → Steps c (Stops e touched) → Final e (touched + c.store.held.counted) so_far →
+      Holds c so_far
 
 pub if_true : {A : Type 0} (b : Bool) (x y : A) → b ≡ true → (if b then x else y) ≡ x
 if_true b x y h = ap (λ (c : Bool). if c then x else y) h
@@ -87,10 +88,11 @@ pub record Origin : Type 0 where
 
 pub record IsSince (n : Origin) (f : Frame) (s : State) : Type 0 where
   pub few : s.store.turns ≤ n.turns
-  pub grows : Grows n.heap s.store.heap
-  pub typed : IsTypedHeap s.store.heap
-  pub are : IsStanding s.store.heap f n.known
-  pub held : InFrame Fits f × InHeap Fits s.store.heap
+  pub grows : Grows n.heap s.store.held.objects
+  pub typed : IsTypedHeld s.store.held
+  pub are : IsStanding s.store.held.objects f n.known
+  pub held : InFrame Fits f × InHeap Fits s.store.held.objects
+  pub weighs : WeighsUnits s.store.held.weigh
 
 -- after a part
 abbrev pub after_it : Origin → Heap → Standing → Origin
@@ -100,30 +102,39 @@ pub since_more : {n : Origin} {f : Frame} {s : State} {m : ℕ} {heap : Heap} �
     IsSince (record { turns = m; heap = heap; known = n.known }) f s → IsSince n f s
 since_more {n = n} {s = s} {heap = heap} le g h = record {
   few = let few = h.few in omega arith;
-  grows = grows_then n.heap heap s.store.heap g h.grows;
+  grows = grows_then n.heap heap s.store.held.objects g h.grows;
   typed = h.typed;
   are = h.are;
   held = h.held;
+  weighs = h.weighs;
 }
 
 -- What a part returns that is of a type: the turns have fallen, the heap has grown and is typed, what is known after it is so, and each procedure that
 -- is held fits.
 pub record IsLeft (n : Origin) (last : Standing) (ty : TyView) (v : Value) (f : Frame) (s : State) : Type 0 where
   pub few : s.store.turns ≤ n.turns
-  pub grows : Grows n.heap s.store.heap
-  pub typed : IsTypedHeap s.store.heap
-  pub are : IsStanding s.store.heap f last
-  pub value : IsOf s.store.heap ty v
-  pub held : InFrame Fits f × InHeap Fits s.store.heap
+  pub grows : Grows n.heap s.store.held.objects
+  pub typed : IsTypedHeld s.store.held
+  pub are : IsStanding s.store.held.objects f last
+  pub value : IsOf s.store.held.objects ty v
+  pub held : InFrame Fits f × InHeap Fits s.store.held.objects
   pub literal : IsLiteral Fits v
+  pub weighs : WeighsUnits s.store.held.weigh
 
 abbrev pub Behind : Origin → Standing → TyView → Outcome → Type 0
 Behind n last ty (Value_is v f s) = IsLeft n last ty v f s
 Behind n last ty (Ends e s) = Unit {0}
 
 pub since_left : (n : Origin) (last : Standing) (ty : TyView) (v : Value) (f : Frame) (s : State) → IsLeft n last ty v f s →
-    IsSince (after_it n s.store.heap last) f s
-since_left n last ty v f s left = record { few = left.few; grows = grows_not s.store.heap; typed = left.typed; are = left.are; held = left.held }
+    IsSince (after_it n s.store.held.objects last) f s
+since_left n last ty v f s left = record {
+      few = left.few;
+      grows = grows_not s.store.held.objects;
+      typed = left.typed;
+      are = left.are;
+      held = left.held;
+      weighs = left.weighs;
+    }
 
 -- a part that takes turns alone, and yields a value of a type
 pub record Leads (n : Origin) (last : Standing) (ty : TyView) (a : Meaning) : Type 0 where
@@ -131,23 +142,24 @@ pub record Leads (n : Origin) (last : Standing) (ty : TyView) (a : Meaning) : Ty
   pub sound : Sound n.heap n.known last ty a
   pub holds : Holds Fits a
 
-left_of : (n : Origin) (last : Standing) (ty : TyView) (turns : ℕ) (old : Heap) (o : Outcome) → turns ≤ n.turns → Grows n.heap old → Falls turns o →
-    combining.Comes old last ty o → Left Fits o → Behind n last ty o
-left_of n last ty turns old (Value_is v f s) le g falls h k = record {
-  few = omega arith;
-  grows = grows_then n.heap old s.store.heap g h.grows;
+left_of : (n : Origin) (last : Standing) (ty : TyView) (old : Store) (o : Outcome) → old.turns ≤ n.turns → Grows n.heap old.held.objects →
+    WeighsUnits old.held.weigh → Falls old o → combining.Comes old.held.objects last ty o → Left Fits o → Behind n last ty o
+left_of n last ty old (Value_is v f s) le g weighs falls h k = record {
+  few = let fewer = falls.0 in omega arith;
+  grows = grows_then n.heap old.held.objects s.store.held.objects g h.grows;
   typed = h.typed;
   are = h.are;
   value = h.value;
   held = (k.1, k.2);
   literal = k.0;
+  weighs = subst WeighsUnits (sym falls.1) weighs;
 }
-left_of n last ty turns old (Ends e s) le g falls h k = tt
+left_of n last ty old (Ends e s) le g weighs falls h k = tt
 
 pub leads_left : {n : Origin} {last : Standing} {ty : TyView} {a : Meaning} {f : Frame} {s : State} → Leads n last ty a → IsSince n f s →
     Behind n last ty (a f s)
 leads_left {n = n} {last = last} {ty = ty} {a = a} {f = f} {s = s} leads since =
-    left_of n last ty s.store.turns s.store.heap (a f s) since.few since.grows (leads.falls f s)
+    left_of n last ty s.store (a f s) since.few since.grows since.weighs (leads.falls f s)
     (leads.sound.runs f s since.grows since.typed since.are) (leads.holds f s since.held.0 since.held.1)
 
 pub leads_more : {n : Origin} {last : Standing} {ty : TyView} {a : Meaning} {m : ℕ} {heap : Heap} → m ≤ n.turns → Grows n.heap heap →
@@ -179,7 +191,7 @@ module _ (w : Way) where
   -- where the run stands after a clause of this type that came to this
   abbrev pub Comes : ℕ → List ℤ → List Value → TyView → Outcome → Type 0
   Comes k nums refs ty (Value_is v f s) = w.Holds (place k (nums_left ty v ++ nums) (refs_left ty v ++ refs) f s.store) s.events
-  Comes k nums refs ty (Ends e s) = w.Final e s.store.counted s.events
+  Comes k nums refs ty (Ends e s) = w.Final e s.store.held.counted s.events
 
   -- there is room for so many words more on each stack
   pub record Room (need : ℕ) (nums : List ℤ) (refs : List Value) : Type 0 where
@@ -192,22 +204,22 @@ module _ (w : Way) where
         w.Holds (place p (bn ++ nums) (br ++ refs) f s.store) s.events
 
   -- one step
-  pub step : {c next : Config} {so_far events : List Event} (i : Instr) → IsAt (code_in c.unit) c.at i → act i c ≡ Goes events next →
+  pub step : {c next : Config} {so_far events : List Event} (i : Instr) → IsAt (code_in c.unit) c.at i → act i c ≡ Goes (compiled_events events) next →
       w.Holds next (so_far ++ events) → w.Holds c so_far
   step {c = c} i at e h = w.goes (subst (λ (s : Step). Steps c s) e (at_instruction at)) h
 
   pub quiet : {c next : Config} {so_far : List Event} (i : Instr) → IsAt (code_in c.unit) c.at i → act i c ≡ on next → w.Holds next so_far →
       w.Holds c so_far
-  quiet {next = next} {so_far = so_far} i at e h = step i at e (subst (λ (es : List Event). w.Holds next es) (sym (append-nil so_far)) h)
+  quiet {next = next} {so_far = so_far} i at e h = step {events = []} i at e (subst (λ (es : List Event). w.Holds next es) (sym (append-nil so_far)) h)
 
-  pub halt : {c : Config} {so_far : List Event} {e : End} (i : Instr) → IsAt (code_in c.unit) c.at i → act i c ≡ Stops e →
-      w.Final e c.store.counted so_far → w.Holds c so_far
+  pub halt : {c : Config} {so_far : List Event} {e : End} {touched : ℕ} (i : Instr) → IsAt (code_in c.unit) c.at i → act i c ≡ Stops e touched →
+      w.Final e (touched + c.store.held.counted) so_far → w.Holds c so_far
   halt {c = c} i at e h = w.stops (subst (λ (s : Step). Steps c s) e (at_instruction at)) h
 
   -- where as many bytes are counted as in a state
-  pub halt_there : {c : Config} {e : End} (i : Instr) (s : State) → c.store.counted ≡ s.store.counted → IsAt (code_in c.unit) c.at i →
-      act i c ≡ Stops e →
-      w.Final e s.store.counted s.events → w.Holds c s.events
+  pub halt_there : {c : Config} {e : End} (i : Instr) (s : State) → c.store.held.counted ≡ s.store.held.counted → IsAt (code_in c.unit) c.at i →
+      act i c ≡ Stops e 0 →
+      w.Final e s.store.held.counted s.events → w.Holds c s.events
   halt_there {e = e} i s same at acts h = halt i at acts (subst (λ (n : ℕ). w.Final e n s.events) (sym same) h)
 
   pub less_room : (need need' : ℕ) (nums : List ℤ) (refs : List Value) → need ≤ need' → Room need' nums refs → Room need nums refs
@@ -243,7 +255,7 @@ module _ (w : Way) where
       Room need nums refs → (o : Outcome) → Behind n last tya o → Comes k nums refs ty (after o b) → Comes q nums refs tya o
   unfolding after
   comes_then n last need q k nums refs tya ty b db room (Value_is v f s) left reach =
-      (db s.store.heap v left.grows left.value left.literal).by nums refs f s room (since_left n last tya v f s left) reach
+      (db s.store.held.objects v left.grows left.value left.literal).by nums refs f s room (since_left n last tya v f s left) reach
   comes_then n last need q k nums refs tya ty b db room (Ends e s) left reach = reach
 
   -- one part, and then another that takes its value, of which each procedure fits
@@ -279,7 +291,7 @@ module _ (w : Way) where
   comes_over n last nb q k bn br nums refs tya ty b db room (Value_is v f s) left reach =
       subst (λ (zs : List ℤ). w.Holds (place q zs (refs_left tya v ++ (br ++ refs)) f s.store) s.events) (append_assoc (nums_left tya v) bn nums)
       (subst (λ (vs : List Value). w.Holds (place q ((nums_left tya v ++ bn) ++ nums) vs f s.store) s.events) (append_assoc (refs_left tya v) br refs)
-      ((db s.store.heap v left.grows left.value left.literal).by nums refs f s room (since_left n last tya v f s left) reach))
+      ((db s.store.held.objects v left.grows left.value left.literal).by nums refs f s room (since_left n last tya v f s left) reach))
   comes_over n last nb q k bn br nums refs tya ty b db room (Ends e s) left reach = reach
 
   -- one part over words that stay, and then another that takes its value, of which each procedure fits, and those words
@@ -435,14 +447,22 @@ module _ (w : Way) where
     by = λ nums refs f s room since reach. halt i at (acts nums refs f s.store) reach;
   }
 
+  -- what is output is as it was
+  out_compiled : (bytes : List ℕ) (counted : ℕ) → some_out bytes counted ≡ compiled_events (some_out bytes counted)
+  out_compiled [] counted = refl
+  out_compiled (byte ∷ bytes) counted = refl
+
   write_goes : (q : ℕ) (before : Config) (line : Line) (width : Option ℤ) (bytes : List ℕ) (i : Instr) (fits : Bool) (nums : List ℤ)
       (refs : List Value)
-      (f : Frame) (s : State) → before.store.counted ≡ s.store.counted → IsAt (code_in before.unit) before.at i →
-      act i before ≡ (if fits then Goes (some_out (in_places width bytes) s.store.counted) (place q nums refs f s.store) else Stops
-      (Trapped TooLong line)) →
+      (f : Frame) (s : State) → before.store.held.counted ≡ s.store.held.counted → IsAt (code_in before.unit) before.at i →
+      act i before ≡ (if fits then Goes (some_out (in_places width bytes) s.store.held.counted) (place q nums refs f s.store) else Stops
+      (Trapped TooLong line) 0) →
       Comes q nums refs types.Void ((if fits then emit (in_places width bytes) else stop (Trapped TooLong line)) f s) → w.Holds before s.events
   unfolding emit stop
-  write_goes q before line width bytes i true nums refs f s same at acts reach = step i at acts reach
+  write_goes q before line width bytes i true nums refs f s same at acts reach =
+      let events = some_out (in_places width bytes) s.store.held.counted in
+      step {events = events} i at
+      (acts ∙ ap (λ (es : List Event). Goes es (place q nums refs f s.store)) (out_compiled (in_places width bytes) s.store.held.counted)) reach
   write_goes q before line width bytes i false nums refs f s same at acts reach = halt_there i s same at acts reach
 
   -- an instruction that writes
@@ -459,7 +479,7 @@ module _ (w : Way) where
 
   -- an instruction that ends the run
   pub does_stop : (n : Origin) (p k : ℕ) (ty : TyView) (e : End) (i : Instr) →
-      ((nums : List ℤ) (refs : List Value) (f : Frame) (store : Store) → act i (place p nums refs f store) ≡ Stops e) → IsAt (code_in w.unit) p i →
+      ((nums : List ℤ) (refs : List Value) (f : Frame) (store : Store) → act i (place p nums refs f store) ≡ Stops e 0) → IsAt (code_in w.unit) p i →
       Does n [] [] (stop e) ty 0 p k
   unfolding stop
   does_stop n p k ty e i acts at = record { by = λ nums refs f s room since reach. halt i at (acts nums refs f s.store) reach }
@@ -533,7 +553,7 @@ module _ (w : Way) where
   -- an instruction that takes a turn and goes to a place, where one is left
   pub turn_goes : (k to : ℕ) (before : Config) (i : Instr) (nums after_nums : List ℤ) (refs after_refs : List Value) (ty : TyView) (f : Frame)
       (s : State)
-      (turns : ℕ) (next : Value → Meaning) → before.store.counted ≡ s.store.counted → IsAt (code_in before.unit) before.at i →
+      (turns : ℕ) (next : Value → Meaning) → before.store.held.counted ≡ s.store.held.counted → IsAt (code_in before.unit) before.at i →
       act i before ≡ turn_to (with_turns (compiled_store s.store) turns) to (place (before.at + width_of i) nums refs f s.store) →
       ((events : List Event) (left : ℕ) → left < turns →
       Comes k after_nums after_refs ty (next Nothing f (record { events = events; store = record s.store { turns = left } })) →
@@ -542,7 +562,7 @@ module _ (w : Way) where
   unfolding after
   turn_goes k to before i nums after_nums refs after_refs ty f s zero next same at acts rest reach = halt_there i s same at acts reach
   turn_goes k to before i nums after_nums refs after_refs ty f s (suc left) next same at acts rest reach =
-      step i at acts (rest (s.events ++ Turn s.store.counted ∷ []) left (omega arith) reach)
+      step {events = Turn s.store.held.counted ∷ []} i at acts (rest (s.events ++ Turn s.store.held.counted ∷ []) left (omega arith) reach)
 
   -- the test of a loop: with a turn to the start of its clause, or on
   again_goes : (p to : ℕ) (v : Value) (nums : List ℤ) (refs : List Value) (f : Frame) (store : Store) → to < p → is_one (word_of v) ≡ true →
@@ -576,7 +596,7 @@ module _ (w : Way) where
         at
         (again_goes p to v nums refs f s.store lt is)
         (λ events left less. d.by nums refs f _ room
-        (record { few = let few = since.few in omega arith; grows = since.grows; typed = since.typed; are = since.are; held = since.held })) reach;
+        (record { few = let few = since.few in omega arith; grows = since.grows; typed = since.typed; are = since.are; held = since.held; weighs = since.weighs })) reach;
   }
   does_again n need p to heap known v next d lt at false is = record {
     by = λ nums refs f s room since reach. quiet (instr.Again to) at (if_false (is_one (word_of v)) _ _ is) reach;
@@ -614,15 +634,15 @@ module _ (w : Way) where
   -- what the machine does for an outcome
   abbrev pub stepped : ℕ → List ℤ → List Value → TyView → Outcome → Step
   stepped k nums refs ty (Value_is v f s) = on (place k (nums_left ty v ++ nums) (refs_left ty v ++ refs) f s.store)
-  stepped k nums refs ty (Ends e s) = Stops e
+  stepped k nums refs ty (Ends e s) = Stops e 0
 
   by_outcome : (k : ℕ) (nums : List ℤ) (refs : List Value) (ty : TyView) (before : Config) (old : State) (i : Instr) (o : Outcome) →
-      IsAt (code_in before.unit) before.at i → before.store.counted ≡ old.store.counted → act i before ≡ stepped k nums refs ty o → IsQuiet old o →
+      IsAt (code_in before.unit) before.at i → before.store.held.counted ≡ old.store.held.counted → act i before ≡ stepped k nums refs ty o → IsQuiet old o →
       Comes k nums refs ty o → w.Holds before old.events
   by_outcome k nums refs ty before old i (Value_is v f s) at same acts is reach =
       quiet i at acts (subst (λ (es : List Event). w.Holds (place k (nums_left ty v ++ nums) (refs_left ty v ++ refs) f s.store) es) is reach)
   by_outcome k nums refs ty before old i (Ends e s) at same acts is reach =
-      halt_there i old same at acts (subst (λ (t : State). w.Final e t.store.counted t.events) is reach)
+      halt_there i old same at acts (subst (λ (t : State). w.Final e t.store.held.counted t.events) is reach)
 
   -- an instruction that does what is meant
   pub does_meant : {n : Origin} {bn : List ℤ} {br : List Value} {m : Meaning} {ty : TyView} (p need : ℕ) (i : Instr) →

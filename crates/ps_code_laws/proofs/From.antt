@@ -33,7 +33,7 @@ module _ (w : Way) where
       Room w need nums refs → (o : Outcome) → On mid o → Behind n last tya o → Comes w k nums refs ty (after o b) → Comes w q nums refs tya o
   unfolding after
   comes_from n last need q k nums refs tya ty mid b db room (Value_is v f s) is left reach =
-      (db s.store.heap v left.grows left.value).by nums refs f s is room (since_left n last tya v f s left) reach
+      (db s.store.held.objects v left.grows left.value).by nums refs f s is room (since_left n last tya v f s left) reach
   comes_from n last need q k nums refs tya ty mid b db room (Ends e s) is left reach = reach
 
   pub then_from : {n : Origin} {pre : Frame → Type 0} {bn : List ℤ} {br : List Value} {a : Meaning} {tya ty : TyView} {last : Standing}

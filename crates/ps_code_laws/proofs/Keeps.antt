@@ -9,17 +9,28 @@ use Rattle.ps_gen.specs.ps_program.declared.place.Place.TheVariants.{Plain, Kept
 use Rattle.ps_gen.specs.ps_program.Node.{Node, Nodes, none, more, Arms, no_arms, more_arms, arm, BodyNode}
 use Rattle.ps_gen.specs.ps_program.Node as node
 use Rattle.ps_typing_laws.specs.ps_typing.Placing.{is_number}
-use Rattle.ps_typing_laws.specs.ps_typing.WellTyped.{Some_is, Env, Free, IsLocal, Claim, ◌has◌, all_have, arms_have, behind_loop, Rule, Opens, Declares, IsTyped, AreTyped, AreItems, Arguments}
+use Rattle.ps_typing_laws.specs.ps_typing.Library.{caller}
+use Rattle.ps_typing_laws.specs.ps_typing.WellTyped.{Some_is, Env, Free, IsLocal, Claim, ◌has◌, all_have, arms_have, behind_loop, behind_scan, Rule, Opens, Declares, IsTyped, AreTyped, AreItems, Arguments}
 use Rattle.ps_typing_laws.specs.ps_typing.WellTyped as typed
 use Rattle.ps_typing_laws.specs.Counted.{Each}
 use Rattle.ps_typing_laws.proofs.Tracked.{Grows, tree_grows, LocalsBelow, locals_grow, declared, track, track_all, all_grows}
 use Rattle.ps_stepping.specs.ps_heap.Operators.{Answer, Gives, Traps, neg_of, arith_of, is_same}
+use Rattle.ps_stepping.specs.ps_heap.Ends.{OutOfTurns}
 use Rattle.ps_stepping.specs.ps_heap.Values.{Value, Num, Flag, Text, Nil, Pointer, Vector, Procedure, Nothing, as_written, word_of, flag_of, shown}
 use Rattle.ps_stepping.specs.ps_heap.Texts.{Attempt, Yields, Fails, line_read, behind_line}
 use Rattle.ps_stepping.specs.ps_heap.Objects.{Heap, Object}
-use Rattle.ps_stepping.specs.ps_meaning.Meaning.{Frame, Store, State, Outcome, Value_is, Ends, Meaning, give, stop, after, ◌>>=◌, choose, answer, attempt, with_heap, put_heap, made, made_text, made_procedure, with_input, put_input, enter, back_in, back_to, scoped, in_scope, in_frame, emit, in_places, is_width, written, turned, spent, take_turn, with_local, unbuilt, get, set}
+use Rattle.ps_stepping.specs.ps_heap.Tables.{Key, string_key, int_key}
+use Rattle.ps_stepping.specs.ps_heap.Held.{Held, assigning, touching, reading}
+use Rattle.ps_stepping.specs.ps_heap.Held as held
+use Rattle.ps_stepping.specs.ps_heap.Calls as calls
+use Rattle.ps_stepping.specs.ps_heap.Library.{LibraryProcedure, OnHeap, ReadLine, AtEnd, Length, IntText, library_procedure, heap_call}
+use Rattle.ps_stepping.specs.ps_heap.Scans.{Found, most_scan_calls, next_key, scan_arguments}
+use Rattle.ps_stepping.specs.ps_meaning.Meaning.{Frame, Store, State, Outcome, Value_is, Ends, Meaning, give, stop, after, ◌>>=◌, choose, answer, attempt, with_heap, change, touch, read, assign, put_answer, answered, made, made_text, made_procedure, with_input, put_input, enter, back_in, back_to, scoped, in_scope, in_frame, emit, in_places, is_width, written, turned, spent, take_turn, with_local, get, set}
 use Rattle.ps_stepping.specs.ps_meaning.Frames.{frame_of_call}
-use Rattle.ps_stepping.specs.ps_meaning.Evaluation.{Context, while_turns, Counting, goes_on, in_turn, for_turns, for_loop, for_meant, is_equal, make_meant, most_calls, call_meant, read_line, at_end, lib_meant, eval, eval_all, eval_each, eval_arms, eval_labels}
+use Rattle.ps_stepping.specs.ps_meaning.Operations.{is_equal, make_meant, read_line, at_end, lib_meant}
+use Rattle.ps_stepping.specs.ps_meaning.Loops.{while_turns, Counting, goes_on, in_turn, for_turns, for_loop, for_meant, Scanning, set_last, scan_call, scan_next, scan_turns, begin_scan}
+use Rattle.ps_stepping.specs.ps_meaning.Evaluation.{Context, most_calls, call_meant, eval, eval_all, eval_each, eval_arms, eval_labels}
+use Rattle.ps_code_laws.proofs.LibraryWalks.{scan_by}
 
 -- the local has the value that it had
 abbrev pub Same : ℕ → Frame → Outcome → Type 0
@@ -50,10 +61,6 @@ leaves_give : (x : ℕ) (v : Value) → Leaves x (give v)
 unfolding give
 leaves_give x v f s = refl
 
-leaves_unbuilt : (x : ℕ) → Leaves x unbuilt
-unfolding unbuilt give
-leaves_unbuilt x f s = refl
-
 leaves_stop : (x : ℕ) (e : _) → Leaves x (stop e)
 unfolding stop
 leaves_stop x e f s = tt
@@ -76,11 +83,31 @@ leaves_attempt x line (Fails trap) next h = leaves_stop x _
 
 leaves_with_heap : (x : ℕ) (next : Heap → Meaning) → ((heap : Heap) → Leaves x (next heap)) → Leaves x (with_heap next)
 unfolding with_heap
-leaves_with_heap x next h f s = h s.store.heap f s
+leaves_with_heap x next h f s = h s.store.held.objects f s
 
-leaves_put_heap : (x : ℕ) (heap : Heap) → Leaves x (put_heap heap)
-unfolding put_heap
-leaves_put_heap x heap f s = refl
+leaves_change : (x : ℕ) (v : Value) (does : Held → Held) → Leaves x (change v does)
+unfolding change
+leaves_change x v does f s = refl
+
+leaves_touch : (x : ℕ) (ids : List ℕ) → Leaves x (touch ids)
+leaves_touch x ids = leaves_change x Nothing (touching ids)
+
+leaves_put_answer : (x : ℕ) (a : calls.Answer) → Leaves x (put_answer a)
+unfolding put_answer
+leaves_put_answer x a f s = refl
+
+leaves_answered : (x : ℕ) (line : Line) (call : Held → Attempt calls.Answer) → Leaves x (answered line call)
+unfolding answered
+leaves_answered x line call f s = leaves_attempt x line (call s.store.held) put_answer (λ a. leaves_put_answer x a) f s
+
+-- what is read of the heap, and what is put there
+leaves_read : (x : ℕ) (line : Line) (a : Heap → Attempt Value) → Leaves x (with_heap (λ heap. attempt line (a heap) read))
+leaves_read x line a = leaves_with_heap x _ (λ heap. leaves_attempt x line (a heap) read (λ v. leaves_change x v (reading v)))
+
+leaves_put : (x : ℕ) (line : Line) (a : Heap → Attempt Heap) (place : Heap → held.Place) →
+    Leaves x (with_heap (λ heap. attempt line (a heap) (assign (place heap))))
+leaves_put x line a place =
+    leaves_with_heap x _ (λ heap. leaves_attempt x line (a heap) (assign (place heap)) (λ new. leaves_change x Nothing (assigning (place heap) new)))
 
 leaves_made : (x : ℕ) (denoting : ℕ → Value) (object : Object) → Leaves x (made denoting object)
 unfolding made
@@ -111,7 +138,7 @@ unfolding take_turn
 leaves_turn x f s = leaves_turned x (spent s.store) f s
 
 leaves_get : (x : ℕ) (place : Place) (ty : TyView) → Leaves x (get place ty)
-unfolding get
+unfolding get change
 leaves_get x (Plain slot) ty f s = refl
 leaves_get x (Kept up position) ty f s = refl
 
@@ -134,7 +161,7 @@ unfolding set
 leaves_set x slot ty v apart f s = other_in_frame x slot v f (is_number ty) apart
 
 pub leaves_kept : (x up position : ℕ) (ty : TyView) (v : Value) → Leaves x (set (Kept up position) ty v)
-unfolding set
+unfolding set change
 leaves_kept x up position ty v f s = refl
 
 leaves_made_procedure : (x : ℕ) (of : BodyNode) → Leaves x (made_procedure of)
@@ -227,6 +254,59 @@ leaves_for x n line slot scope control a b c clause below at_control ha hb hc h 
     leaves_loop x n line (record { slot = slot; scope = scope; control = control; limit = word_of limit; step = word_of step }) clause apart_first at_control h
     (word_of start)))))))
 
+-- Scans: their locals of the number stack lie above this one, and all others stand on the other stack.
+leaves_above : (x slot : ℕ) (ty : TyView) (v : Value) (next : Meaning) → x < slot → Leaves x next → Leaves x (set (Plain slot) ty v >>= λ u. next)
+leaves_above x slot ty v next below h = leaves_then x (set (Plain slot) ty v) (λ u. next) (leaves_set x slot ty v (λ is e. omega arith)) (λ u. h)
+
+leaves_ref : (x slot : ℕ) (ty : TyView) (v : Value) → is_number ty ≡ false → Leaves x (set (Plain slot) ty v)
+leaves_ref x slot ty v isnt = leaves_set x slot ty v (λ is e. absurd cc)
+
+leaves_ref_then : (x slot : ℕ) (ty : TyView) (v : Value) (next : Meaning) → is_number ty ≡ false → Leaves x next →
+    Leaves x (set (Plain slot) ty v >>= λ u. next)
+leaves_ref_then x slot ty v next isnt h = leaves_then x (set (Plain slot) ty v) (λ u. next) (leaves_ref x slot ty v isnt) (λ u. h)
+
+leaves_last : (x : ℕ) (scan : Scanning) → x < scan.nums → (key : Key) → Leaves x (set_last scan key)
+leaves_last x scan below (string_key bytes) = leaves_ref x (scan.refs + 2) types.Str (Text bytes) refl
+leaves_last x scan below (int_key z) = leaves_set x (scan.nums + 1) types.Int (Num z) (λ is e. omega arith)
+
+leaves_scan_call : (x : ℕ) (scan : Scanning) → x < scan.nums → ((args : List Value) → Leaves x (scan.call args)) → (count : ℕ) (again : Key → Meaning)
+    (found : Found) → ((key : Key) → Leaves x (again key)) → Leaves x (scan_call scan count again found)
+unfolding scan_call
+leaves_scan_call x scan below called count again found h =
+    leaves_then x (set_last scan found.key) _ (leaves_last x scan below found.key) (λ u.
+    leaves_above x (scan.nums + 2) types.Int (Num (pos 1)) _ (omega arith)
+    (leaves_then x (scan.call (scan_arguments found)) _ (called (scan_arguments found)) (λ more.
+    leaves_above x scan.nums types.Int (Num (pos (suc count))) _ below
+    (leaves_choose x (flag_of more) _ _ (leaves_then x take_turn _ (leaves_turn x) (λ t. h found.key)) (leaves_give x (Num (pos (suc count))))))))
+
+leaves_scan_next : (x : ℕ) (scan : Scanning) → x < scan.nums → ((args : List Value) → Leaves x (scan.call args)) → (count : ℕ) (again : Key → Meaning)
+    (found : Option Found) → ((key : Key) → Leaves x (again key)) → Leaves x (scan_next scan count again found)
+unfolding scan_next
+leaves_scan_next x scan below called count again None h = leaves_give x (Num (pos count))
+leaves_scan_next x scan below called count again (Some found) h =
+    leaves_then x (touch (found.object ∷ [])) _ (leaves_touch x (found.object ∷ [])) (λ u.
+    leaves_choose x (nat_eq count most_scan_calls) _ _ (leaves_stop x _) (leaves_scan_call x scan below called count again found h))
+
+leaves_scan_turns : (x n : ℕ) (scan : Scanning) → x < scan.nums → ((args : List Value) → Leaves x (scan.call args)) → (last : Option Key) (count : ℕ) →
+    Leaves x (scan_turns n scan last count)
+unfolding scan_turns
+leaves_scan_turns x zero scan below called last count =
+    leaves_with_heap x _ (λ heap. leaves_attempt x scan.line (next_key scan.strings heap scan.table last) _
+    (λ found. leaves_scan_next x scan below called count (λ key. stop OutOfTurns) found (λ key. leaves_stop x OutOfTurns)))
+leaves_scan_turns x (suc n) scan below called last count =
+    leaves_with_heap x _ (λ heap. leaves_attempt x scan.line (next_key scan.strings heap scan.table last) _
+    (λ found. leaves_scan_next x scan below called count (λ key. scan_turns n scan (Some key) (suc count)) found
+    (λ key. leaves_scan_turns x n scan below called (Some key) (suc count))))
+
+leaves_begin_scan : (x : ℕ) (strings : Bool) (refs nums : ℕ) (a f : Meaning) (next : Value → Value → Meaning) → x < nums → Leaves x a → Leaves x f →
+    ((table procedure : Value) → Leaves x (next table procedure)) → Leaves x (begin_scan strings refs nums a f next)
+unfolding begin_scan
+leaves_begin_scan x strings refs nums a f next below ha hf h =
+    leaves_then x a _ ha (λ table. leaves_ref_then x refs types.Pntr table _ refl
+    (leaves_then x f _ hf (λ procedure. leaves_ref_then x (refs + 1) (caller (if strings then types.Str else types.Int)) procedure _ refl
+    (leaves_above x nums types.Int (Num (pos 0)) _ below (leaves_above x (nums + 1) types.Int (Num (pos 0)) _ (omega arith)
+    (leaves_above x (nums + 2) types.Int (Num (pos 0)) _ (omega arith) (h table procedure)))))))
+
 -- clauses that each keep a local
 abbrev pub KeepClaim : ℕ → Claim → Type 0
 KeepClaim x claim = Keeps x claim.clause
@@ -287,11 +367,13 @@ leaves_at_end : (x : ℕ) → Leaves x at_end
 unfolding at_end
 leaves_at_end x = leaves_with_input x _ (λ input. leaves_give x _)
 
-leaves_lib : (x : ℕ) (line : Line) (code : ℕ) (vs : List Value) → Leaves x (lib_meant line code vs)
-leaves_lib x line code [] =
-    leaves_either x (nat_eq code 9) _ _ (leaves_read_line x line) (leaves_either x (nat_eq code 10) _ _ (leaves_at_end x) (leaves_unbuilt x))
-leaves_lib x line code (v ∷ vs) =
-    leaves_either x (nat_eq code 11) _ _ (leaves_give x _) (leaves_either x (nat_eq code 12) _ _ (leaves_made_text x _) (leaves_unbuilt x))
+leaves_lib : (x : ℕ) (line : Line) (of : Option LibraryProcedure) (vs : List Value) → Leaves x (lib_meant line of vs)
+leaves_lib x line (Some (OnHeap of)) vs = leaves_answered x line (heap_call of vs)
+leaves_lib x line (Some ReadLine) vs = leaves_read_line x line
+leaves_lib x line (Some AtEnd) vs = leaves_at_end x
+leaves_lib x line (Some Length) vs = leaves_give x _
+leaves_lib x line (Some IntText) vs = leaves_made_text x _
+leaves_lib x line None vs = leaves_give x Nothing
 
 keeps_by_rule : (x : ℕ) {t : Node} {claims : List Claim} {ty : TyView} → Rule t claims ty → Each (KeepClaim x) claims → Keeps x t
 unfolding eval
@@ -337,10 +419,9 @@ keeps_by_rule x (typed.part {a = a} {i = i} {n = n} {line = line}) h c =
 keeps_by_rule x (typed.make {class = class} {args = args} of are) h c =
     leaves_each x c args (make_meant class) (keep_arguments x are h) (λ vs. leaves_made x Pointer _)
 keeps_by_rule x (typed.field {p = p} {class = class} {index = index} {line = line} of) h c =
-    leaves_then x (eval c p) _ (h.0 c) (λ o. leaves_with_heap x _ (λ heap. leaves_attempt x line _ give (λ v. leaves_give x v)))
+    leaves_then x (eval c p) _ (h.0 c) (λ o. leaves_read x line _)
 keeps_by_rule x (typed.set_field {p = p} {e = e} {line = line} of) h c =
-    leaves_then x (eval c p) _ (h.0 c) (λ o. leaves_then x (eval c e) _ (h.1.0 c)
-    (λ v. leaves_with_heap x _ (λ heap. leaves_attempt x line _ put_heap (λ new. leaves_put_heap x new))))
+    leaves_then x (eval c p) _ (h.0 c) (λ o. leaves_then x (eval c e) _ (h.1.0 c) (λ v. leaves_put x line _ _))
 keeps_by_rule x (typed.fill {l = l} {u = u} {e = e} {line = line} isnt) h c =
     leaves_then x (eval c l) _ (h.0 c) (λ low. leaves_then x (eval c u) _ (h.1.0 c) (λ high. leaves_then x (eval c e) _ (h.1.1.0 c)
     (λ v. leaves_attempt x line _ (made Vector) (λ object. leaves_made x Vector object))))
@@ -348,15 +429,14 @@ keeps_by_rule x (typed.elems {l = l} {items = items} {t = t} {line = line}) h c 
     leaves_then x (eval c l) _ (h.0 c) (λ low. leaves_each x c items _ (keep_items x t items h.1)
     (λ vs. leaves_attempt x line _ (made Vector) (λ object. leaves_made x Vector object)))
 keeps_by_rule x (typed.element {v = v} {i = i} {line = line}) h c =
-    leaves_then x (eval c v) _ (h.0 c) (λ vector. leaves_then x (eval c i) _ (h.1.0 c)
-    (λ at. leaves_with_heap x _ (λ heap. leaves_attempt x line _ give (λ w. leaves_give x w))))
+    leaves_then x (eval c v) _ (h.0 c) (λ vector. leaves_then x (eval c i) _ (h.1.0 c) (λ at. leaves_read x line _))
 keeps_by_rule x (typed.set_element {v = v} {i = i} {e = e} {line = line}) h c =
     leaves_then x (eval c v) _ (h.0 c) (λ vector. leaves_then x (eval c i) _ (h.1.0 c) (λ at. leaves_then x (eval c e) _ (h.1.1.0 c)
-    (λ w. leaves_with_heap x _ (λ heap. leaves_attempt x line _ put_heap (λ new. leaves_put_heap x new)))))
+    (λ w. leaves_put x line _ _)))
 keeps_by_rule x (typed.bound {v = v} {upper = upper}) h c =
     leaves_then x (eval c v) _ (h.0 c) (λ vector. leaves_with_heap x _ (λ heap. leaves_give x _))
 keeps_by_rule x (typed.lib {code = code} {args = args} {line = line} of are) h c =
-    leaves_each x c args (lib_meant line code) (keep_arguments x are h) (λ vs. leaves_lib x line code vs)
+    leaves_each x c args (lib_meant line (library_procedure code)) (keep_arguments x are h) (λ vs. leaves_lib x line (library_procedure code) vs)
 keeps_by_rule x (typed.call {f = f} {args = args} {line = line} are) h c =
     leaves_then x (eval c f) _ (h.0 c)
     (λ v. leaves_each x c args (call_meant c line v) (keep_arguments x are h.1) (λ args. leaves_call x c line v args))
@@ -399,7 +479,18 @@ keeps_for x slot a b c scope control s line opens below at_control ha hb hc h co
     (hb context)
     (hc context) (h context)
 
--- inside a loop by `for`
+keeps_scan : (x : ℕ) (strings : Bool) (a f : Node) (refs nums : ℕ) (line : Line) → x < nums → Keeps x a → Keeps x f →
+    Keeps x (node.Scan strings a f refs nums line)
+unfolding eval
+keeps_scan x strings a f refs nums line below ha hf context =
+    leaves_begin_scan x strings refs nums (eval context a) (eval context f) _ below (ha context) (hf context) (λ table procedure.
+    leaves_scan_turns x context.bound (scan_by context line strings refs nums table procedure) below
+    (λ args. leaves_call x context line procedure args) None 0)
+
+-- inside a scan, and inside a loop by `for`
+pub locals_in_scan : (env : Env) (free : Free) → LocalsBelow env free → LocalsBelow env (behind_scan free)
+locals_in_scan env free locals = locals_grow env free (behind_scan free) (record { nums = omega arith; refs = omega arith }) locals
+
 pub locals_in_loop : (env : Env) (free : Free) → LocalsBelow env free → LocalsBelow env (behind_loop free)
 locals_in_loop env free locals = locals_grow env free (behind_loop free) (record { nums = omega arith; refs = omega arith }) locals
 
@@ -427,7 +518,9 @@ mutual
       let body = keeps x t (locals_grow own behind between last d.below) (let h = last.nums in omega arith)
       (declared_unnamed x declares (omega arith) apart) in
       keeps_for x slot a b c scope control s line opens (omega arith) (declared_apart x declares (omega arith)) three.0 three.1.0 three.1.1.0 body
-  keeps x (typed.scan q_is s_is are) locals below apart = λ c. leaves_unbuilt x
+  keeps x (typed.scan {env = env} {free = free} {string = string} {a = a} {f = f} {q = q} {s = s} {line = line} q_is s_is are) locals below apart =
+      let both = keeps_each x are (locals_in_scan env free locals) (omega arith) apart in
+      keeps_scan x string a f q s line (omega arith) both.0 both.1.0
   keeps x (typed.literal is_body) locals below apart = λ c. leaves_made_procedure x _
 
   pub keeps_each : (x : ℕ) {env : Env} {free free' : Free} {claims : List Claim} → AreTyped env free claims free' → LocalsBelow env free →

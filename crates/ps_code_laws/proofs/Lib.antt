@@ -1,4 +1,7 @@
 pub mod Compiling
+pub mod HeldCompiling
+pub mod CommitCompiling
+pub mod LibraryCompiling
 pub mod Standing
 pub mod Keeps
 pub mod Known
@@ -8,6 +11,7 @@ pub mod Clauses
 pub mod Naming
 pub mod Building
 pub mod TypeOf
+pub mod LibraryWalks
 pub mod Falls
 pub mod Staying
 pub mod Literals

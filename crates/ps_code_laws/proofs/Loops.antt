@@ -18,7 +18,7 @@ use Rattle.ps_stepping.specs.ps_heap.Objects.{Heap}
 use Rattle.ps_stepping.specs.ps_heap.Ends.{Trapped}
 use Rattle.ps_stepping.specs.ps_heap.Values.{Value, Num, Nothing, word_of}
 use Rattle.ps_stepping.specs.ps_meaning.Meaning.{Frame, Store, State, Outcome, Value_is, Ends, Meaning, give, stop, after, ◌>>=◌, choose, in_scope, with_turns, spent, take_turn, with_local, set}
-use Rattle.ps_stepping.specs.ps_meaning.Evaluation.{Counting, goes_on, in_turn, for_turns, for_loop, for_meant}
+use Rattle.ps_stepping.specs.ps_meaning.Loops.{Counting, goes_on, in_turn, for_turns, for_loop, for_meant}
 use Rattle.ps_stepping.specs.Config.{Config, code_in, constants_in, constant_at, frame_in, IsAt}
 use Rattle.ps_stepping.specs.Machine.{turn_to, started, counted, act}
 use Rattle.ps_code_laws.specs.Compiled.{compiled_store}
@@ -111,9 +111,9 @@ module _ (w : Way) where
     -- from an instruction that takes a turn to the turns with this number, where so many may be left
     abbrev Turns : ℕ → Type 0
     Turns m = (z : ℤ) (before : Config) (i : Instr) (nums : List ℤ) (refs : List Value) (f : Frame) (s : State) →
-        before.store.counted ≡ s.store.counted → IsAt (code_in before.unit) before.at i →
+        before.store.held.counted ≡ s.store.held.counted → IsAt (code_in before.unit) before.at i →
         act i before ≡ turn_to (spent (compiled_store s.store)) turn (place w (before.at + width_of i) nums refs f s.store) →
-        IsSince (since m s.store.heap n.known) f s → m ≤ n.turns → Grows n.heap s.store.heap → is_int z ≡ true → At z f → Room w need nums refs →
+        IsSince (since m s.store.held.objects n.known) f s → m ≤ n.turns → Grows n.heap s.store.held.objects → is_int z ≡ true → At z f → Room w need nums refs →
         Comes w (q + 9) nums refs types.Void (for_turns m loop clause z f s) → w.Holds before s.events
 
     counted_is : (z : ℤ) (nums : List ℤ) (refs : List Value) (f : Frame) (store : Store) → At z f →
@@ -144,11 +144,11 @@ module _ (w : Way) where
             limit_is = ap word_of (other_local f.nums slot (slot + 1) (Num z') (λ e. omega arith)) ∙ is.limit_is;
             step_is = ap word_of (other_local f.nums slot (slot + 2) (Num z') (λ e. omega arith)) ∙ is.step_is;
           } in
-          let set_types = (h.typed.counts z' s.store.heap).runs f s (grows_not s.store.heap) known.typed known.are in
+          let set_types = (h.typed.counts z' s.store.held.objects).runs f s (grows_not s.store.held.objects) known.typed known.are in
           let held = holds_set Fits (Plain slot) types.Int (Num z') tt f s known.held.0 known.held.1 in
           rest z' (place w q nums refs f s.store) (instr.ForNext slot turn) nums refs g s refl h.next_at acts
-          (record { few = known.few; grows = grows_not s.store.heap; typed = known.typed; are = set_types.are; held = (held.1, held.2) }) le
-          (grows_then n.heap heap s.store.heap grown known.grows)
+          (record { few = known.few; grows = grows_not s.store.held.objects; typed = known.typed; are = set_types.are; held = (held.1, held.2); weighs = known.weighs }) le
+          (grows_then n.heap heap s.store.held.objects grown known.grows)
           (goes_on_int limit step_by z' on_it) now room reach;
     }
     next_does m heap z le grown rest false on_it = record {
@@ -176,13 +176,14 @@ module _ (w : Way) where
         none_left) reach
     turns_go (suc m) z before i nums refs f s same at acts known le grown is_number is room reach =
         turn_goes w (q + 9) turn before i nums nums refs refs types.Void f s s.store.turns _ same at acts
-        (λ events left less reach'. (turn_does m s.store.heap z (omega arith) grown is_number (turns_go m)).by nums refs f _ is room
+        (λ events left less reach'. (turn_does m s.store.held.objects z (omega arith) grown is_number (turns_go m)).by nums refs f _ is room
         (record {
           few = let few = known.few in omega arith;
-          grows = grows_not s.store.heap;
+          grows = grows_not s.store.held.objects;
           typed = known.typed;
           are = known.are;
           held = known.held;
+          weighs = known.weighs;
         }) reach') reach
 
     -- the start of a loop
@@ -212,8 +213,8 @@ module _ (w : Way) where
             on_it
             ∙ ap (λ (to : ℕ). turn_to (spent (compiled_store s.store)) to (place w (p + 13) nums refs f s.store)) turn_is in
             turns_go n.turns z (place w p nums refs f s.store) (instr.ForStart slot (q + 9) line) nums refs f s refl start_at acts
-            (record { few = known.few; grows = grows_not s.store.heap; typed = known.typed; are = known.are; held = known.held }) (omega arith)
-            (grows_then n.heap heap s.store.heap grown known.grows) (goes_on_int limit step_by z on_it) is room reach;
+            (record { few = known.few; grows = grows_not s.store.held.objects; typed = known.typed; are = known.are; held = known.held; weighs = known.weighs }) (omega arith)
+            (grows_then n.heap heap s.store.held.objects grown known.grows) (goes_on_int limit step_by z on_it) is room reach;
       }
       start_does heap grown z false false is_zero on_it = record {
         by = λ nums refs f s is room known reach. jump_goes w p (q + 9) (place w (p + 13) nums refs f s.store) (instr.ForStart slot (q + 9) line)

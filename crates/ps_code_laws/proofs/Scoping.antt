@@ -15,7 +15,7 @@ use Rattle.ps_stepping.specs.Machine.{Step, on, act}
 use Rattle.ps_stepping.specs.Procedures.{of_scope}
 use Rattle.ps_soundness.specs.Running.{IsScopeText}
 use Rattle.ps_soundness.specs.Shapes.{AreScopes, IsTypedHeap, AreLocals, IsSameSort, Grows}
-use Rattle.ps_soundness.proofs.Growing.{grows_not, grows_then, grows_new, at_new, locals_kept}
+use Rattle.ps_soundness.proofs.Growing.{grows_not, grows_then, grows_new, at_new, roots_kept, locals_kept}
 use Rattle.ps_soundness.proofs.Combining.{Standing, AreAround}
 use Rattle.ps_soundness.proofs.Scopes.{scope_made}
 use Rattle.ps_code_laws.specs.Compiled.{compiled_heap}
@@ -54,13 +54,13 @@ inside_kept old new bytes parent g =
     record { text = bytes; names = kept.0; is = stays.is ∙ ap (λ (o : Object). Some o) kept.1 }
 
 abbrev InsideOn : ℕ → Option ℕ → Outcome → Type 0
-InsideOn id parent (Value_is v g t) = IsInside t.store.heap id parent
+InsideOn id parent (Value_is v g t) = IsInside t.store.held.objects id parent
 InsideOn id parent (Ends e t) = Unit {0}
 
 inside_on : (n : Origin) (last : Standing) (ty : TyView) (old : Heap) (bytes : List ℕ) (parent : Option ℕ) (o : Outcome) →
     Grows (with_new old (new_scope bytes parent)) n.heap → Behind n last ty o → InsideOn (new_number old) parent o
 inside_on n last ty old bytes parent (Value_is v g t) from left =
-    inside_kept old t.store.heap bytes parent (grows_then (with_new old (new_scope bytes parent)) n.heap t.store.heap from left.grows)
+    inside_kept old t.store.held.objects bytes parent (grows_then (with_new old (new_scope bytes parent)) n.heap t.store.held.objects from left.grows)
 inside_on n last ty old bytes parent (Ends e t) from left = tt
 
 locals_in : (heap : Heap) (frame : Frame) (scope : Option ℕ) (locals : List Local) → AreLocals heap frame locals →
@@ -71,37 +71,38 @@ locals_in heap frame scope (local ∷ locals) h = (h.0, locals_in heap frame sco
 -- what is known where a new scope has been entered
 pub entered_since : (n : Origin) (bytes : List ℕ) (wholes : List (List Field)) (own : IsScopeText bytes) (f : Frame) (s : State) →
     n.known.wholes ≡ Some wholes → IsSince n f s →
-    IsSince (after_it n (with_new s.store.heap (new_scope bytes f.scope)) (opened n.known own.fields wholes))
-    (record f { scope = Some (new_number s.store.heap) }) (record s { store = and_object (new_scope bytes f.scope) s.store })
+    IsSince (after_it n (with_new s.store.held.objects (new_scope bytes f.scope)) (opened n.known own.fields wholes))
+    (record f { scope = Some (new_number s.store.held.objects) }) (record s { store = and_object (new_scope bytes f.scope) s.store })
 unfolding enter
 entered_since n bytes wholes own f s are since =
-    let old = s.store.heap in
+    let old = s.store.held.objects in
     let new = with_new old (new_scope bytes f.scope) in
     let around = subst (λ (of : Option (List (List Field))). AreAround old f.scope of n.known.scopes) are since.are.1 in
     let made = subst (λ (t : List ℕ). IsTypedHeap (with_new old (new_scope t f.scope))
     × AreScopes (with_new old (new_scope t f.scope)) (Some (new_number old)) (own.fields ∷ wholes) ([] ∷ n.known.scopes)) (sym own.text_is)
-    (scope_made old f.scope own.fields wholes n.known.scopes own.named since.typed around) in
+    (scope_made old f.scope own.fields wholes n.known.scopes own.named since.typed.0 around) in
     let held = holds_enter Fits bytes f s since.held.0 since.held.1 in
     record {
       few = since.few;
       grows = grows_not new;
-      typed = made.0;
+      typed = (made.0, roots_kept old new (grows_new old (new_scope bytes f.scope)) s.store.held.directory since.typed.1);
       are = (
         locals_in new f (Some (new_number old)) n.known.locals
             (locals_kept old new (grows_new old (new_scope bytes f.scope)) f n.known.locals since.are.0),
         made.1,
       );
       held = (held.1, held.2);
+      weighs = since.weighs;
     }
 
 module _ (w : Way) where
   leave_acts : (q : ℕ) (nums : List ℤ) (refs : List Value) (g : Frame) (store : Store) (id : ℕ) (parent : Option ℕ) → g.scope ≡ Some id →
-      IsInside store.heap id parent →
+      IsInside store.held.objects id parent →
       act instr.Leave (place w q nums refs g store) ≡ on (place w (q + 1) nums refs (record g { scope = parent }) store)
   leave_acts q nums refs g store id parent in_it inside =
       let behind : Option ℕ → Step = λ scope. on (place w (q + 1) nums refs (record g { scope = scope }) store) in
-      ap (λ (at : Option ℕ). of_scope (scope_at (compiled_heap store.heap) at) (λ of round. behind round)) in_it
-      ∙ ap (λ (found : Option Object). of_scope found (λ of round. behind round)) (object_compiled store.heap id ∙ ap compiled_found inside.is)
+      ap (λ (at : Option ℕ). of_scope (scope_at (compiled_heap store.held.objects) at) (λ of round. behind round)) in_it
+      ∙ ap (λ (found : Option Object). of_scope found (λ of round. behind round)) (object_compiled store.held.objects id ∙ ap compiled_found inside.is)
 
   comes_left : (q : ℕ) (nums : List ℤ) (refs : List Value) (ty : TyView) (scope : Option ℕ) (id : ℕ) (o : Outcome) → IsIn (Some id) o →
       InsideOn id scope o → Stand w q instr.Leave → Comes w (q + 1) nums refs ty (back_in scope o) → Comes w q nums refs ty o
@@ -121,7 +122,7 @@ module _ (w : Way) where
   unfolding scoped ◌>>=◌ after enter
   from_scoped {n = n} {m = m} {ty = ty} {need = need} {last = last} p q k bytes wholes own are at there leave stays into leads d = record {
     by = λ nums refs f s is room since reach.
-        let old = s.store.heap in
+        let old = s.store.held.objects in
         let new = with_new old (new_scope bytes f.scope) in
         let inner : Frame = record f { scope = Some (new_number old) } in
         let held : State = record s { store = and_object (new_scope bytes f.scope) s.store } in

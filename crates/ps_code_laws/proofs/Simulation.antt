@@ -28,7 +28,8 @@ use Rattle.ps_stepping.specs.ps_heap.Objects.{Heap}
 use Rattle.ps_stepping.specs.ps_heap.Ends.{Trapped}
 use Rattle.ps_stepping.specs.ps_heap.Values.{Value, Num, Flag, Text, Nil, Procedure, Nothing, as_written, number_of, word_of, flag_of, bytes_of, shown}
 use Rattle.ps_stepping.specs.ps_meaning.Meaning.{Frame, Store, State, Meaning, give, after, ◌>>=◌, choose, answer, made_text, made_procedure, written, and_closure, set}
-use Rattle.ps_stepping.specs.ps_meaning.Evaluation.{compares, join_meant, part_meant, make_meant, elements_meant, fill_meant, set_field_meant, element_meant, set_element_meant, call_meant, eval, eval_all, eval_each, eval_arms, eval_labels}
+use Rattle.ps_stepping.specs.ps_meaning.Operations.{compares, join_meant, part_meant, make_meant, elements_meant, fill_meant, set_field_meant, element_meant, set_element_meant}
+use Rattle.ps_stepping.specs.ps_meaning.Evaluation.{call_meant, eval, eval_all, eval_each, eval_arms, eval_labels}
 use Rattle.ps_gen.specs.ps_emitter.Choices as choice
 use Rattle.ps_type_text.specs.Texts.{Field, type_text}
 use Rattle.ps_gen.specs.Emission.{items_in, size, size_all, size_arms, size_labels, count, count_all, count_arms, emit, emit_all, emit_arms, emit_labels}

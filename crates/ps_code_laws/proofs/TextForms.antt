@@ -7,7 +7,7 @@ use Rattle.ps_gen.specs.ps_base.declared.instr.Instr.TheVariants as instr
 use Rattle.ps_stepping.specs.ps_heap.Values.{Value, Num, Text, word_of, bytes_of}
 use Rattle.ps_stepping.specs.ps_heap.Texts.{join_of, part_of}
 use Rattle.ps_stepping.specs.ps_meaning.Meaning.{give, made_text}
-use Rattle.ps_stepping.specs.ps_meaning.Evaluation.{join_meant, part_meant}
+use Rattle.ps_stepping.specs.ps_meaning.Operations.{join_meant, part_meant}
 use Rattle.ps_soundness.specs.Shapes.{IsOf}
 use Rattle.ps_code_laws.specs.Compiled.{compiled}
 use Rattle.ps_code_laws.proofs.Doing.{Origin, Way, Does, does_meant, push_goes}

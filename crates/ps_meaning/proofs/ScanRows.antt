@@ -19,7 +19,7 @@ use Rattle.ps_heap.specs.Calls.{enter_call, cardinality_call}
 use Rattle.ps_heap.specs.Scans.{next_key}
 use Rattle.ps_heap.specs.Events.{Event, Out, Turn}
 use Rattle.ps_heap.proofs.Scenes.{entry, table_with, held_by, value_by}
-use Rattle.ps_meaning.specs.Meaning.{Outcome, Value_is, Ends, State, Meaning, on_held, give, stop, after, ◌>>=◌, choose, attempt, change, with_heap, take_turn, in_frame, back_to, set}
+use Rattle.ps_meaning.specs.Meaning.{Outcome, Value_is, Ends, State, Meaning, on_held, give, stop, after, ◌>>=◌, choose, attempt, change, with_heap, take_turn, touch_scope, in_frame, back_to, set}
 use Rattle.ps_meaning.specs.Frames.{frame_of_call}
 use Rattle.ps_meaning.specs.Loops.{scan_turns, scan_next, scan_call}
 use Rattle.ps_meaning.specs.Evaluation.{call_meant}
@@ -67,7 +67,7 @@ scan_by n strings does table scope last count state =
       refs = 0;
       nums = 0;
       table = table;
-      call = call_meant (record { bound = 0; depth = does.depth; call = λ of args. take_turn >>= λ t. noting does args }) at (Procedure (as_written nothing_done) scope);
+      call = call_meant (record { bound = 0; depth = does.depth; call = λ of args. take_turn >>= λ t. touch_scope >>= λ u. noting does args }) at (Procedure (as_written nothing_done) scope);
     }) last count fresh_frame state
 
 -- a box, a table by strings with it under "a", "c" and "d", a table by ints, a new table, and a scope; all are committed but the tables

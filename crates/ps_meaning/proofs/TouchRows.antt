@@ -87,7 +87,7 @@ unfolding digits eval is_one_object give stop after ◌>>=◌ choose answer atte
     is_first_touch events_with outcome_with all_events fresh_frame fresh_state series_events
 field_is_read = refl
 
--- a procedure is counted with the object that it is read with, and its scope where it is called, before the turn
+-- a procedure is counted with the object that it is read with, and its scope where it is called, after the turn
 abbrev counts_once : BodyNode
 counts_once = runs (let_be 0 (opens (codes "d") [] (codes "read")) ∷ let_be 1 (looks_up (codes "k") (of 0)) ∷ next_number ∷ [])
 
@@ -95,7 +95,7 @@ abbrev with_counter : Heap
 with_counter = root ∷ Structure counter (Procedure (as_written ticks) (Some 2) ∷ []) ∷ Scope (codes "scope(int n)") None (Num (pos 2) ∷ []) ∷ []
 
 procedure_is_called : counts with_counter (Some 1 ∷ Some 1 ∷ Some 1 ∷ []) counts_once
-    ≡ asked counts_once ∷ (asked counts_once + 200 + (56 + 72 + 56 + code_weight ticks) + 120) ∷ (asked counts_once + 200 + (56 + 72 + 56 + code_weight ticks) + 120) ∷ (asked counts_once + 200 + (56 + 72 + 56 + code_weight ticks) + 120) ∷ []
+    ≡ asked counts_once ∷ (asked counts_once + 200 + (56 + 72 + 56 + code_weight ticks)) ∷ (asked counts_once + 200 + (56 + 72 + 56 + code_weight ticks) + 120) ∷ (asked counts_once + 200 + (56 + 72 + 56 + code_weight ticks) + 120) ∷ []
 unfolding digits eval is_one_object give stop after ◌>>=◌ choose answer attempt answered put_answer change with_heap made made_text made_procedure enter back_in back_to scoped in_frame emit
     written take_turn get set for_turns for_loop for_meant scan_turns scan_next scan_call begin_scan call_meant kept_all is_class field_of with_field
     new_scope scope_out name_in with_name forms_of forms_from form_here form_in begins arguments_on frame_of_call keep keep_all body_meant call_within

@@ -12,9 +12,8 @@ use Rattle.ps_heap.specs.Operators.{neg_of, arith_of}
 use Rattle.ps_heap.specs.Ends.{Trapped}
 use Rattle.ps_heap.specs.Values.{Value, Num, Flag, Text, Nil, Procedure, Nothing, as_written, word_of, flag_of, shown}
 use Rattle.ps_heap.specs.Objects.{is_class}
-use Rattle.ps_heap.specs.References.{scope_ids}
 use Rattle.ps_heap.specs.Library.{library_procedure}
-use Rattle.ps_meaning.specs.Meaning.{Meaning, give, stop, ◌>>=◌, choose, answer, with_heap, touch, made_procedure, in_scope, in_frame, written, get, set}
+use Rattle.ps_meaning.specs.Meaning.{Meaning, give, stop, ◌>>=◌, choose, answer, with_heap, made_procedure, in_scope, in_frame, written, get, set}
 use Rattle.ps_meaning.specs.Frames.{frame_of_call}
 use Rattle.ps_meaning.specs.Loops.{while_turns, for_meant, scan_turns, begin_scan}
 use Rattle.ps_meaning.specs.Operations.{make_meant, elements_meant, fill_meant, field_meant, set_field_meant, element_meant, set_element_meant, bound_meant, join_meant, part_meant, compares, is_equal, lib_meant}
@@ -26,11 +25,9 @@ pub record Context : Type 0 where
   pub depth : ℕ
   pub call : BodyNode → List Value → Meaning
 
--- Calls. The scope of the procedure is touched. At most `most_calls` are inside one another, and this is tested before a call takes its turn; after it
--- the frame is the one before. No typed program calls what is no procedure: each name that a body can mention has its value when the body is called.
+-- Calls. At most `most_calls` are inside one another, and this is tested before a call takes its turn; after it the frame is the one before. No typed program calls what is no procedure: each name that a body can mention has its value when the body is called.
 unfoldable pub call_meant : Context → Line → Value → List Value → Meaning
 call_meant c line (Procedure (as_written of) scope) args =
-    touch (scope_ids scope) >>= λ u.
     choose (nat_lt c.depth most_calls) (in_frame (frame_of_call of scope args) (c.call of args)) (stop (Trapped TooDeep line))
 call_meant c line _ args = stop (Trapped trap.Nil line)
 

@@ -15,6 +15,7 @@ use Rattle.ps_heap.specs.Objects.{Heap, Object, new_number}
 use Rattle.ps_heap.specs.Scopes.{new_scope, kept_name}
 use Rattle.ps_heap.specs.Weights.{text_weight, closure_weight}
 use Rattle.ps_heap.specs.Held.{Held, counting, assigning, touching, reading, reading_name, assigned_name}
+use Rattle.ps_heap.specs.References.{scope_ids}
 use Rattle.ps_heap.specs.Held as held
 use Rattle.ps_heap.specs.Calls as calls
 use Rattle.ps_heap.specs.Ends.{End, Trapped, OutOfTurns}
@@ -112,6 +113,10 @@ change v does frame state = Value_is v frame (holding state (on_held (does state
 -- these objects are touched
 abbrev pub touch : List ℕ → Meaning
 touch ids = change Nothing (touching ids)
+
+-- the scope that the clause stands in is touched
+abbrev pub touch_scope : Meaning
+touch_scope frame state = touch (scope_ids frame.scope) frame state
 
 -- a value is given that was read from a place: the object that it denotes is touched
 abbrev pub read : Value → Meaning

@@ -18,8 +18,8 @@ use Rattle.ps_soundness.specs.Running.{ArePlaces, RunsIn, BodyRuns}
 use Rattle.ps_soundness.specs.Free.{AllBelow, AreBelow}
 use Rattle.ps_soundness.specs.Shapes.{IsOf, AreScopes, type_of_body, AreLocals, ComesToInside, IsTypedHeld}
 use Rattle.ps_soundness.proofs.Telling.{Told}
-use Rattle.ps_soundness.proofs.Growing.{grows_not}
-use Rattle.ps_soundness.proofs.Combining.{stand, over, Comes, Sound, sound_then, sound_nothing, sound_turn, narrowed}
+use Rattle.ps_soundness.proofs.Growing.{grows_not, grows_then}
+use Rattle.ps_soundness.proofs.Combining.{stand, over, Comes, Sound, sound_then, sound_nothing, sound_turn, sound_touch_scope, narrowed}
 use Rattle.ps_soundness.proofs.Calling.{ValuesOf, values_kept, Answers, sound_opened}
 use Rattle.ps_soundness.proofs.Declaring.{climbs_one, below_climbs, below_one, declare_kept}
 use Rattle.ps_soundness.proofs.Clauses.{sound}
@@ -176,8 +176,9 @@ within_answers told (suc n) depth = record {
       let heap = state.store.held.objects in
       let called = of_call of is.wholes is.scopes told is.typed is.runs in
       let args_are = subst (λ (tys : TyViews). ValuesOf heap tys args) (taken_is of ps g is.ty_is) are in
-      let whole = sound_then (sound_turn {heap = heap}) (λ new t k done.
-      called.sounds (context n depth) (within_answers told n (suc depth)) new args (values_kept heap new k (taken of) args args_are)) in
+      let whole = sound_then (sound_turn {heap = heap}) (λ turned t k done. sound_then (sound_touch_scope {heap = turned}) (λ new u l touched.
+      called.sounds (context n depth) (within_answers told n (suc depth)) new args
+      (values_kept heap new (grows_then heap turned new k l) (taken of) args args_are))) in
       subst (λ (ty : TyView). Comes heap (over []) ty (call_within (suc n) depth of args (frame_of_call of scope args) state))
       (sym (given_is of ps g is.ty_is))
       (whole.runs (frame_of_call of scope args) state (grows_not heap) typed_heap (

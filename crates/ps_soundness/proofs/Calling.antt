@@ -12,7 +12,6 @@ use Rattle.ps_meaning.specs.ps_typing.WellTyped.{Local, At, IsOfType, and_kept, 
 use Rattle.ps_heap.specs.Values.{Value, Procedure, as_written}
 use Rattle.ps_heap.specs.Texts.{Yields, Fails, is_string, line_of, line_read, behind_line}
 use Rattle.ps_heap.specs.Objects.{Heap, with_new, new_number}
-use Rattle.ps_heap.specs.References.{scope_ids}
 use Rattle.ps_heap.specs.Scopes.{new_scope, with_kept_name}
 use Rattle.ps_meaning.specs.Meaning.{Frame, State, Outcome, Value_is, Ends, Meaning, ◌>>=◌, after, change, get, set as set_at, with_input, put_input, made_procedure, enter, back_in, back_to, scoped, in_frame}
 use Rattle.ps_meaning.specs.Frames.{frame_of_call}
@@ -25,7 +24,7 @@ use Rattle.ps_soundness.proofs.Operators.{OnYield}
 use Rattle.ps_soundness.proofs.Growing.{grows_not, roots_kept, grows_then, grows_new, of_kept, procedure_kept, locals_kept, scopes_kept}
 use Rattle.ps_soundness.proofs.Fields.{kept_by_type}
 use Rattle.ps_soundness.proofs.Scopes.{found, name_read, name_put, name_declared, scope_made, has_value}
-use Rattle.ps_soundness.proofs.Combining.{Standing, IsStanding, standing_kept, over, Comes, Sound, sound_then, sound_give, sound_stop, sound_choose, sound_attempt, sound_touch, sound_made_text}
+use Rattle.ps_soundness.proofs.Combining.{Standing, IsStanding, standing_kept, over, Comes, Sound, sound_then, sound_give, sound_stop, sound_choose, sound_attempt, sound_made_text}
 
 -- values of these types
 abbrev pub ValuesOf : Heap → TyViews → List Value → Type 0
@@ -65,16 +64,14 @@ pub sound_call : {heap : Heap} {known : Standing} (c : Context) → Answers c.ca
     (g : TyView) → IsOf heap (types.Proc ps g) v → ValuesOf heap ps args → Sound heap known known g (call_meant c line v args)
 unfolding call_meant in_frame
 sound_call {heap = heap} {known = known} c calls line (Procedure (as_written of) scope) args ps g is are =
-    sound_then (sound_touch (scope_ids scope)) (λ new u more touched.
     sound_choose (nat_lt c.depth most_calls)
     (record {
       runs = λ frame state grown typed standing.
           let now = state.store.held.objects in
-          let all = grows_then heap new now more grown in
           comes_back now known g frame (c.call of args (frame_of_call of scope args) state) (calls.answers of scope args ps g state typed
-          (procedure_kept heap now all (types.Proc ps g) of scope is) (values_kept heap now all ps args are)) standing;
+          (procedure_kept heap now grown (types.Proc ps g) of scope is) (values_kept heap now grown ps args are)) standing;
     })
-    (sound_stop _))
+    (sound_stop _)
 sound_call c calls line v args ps g is are = absurd is
 
 -- Input.

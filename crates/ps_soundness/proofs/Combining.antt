@@ -13,7 +13,8 @@ use Rattle.ps_heap.specs.Texts.{Attempt, Yields, Fails, is_string}
 use Rattle.ps_heap.specs.Objects.{Heap, Object, object_at, with_new, new_number}
 use Rattle.ps_heap.specs.Held.{Held, Place}
 use Rattle.ps_heap.specs.Calls as calls
-use Rattle.ps_meaning.specs.Meaning.{Frame, Store, State, Outcome, Value_is, Ends, Meaning, give, stop, after, ◌>>=◌, choose, answer, attempt, with_heap, made, made_text, emit, in_places, is_width, written, turned, with_turns, spent, take_turn, frame_with, get, set, change, read, touch, assign, put_answer, answered}
+use Rattle.ps_heap.specs.References.{scope_ids}
+use Rattle.ps_meaning.specs.Meaning.{Frame, Store, State, Outcome, Value_is, Ends, Meaning, give, stop, after, ◌>>=◌, choose, answer, attempt, with_heap, made, made_text, emit, in_places, is_width, written, turned, with_turns, spent, take_turn, frame_with, get, set, change, read, touch, touch_scope, assign, put_answer, answered}
 use Rattle.ps_soundness.specs.Shapes.{IsOf, AreScopes, IsTypedObject, IsTypedHeap, AreLocals, Grows, IsTypedHeld}
 use Rattle.ps_soundness.proofs.Operators.{GivesInt, OnYield}
 use Rattle.ps_soundness.proofs.Growing.{grows_not, grows_then, of_kept, object_kept, roots_kept, locals_kept, scopes_kept, at_new, grows_new, typed_new}
@@ -205,6 +206,9 @@ unfolding change
 sound_touch ids = record {
   runs = λ frame state g typed are. record { grows = grows_not state.store.held.objects; typed = typed; are = are; value = tt };
 }
+
+pub sound_touch_scope : {heap : Heap} {known : Standing} → Sound heap known known types.Void touch_scope
+sound_touch_scope = record { runs = λ frame state g typed are. (sound_touch (scope_ids frame.scope)).runs frame state g typed are }
 
 -- what a call of the library answers
 pub record IsAnswered (before : Held) (ty : TyView) (a : calls.Answer) : Type 0 where

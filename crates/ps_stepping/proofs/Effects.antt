@@ -56,7 +56,7 @@ does_test c f = popped_num (nums 2 1) c c (λ b d. pop_num d (λ a e. put_num (n
 
 does_written : (e : Effect) (c d : Config) (line : Line) (width : Option ℤ) (bytes : List ℕ) → HasEffect e c d → Does e c (written line width bytes d)
 does_written e c d line width bytes h =
-    does_if e c (is_width width) (Goes (some_out (in_places width bytes) d.store.held.counted) d) (Stops (Trapped TooLong line)) h tt
+    does_if e c (is_width width) (Goes (some_out (in_places width bytes) d.store.held.counted) d) (Stops (Trapped TooLong line) 0) h tt
 
 does_write_num : (w : ℕ) (c : Config) (line : Line) (show : ℤ → List ℕ) → Does (nums (1 + width_and w) 0) c (write_num w line show c)
 does_write_num zero c line show =
@@ -93,7 +93,7 @@ does_taken c next h = popped_num (nums 1 0) c c next (λ z rest is. behind_one z
   where
     behind_one : (z : ℤ) (rest : List ℤ) → c.nums ≡ z ∷ rest → (s : Step) → Does nothing (record c { nums = rest }) s → Does (nums 1 0) c s
     behind_one z rest is (Goes events next) m = record { nums = omega (arith, ap length is, m.nums); refs = m.refs }
-    behind_one z rest is (Stops e) m = tt
+    behind_one z rest is (Stops e touched) m = tt
     behind_one z rest is Stuck m = tt
 
 does_for_start : (own s to : ℕ) (line : Line) (c : Config) → Does nothing c (for_start own s to line c)
@@ -101,7 +101,7 @@ does_for_start own s to line c =
     let turn = turn_to (spent c.store) c.at c in
     let goes = goes_on (c.locals.nums (s + 1)) (c.locals.nums (s + 2)) (c.locals.nums s) in
     does_if nothing c (is_num_slot c (s + 2)) (started own to line (c.locals.nums s) (c.locals.nums (s + 1)) (c.locals.nums (s + 2)) c) Stuck
-    (does_if nothing c (is_same (c.locals.nums (s + 2)) (pos 0)) (Stops (Trapped Bounds line)) (if goes then turn else forward own to c) tt
+    (does_if nothing c (is_same (c.locals.nums (s + 2)) (pos 0)) (Stops (Trapped Bounds line) 0) (if goes then turn else forward own to c) tt
     (does_if nothing c goes turn (forward own to c) (does_turn nothing c c c.at (spent c.store)
     (λ next n r. record { nums = omega (arith, ap length n); refs = omega (arith, ap length r) })) (does_forward own to c))) tt
 

@@ -69,7 +69,7 @@ unfolding library_procedure heap_call enter_call lookup_call cardinality_call lo
     decision are_writable next_key next_string next_int home_at touched_after touched_weight is_first_touch places_with is_among
 entry_is_found = refl
 
-ints_are_no_keys_here : library 7 line (at (pos 1 ∷ []) (Pointer 0 ∷ []) with_k 0) ≡ Stops (Trapped trap.KeyKind line)
+ints_are_no_keys_here : library 7 line (at (pos 1 ∷ []) (Pointer 0 ∷ []) with_k 0) ≡ Stops (Trapped trap.KeyKind line) 0
 unfolding library_procedure heap_call enter_call lookup_call cardinality_call looked_up entered cardinality table_of asks_to_create asks_to_open open_answer admission commit_call
     decision are_writable next_key next_string next_int home_at touched_after touched_weight is_first_touch places_with is_among
 ints_are_no_keys_here = refl

@@ -76,7 +76,7 @@ number_of_a_reference : acts_on_objects (instr.FieldM 0 2 line) (at [] (Pointer 
 unfolding forms_of forms_from form_here form_in begins home_at touched_after touched_weight is_first_touch places_with way_out
 number_of_a_reference = refl
 
-nil_has_no_field : acts_on_objects (instr.FieldM 0 0 line) (at [] (Nil ∷ []) heap) ≡ Stops (Trapped trap.Nil line)
+nil_has_no_field : acts_on_objects (instr.FieldM 0 0 line) (at [] (Nil ∷ []) heap) ≡ Stops (Trapped trap.Nil line) 0
 unfolding forms_of forms_from form_here form_in begins field_of home_at touched_after touched_weight is_first_touch places_with way_out
 nil_has_no_field = refl
 
@@ -111,7 +111,7 @@ element_is_read : acts_on_objects (instr.ElemM line) (at (pos 6 ∷ []) (Vector 
 unfolding element_of is_text element_at home_at touched_after touched_weight is_first_touch places_with way_out
 element_is_read = refl
 
-element_past_the_end : acts_on_objects (instr.ElemM line) (at (pos 7 ∷ []) (Vector 1 ∷ []) heap) ≡ Stops (Trapped trap.Bounds line)
+element_past_the_end : acts_on_objects (instr.ElemM line) (at (pos 7 ∷ []) (Vector 1 ∷ []) heap) ≡ Stops (Trapped trap.Bounds line) 0
 unfolding element_of is_text element_at home_at touched_after touched_weight is_first_touch places_with way_out
 element_past_the_end = refl
 
@@ -127,7 +127,7 @@ texts_are_joined : acts_on_objects (instr.Join line) (at [] (Text (codes "c") �
 texts_are_joined = refl
 
 -- three bytes of four from the third on
-part_past_the_end : acts_on_objects (instr.Part line) (at (pos 3 ∷ pos 3 ∷ []) (Text (codes "abcd") ∷ []) []) ≡ Stops (Trapped trap.Substring line)
+part_past_the_end : acts_on_objects (instr.Part line) (at (pos 3 ∷ pos 3 ∷ []) (Text (codes "abcd") ∷ []) []) ≡ Stops (Trapped trap.Substring line) 0
 part_past_the_end = refl
 
 low_is_pushed : acts_on_objects instr.Lwb (at [] (Vector 1 ∷ []) heap) ≡ on (at (pos 5 ∷ []) [] heap)

@@ -10,7 +10,7 @@ use Rattle.ps_stepping.specs.Effects.{Effect, refs, HasEffect}
 
 abbrev pub Does : Effect → Config → Step → Type 0
 Does e c (Goes events next) = HasEffect e c next
-Does e c (Stops x) = Unit {0}
+Does e c (Stops x touched) = Unit {0}
 Does e c Stuck = Unit {0}
 
 pub does_if : (e : Effect) (c : Config) (b : Bool) (x y : Step) → Does e c x → Does e c y → Does e c (if b then x else y)

@@ -106,7 +106,7 @@ does_entered : (n : ℕ) (c d : Config) (line : Line) (of : UnitView) (scope : O
     (frame_in of).ref_params ≡ n → length d.nums + (frame_in of).num_params ≡ length c.nums → length d.refs + (n + 1) ≡ length c.refs →
     Does (enters n) c (called (length d.callers) line of scope zs vs d)
 does_entered n c d line of scope zs vs same taken on_nums on_refs =
-    does_if (enters n) c (nat_lt (length d.callers) most_calls) (in_turn (spent d.store) of scope zs vs d) (Stops (Trapped TooDeep line))
+    does_if (enters n) c (nat_lt (length d.callers) most_calls) (in_turn (spent d.store) of scope zs vs d) (Stops (Trapped TooDeep line) 0)
     (in_a_turn (spent d.store)) tt
   where
     in_a_turn : (store : Option Store) → Does (enters n) c (in_turn store of scope zs vs d)

@@ -163,7 +163,7 @@ called_body_begins : called_body ≡ record {
 unfolding called_body waits
 called_body_begins = refl
 
-no_turn_is_left : acts_on_procedures (instr.Call 1 line) (record ready { store = record ready.store { turns = 0 } }) ≡ Stops OutOfTurns
+no_turn_is_left : acts_on_procedures (instr.Call 1 line) (record ready { store = record ready.store { turns = 0 } }) ≡ Stops OutOfTurns 0
 unfolding ready home_at touched_after touched_weight is_first_touch places_with way_out
 no_turn_is_left = refl
 
@@ -184,7 +184,7 @@ last_depth : called 1999 line body None [] [] ready ≡ Goes (Turn 0 ∷ []) (bo
 unfolding ready
 last_depth = refl
 
-too_deep : called 2000 line body None [] [] (record ready { store = record ready.store { turns = 0 } }) ≡ Stops (Trapped trap.TooDeep line)
+too_deep : called 2000 line body None [] [] (record ready { store = record ready.store { turns = 0 } }) ≡ Stops (Trapped trap.TooDeep line) 0
 unfolding ready
 too_deep = refl
 
@@ -196,7 +196,7 @@ line_is_read : read_line line (reading (97 ∷ 98 ∷ 10 ∷ 99 ∷ [])) ≡ on 
 unfolding reading line_read line_of behind_line
 line_is_read = refl
 
-no_line_is_left : read_line line (reading []) ≡ Stops (Trapped trap.NoInput line)
+no_line_is_left : read_line line (reading []) ≡ Stops (Trapped trap.NoInput line) 0
 unfolding reading line_read
 no_line_is_left = refl
 
@@ -209,7 +209,7 @@ unfolding reading
 something_is_left = refl
 
 -- both by their numbers in the library
-line_by_its_number : acts_on_procedures (instr.Lib 9 line) (reading []) ≡ Stops (Trapped trap.NoInput line)
+line_by_its_number : acts_on_procedures (instr.Lib 9 line) (reading []) ≡ Stops (Trapped trap.NoInput line) 0
 unfolding library_procedure reading line_read
 line_by_its_number = refl
 

@@ -14,7 +14,7 @@ use Rattle.ps_stepping.specs.Config.{frame_words, Config, frame_in}
 use Rattle.ps_stepping.specs.Steps.{Step, Stops, Stuck, on, is_num_slot, is_ref_slot, with_num, with_ref, attempted}
 use Rattle.ps_stepping.specs.Objects.{having, object_of}
 use Rattle.ps_stepping.specs.Jumps.{forward, turn_to, back}
-use Rattle.ps_stepping.specs.Scans.{with_pushed, with_pushed_num, last_of, called_with, scan_found, scan_on, one_more, scan_more}
+use Rattle.ps_stepping.specs.Scans.{touched_now, with_pushed, with_pushed_num, last_of, called_with, scan_found, scan_on, one_more, scan_more}
 use Rattle.ps_stepping.specs.Effects.{Effect, either, nums, nothing, HasEffect}
 use Rattle.ps_stepping.proofs.Popping.{Does, does_if, popped_num}
 use Rattle.ps_stepping.proofs.ObjectEffects.{does_attempted}
@@ -84,7 +84,7 @@ does_scan_found true own q s to line None c =
 does_scan_found false own q s to line None c =
     does_if (scans false) c (nat_lt own to) (on (record c { at = to })) Stuck (◌⊎◌.inr (record { nums = refl; refs = refl })) tt
 does_scan_found strings own q s to line (Some found) c =
-    does_if (scans strings) c (is_same (c.locals.nums s) (pos most_scan_calls)) (Stops (Trapped Overflow line))
+    does_if (scans strings) c (is_same (c.locals.nums s) (pos most_scan_calls)) (Stops (Trapped Overflow line) (touched_now (found.object ∷ []) c.store.held))
     (called_with strings q s (shown_key found.key) found.object (having (touching (found.object ∷ [])) c)) tt
     (does_called strings q s (shown_key found.key) found.object c (having (touching (found.object ∷ [])) c) refl refl)
 

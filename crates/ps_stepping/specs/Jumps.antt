@@ -11,7 +11,7 @@ abbrev pub forward : ℕ → ℕ → Config → Step
 forward own to c = if nat_lt own to then on (record c { at = to }) else Stuck
 
 abbrev pub turn_to : Option Store → ℕ → Config → Step
-turn_to None to c = Stops OutOfTurns
+turn_to None to c = Stops OutOfTurns 0
 turn_to (Some store) to c = Goes (Turn store.held.counted ∷ []) (record c { at = to; store = store })
 
 abbrev pub back : ℕ → ℕ → Config → Step

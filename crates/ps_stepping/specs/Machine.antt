@@ -25,7 +25,7 @@ use Rattle.ps_stepping.specs.Config.{Caller, Config, code_in, constants_in, cons
 
 -- Writing.
 abbrev pub written : Line → Option ℤ → List ℕ → Config → Step
-written line width bytes c = if is_width width then Goes (some_out (in_places width bytes) c.store.held.counted) c else Stops (Trapped TooLong line)
+written line width bytes c = if is_width width then Goes (some_out (in_places width bytes) c.store.held.counted) c else Stops (Trapped TooLong line) 0
 
 -- a width was pushed above the item, or none
 abbrev pub pop_width : ℕ → Config → (Option ℤ → Config → Step) → Step
@@ -48,7 +48,7 @@ push_text None c = Stuck
 -- Loops by `for`: the control, the limit and the step stand in three locals from this one on.
 abbrev pub started : ℕ → ℕ → Line → ℤ → ℤ → ℤ → Config → Step
 started own to line control limit step c =
-    if is_same step (pos 0) then Stops (Trapped Bounds line)
+    if is_same step (pos 0) then Stops (Trapped Bounds line) 0
     else (if goes_on limit step control then turn_to (spent c.store) c.at c else forward own to c)
 
 abbrev pub for_start : ℕ → ℕ → ℕ → Line → Config → Step
@@ -76,7 +76,7 @@ resumed caller nums refs callers store = record {
 }
 
 abbrev pub come_back : List Caller → (Caller → Step → Step) → (Caller → List ℤ) → (Caller → List Value) → Config → Step
-come_back [] room nums refs c = Stops Done
+come_back [] room nums refs c = Stops Done 0
 come_back (caller ∷ callers) room nums refs c = room caller (on (resumed caller (nums caller) (refs caller) callers c.store))
 
 abbrev pub returned : ℕ → Config → Step
@@ -119,7 +119,7 @@ acts (Return k) own c = returned k c
 acts (WriteI w line) own c = write_num w line signed_decimal c
 acts (WriteB w line) own c = write_num w line (λ z. flag_text (is_one z)) c
 acts (WriteT w line) own c = write_text w line c
-acts (Abort line) own c = Stops (Trapped Aborted line)
+acts (Abort line) own c = Stops (Trapped Aborted line) 0
 acts (ForStart s t line) own c = for_start own s t line c
 acts (ForNext s t) own c = for_next own s t c
 acts (ScanT q s t line) own c = scan_on true own q s t line c
@@ -146,4 +146,5 @@ pub data Steps (c : Config) : Step → Type 0 where
 -- A run that has had these events so far has all of these in the end.
 pub data Runs (total : List Event) : Config → List Event → Type 0 where
   goes : {c next : Config} {so_far events : List Event} → Steps c (Goes events next) → Runs total next (so_far ++ events) → Runs total c so_far
-  stops : {c : Config} {so_far : List Event} {e : End} → Steps c (Stops e) → total ≡ so_far ++ Finish e c.store.held.counted ∷ [] → Runs total c so_far
+  stops : {c : Config} {so_far : List Event} {e : End} {touched : ℕ} → Steps c (Stops e touched) →
+      total ≡ so_far ++ Finish e (touched + c.store.held.counted) ∷ [] → Runs total c so_far

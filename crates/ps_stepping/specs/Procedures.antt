@@ -14,7 +14,7 @@ use Rattle.ps_heap.specs.Scopes.{new_scope, scope_at, scope_out, kept_name}
 use Rattle.ps_heap.specs.Values.{Value, Num, Nil, Procedure, as_compiled, word_of}
 use Rattle.ps_heap.specs.References.{scope_ids}
 use Rattle.ps_heap.specs.Held.{touching, reading_name, assigned_name}
-use Rattle.ps_meaning.specs.Meaning.{Store, and_object, and_closure, spent}
+use Rattle.ps_meaning.specs.Meaning.{Store, and_object, and_closure, on_held, spent}
 use Rattle.ps_meaning.specs.Evaluation.{most_calls}
 use Rattle.ps_stepping.specs.Config.{frame_words, Locals, Caller, Config, constants_in, frame_in, constant_at}
 use Rattle.ps_stepping.specs.Steps.{Step, Goes, Stops, Stuck, on, push_num, push_ref, pop_num, pop_ref, with_text}
@@ -99,21 +99,21 @@ body_of_call of scope zs vs store c = record {
 }
 
 abbrev pub in_turn : Option Store → UnitView → Option ℕ → List ℤ → List Value → Config → Step
-in_turn None of scope zs vs c = Stops OutOfTurns
-in_turn (Some store) of scope zs vs c = Goes (Turn store.held.counted ∷ []) (body_of_call of scope zs vs store c)
+in_turn None of scope zs vs c = Stops OutOfTurns 0
+in_turn (Some store) of scope zs vs c =
+    Goes (Turn store.held.counted ∷ []) (body_of_call of scope zs vs (on_held (touching (scope_ids scope) store.held) store) c)
 
--- With so many bodies that wait: the depth is tested, and then a turn is taken.
+-- With so many bodies that wait: the depth is tested, then a turn is taken, and then the scope of the procedure is touched.
 abbrev pub called : ℕ → Line → UnitView → Option ℕ → List ℤ → List Value → Config → Step
 called depth line of scope zs vs c =
-    if nat_lt depth most_calls then in_turn (spent c.store) of scope zs vs c else Stops (Trapped TooDeep line)
+    if nat_lt depth most_calls then in_turn (spent c.store) of scope zs vs c else Stops (Trapped TooDeep line) 0
 
--- A call with so many arguments that are references, which stand above the procedure; those that are numbers go by its frame. The scope of the procedure
--- is touched.
+-- A call with so many arguments that are references, which stand above the procedure; those that are numbers go by its frame.
 abbrev pub call : ℕ → Line → Config → Step
 call n line c =
     pop_refs n [] c (λ vs d. pop_procedure d (λ of scope e.
     if takes_refs n (frame_in of) then pop_nums (frame_in of).num_params [] e (λ zs f.
-    called (length f.callers) line of scope zs vs (having (touching (scope_ids scope)) f)) else Stuck))
+    called (length f.callers) line of scope zs vs f) else Stuck))
 
 -- Where a body comes back to one that waits, what it gives is pushed, if the frame of that one has room for it.
 abbrev pub num_back : Caller → Step → Step

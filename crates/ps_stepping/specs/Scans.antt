@@ -7,7 +7,7 @@ use Rattle.ps_heap.specs.Operators.{is_int, is_same}
 use Rattle.ps_heap.specs.Ends.{Trapped}
 use Rattle.ps_heap.specs.Values.{Value, Pointer, is_one, word_of, bytes_of}
 use Rattle.ps_heap.specs.Tables.{Key, string_key, int_key}
-use Rattle.ps_heap.specs.Held.{touching}
+use Rattle.ps_heap.specs.Held.{Held, touched_weight, touching}
 use Rattle.ps_heap.specs.Scans.{Found, most_scan_calls, next_key, shown_key}
 use Rattle.ps_stepping.specs.Config.{frame_words, Config, frame_in}
 use Rattle.ps_stepping.specs.Steps.{Step, Stops, Stuck, on, pop_num, is_num_slot, is_ref_slot, with_num, with_ref, attempted}
@@ -38,11 +38,15 @@ called_with false q s key object c =
     with_pushed (c.locals.refs (q + 1)) (with_num (with_num c (s + 1) (word_of key)) (s + 2) (pos 1)) (λ d.
     with_pushed_num (word_of key) d (λ e. with_pushed (Pointer object) e on))
 
+-- how many bytes objects weigh that are touched
+abbrev pub touched_now : List ℕ → Held → ℕ
+touched_now ids h = touched_weight h.weigh h.objects h.homes ids h.touched
+
 -- the value under the next key is touched, and the number of calls tested, before the call
 abbrev pub scan_found : Bool → ℕ → ℕ → ℕ → ℕ → Line → Option Found → Config → Step
 scan_found strings own q s to line None c = forward own to c
 scan_found strings own q s to line (Some found) c =
-    if is_same (c.locals.nums s) (pos most_scan_calls) then Stops (Trapped Overflow line)
+    if is_same (c.locals.nums s) (pos most_scan_calls) then Stops (Trapped Overflow line) (touched_now (found.object ∷ []) c.store.held)
     else called_with strings q s (shown_key found.key) found.object (having (touching (found.object ∷ [])) c)
 
 -- the next key of the table is looked for

@@ -11,10 +11,10 @@ use Rattle.ps_heap.specs.Values as value
 use Rattle.ps_meaning.specs.Meaning.{with_local}
 use Rattle.ps_stepping.specs.Config.{frame_words, Config, constants_in, frame_in, constant_at}
 
--- what a step does: it goes on with these events, it ends the run, or there is none
+-- What a step does: it goes on with these events; it ends the run, where so many bytes of objects were touched in it; or there is none.
 pub data Step : Type 0 where
   Goes : (events : List Event) (next : Config) → Step
-  Stops : (end_of_run : End) → Step
+  Stops : (end_of_run : End) (touched : ℕ) → Step
   Stuck : Step
 
 -- goes on quietly
@@ -65,7 +65,7 @@ with_ref c s v = record c { locals = record c.locals { refs = with_local c.local
 -- the value of an operator, or its trap
 abbrev pub answered : Line → Answer → Config → Step
 answered line (Gives z) c = put_num z c
-answered line (Traps trap) c = Stops (Trapped trap line)
+answered line (Traps trap) c = Stops (Trapped trap line) 0
 
 abbrev pub one_num : Line → (ℤ → Answer) → Config → Step
 one_num line f c = pop_num c (λ a d. answered line (f a) d)
@@ -96,4 +96,4 @@ with_text k c next = text_in (constant_at (constants_in c.unit) k) next
 -- goes on with what an operation yields, or ends in its trap
 abbrev pub attempted : {A : Type 0} → Line → Attempt A → (A → Step) → Step
 attempted line (Yields a) next = next a
-attempted line (Fails trap) next = Stops (Trapped trap line)
+attempted line (Fails trap) next = Stops (Trapped trap line) 0

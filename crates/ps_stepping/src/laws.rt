@@ -1,4 +1,4 @@
-ghost use Rattle.std.specs.Prelude.{◌≡◌, List, [], ◌∷◌, ◌++◌};
+ghost use Rattle.std.specs.Prelude.{◌≡◌, ℕ, ◌+◌, List, [], ◌∷◌, ◌++◌};
 ghost use Rattle.ps_code.specs.ps_base.declared.instr.Instr.{Instr};
 ghost use Rattle.ps_heap.specs.Ends.{End};
 ghost use Rattle.ps_heap.specs.Events.{Event, Finish};
@@ -20,8 +20,8 @@ pub fn rest_of_a_run()
         (behind : List Event) × Finishes last behind }
     ensures rest { (total : List Event) (c last : Config) (before behind : List Event) → Runs total c [] → Reaches c before last →
         Finishes last behind → total ≡ before ++ behind }
-    ensures end { (total : List Event) (c last : Config) (before : List Event) (e : End) → Runs total c [] → Reaches c before last →
-        Steps last (Stops e) → total ≡ before ++ Finish e last.store.held.counted ∷ [] }
+    ensures end { (total : List Event) (c last : Config) (before : List Event) (e : End) (touched : ℕ) → Runs total c [] → Reaches c before last →
+        Steps last (Stops e touched) → total ≡ before ++ Finish e (touched + last.store.held.counted) ∷ [] }
     ensures goes { (total : List Event) (c last : Config) (before : List Event) → Runs total c [] → Reaches c before last → Steps last Stuck → ⊥ }
     ensures front { (total : List Event) (c last : Config) (before : List Event) → Runs total c [] → Reaches c before last →
         (behind : List Event) × (total ≡ before ++ behind) }
