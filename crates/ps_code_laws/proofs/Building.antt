@@ -1,5 +1,5 @@
 -- The typed clauses that run in some scopes are such as the machine does, where their bodies fit.
-use Rattle.std.proofs.Common.{◌≡◌, ℕ, ◌+◌, ◌<◌, ◌≤◌, Bool, true, false, List, [], ◌∷◌, ◌++◌, length, Option, Some, None, inl, inr, refl, sym, ◌∙◌, ap, subst, arith as by_arith}
+use Rattle.std.proofs.Common.{◌≡◌, ℕ, suc, ◌+◌, ◌<◌, ◌≤◌, Bool, true, false, List, [], ◌∷◌, ◌++◌, length, Option, Some, None, inl, inr, refl, sym, ◌∙◌, ap, subst, arith as by_arith}
 use Rattle.std.specs.Prelude.{if◌then◌else◌}
 use Rattle.std.specs.List.{AllByRecursion}
 use Rattle.ps_gen.specs.ps_base.TyView.{TyView, TyViews}
@@ -10,10 +10,10 @@ use Rattle.ps_gen.specs.ps_program.declared.place.Place.TheVariants.{Plain, Kept
 use Rattle.ps_gen.specs.ps_program.Node.{Param, Node, Nodes, none, more, Arms, no_arms, more_arms, arm, BodyNode, body}
 use Rattle.ps_gen.specs.ps_program.Node as node
 use Rattle.ps_typing_laws.specs.ps_typing.Names.{lookup, plain, library}
-use Rattle.ps_typing_laws.specs.ps_typing.Library.{procedures}
+use Rattle.ps_typing_laws.specs.ps_typing.Library.{procedures, caller, two}
 use Rattle.ps_type_text.specs.Texts.{Field}
 use Rattle.ps_typing_laws.specs.ps_typing.Placing.{is_number}
-use Rattle.ps_typing_laws.specs.ps_typing.WellTyped.{At, IsOfType, Some_is, Env, Free, Local, IsLocal, IsAt, behind_one, with_local, with_scopes, and_kept, Claim, ◌has◌, all_have, arms_have, behind_loop, types_of_fields, types_of_params, IsClass, Arguments, Rule, Opens, Declares, IsTyped, AreTyped, AreItems}
+use Rattle.ps_typing_laws.specs.ps_typing.WellTyped.{At, IsOfType, Some_is, Env, Free, Local, IsLocal, IsAt, next_slot, behind_one, with_local, with_scopes, and_kept, Claim, ◌has◌, all_have, arms_have, behind_loop, types_of_fields, types_of_params, IsClass, Arguments, Rule, Opens, Declares, IsTyped, AreTyped, AreItems}
 use Rattle.ps_typing_laws.specs.ps_typing.WellTyped as typed
 use Rattle.ps_typing_laws.specs.Counted.{Each}
 use Rattle.ps_typing_laws.proofs.Tracked.{limit, Grows, tree_grows, LocalsBelow, locals_grow, declared, track, track_all, track_items, all_grows}
@@ -22,7 +22,7 @@ use Rattle.ps_stepping.specs.ps_heap.Values.{Num}
 use Rattle.ps_stepping.specs.ps_meaning.Evaluation.{eval}
 use Rattle.ps_stepping.specs.ps_meaning.Meaning.{Outcome, Value_is, Ends}
 use Rattle.ps_stepping.specs.ps_meaning.Calls.{context}
-use Rattle.ps_soundness.specs.Running.{IsPlace, HasAsMany, RunsIn, AllRunIn, IsRunLibrary}
+use Rattle.ps_soundness.specs.Running.{IsPlace, HasAsMany, RunsIn, AllRunIn}
 use Rattle.ps_soundness.specs.Free.{AllBelow}
 use Rattle.ps_soundness.specs.Valued.{IsValued, AllValued}
 use Rattle.ps_soundness.specs.Shapes.{ComesToInside}
@@ -30,19 +30,22 @@ use Rattle.ps_soundness.proofs.Telling.{Told}
 use Rattle.ps_soundness.proofs.Places.{free_slot}
 use Rattle.ps_soundness.proofs.Combining.{Standing, AreAround, IsStanding, stand, Comes, sound_then, sound_set}
 use Rattle.ps_soundness.proofs.Reading.{same_types}
-use Rattle.ps_soundness.proofs.Sequences.{library_says}
+use Rattle.ps_stepping.specs.ps_heap.Library.{CreateDatabase, OpenDatabase, Commit, MakeTable, EnterString, LookUpString, EnterInt, LookUpInt, Cardinality, LibraryProcedure, OnHeap, ReadLine, AtEnd, Length, IntText}
+use Rattle.ps_soundness.proofs.Library.{parameters_of, library_says}
 use Rattle.ps_soundness.proofs.Rules.{as_many}
-use Rattle.ps_soundness.proofs.Calling.{sound_opened}
+use Rattle.ps_soundness.proofs.Calling.{sound_opened, sound_call}
+use Rattle.ps_soundness.proofs.Scans.{key_type, SparesAll}
 use Rattle.ps_soundness.proofs.Declaring.{declared_less, scope_same, sound_set_local, declared_sound, literal_sound}
-use Rattle.ps_soundness.proofs.Bodies.{comes_to_inside}
+use Rattle.ps_soundness.proofs.Bodies.{within_answers, comes_to_inside}
 use Rattle.ps_soundness.proofs.Valued.{valued_by, field_valued}
 use Rattle.ps_code_laws.specs.Literals.{BodiesAre, AllBodiesAre, Fits}
 use Rattle.ps_code_laws.proofs.Known.{HasPlace, IsNext, opened}
 use Rattle.ps_code_laws.proofs.Known as kept
-use Rattle.ps_code_laws.proofs.Keeps.{Keeps, KeepClaim, keeps, keeps_each, Unnamed, each_left, each_right, locals_in_loop, declared_unnamed}
-use Rattle.ps_code_laws.proofs.InputCalls.{input_says}
+use Rattle.ps_code_laws.proofs.Keeps.{Spot, on_nums, on_refs, Keeps, KeepClaim, keeps, keeps_each, Unnamed, each_left, each_right, locals_in_loop, locals_in_scan, declared_unnamed}
+use Rattle.ps_code_laws.proofs.LibraryResults.{result_is}
 use Rattle.ps_code_laws.proofs.Giving.{Stands, parts_stand, GivesClaim, gives_each}
-use Rattle.ps_code_laws.proofs.Clauses.{IsNum, int, bool, IsRef, str, pntr, vector, proc, Kind, of_num, of_ref, IsLoop, Sounds, KeepsTypes, Controls, fields_by, Clause, flag, text, get_num, get_ref, set_num, set_ref, let_num, let_ref, empty, block, if_do, if_else, while, repeat, loop, kept_loop, case, and, or, not, neg, plus, arith, compare, write, write_wide, abort, nil, a_class, is_of, join, substring, structure, get_field, put_field, filled, listed, get_element, put_element, a_bound, text_length, iformat, get_kept_num, get_kept_ref, set_kept_num, set_kept_ref, let_kept_num, let_kept_ref, scoped_block, literal, let_literal, let_kept_literal, call, a_line, at_eof, Part, that, Items, at_end, an_item, ArmsAre, no_more, one_arm, AllAre, none_is, one_is, Args, no_arg, one_arg, clause_in, sounds_in, is_shown, kind_of, equal_by, compared}
+use Rattle.ps_code_laws.proofs.Clauses as clause_of
+use Rattle.ps_code_laws.proofs.Clauses.{IsNum, int, bool, IsRef, str, pntr, vector, proc, Kind, of_num, of_ref, IsLoop, Sounds, KeepsTypes, Controls, IsScan, fields_by, Clause, flag, text, get_num, get_ref, set_num, set_ref, let_num, let_ref, empty, block, if_do, if_else, while, repeat, loop, kept_loop, case, and, or, not, neg, plus, arith, compare, write, write_wide, abort, nil, a_class, is_of, join, substring, structure, get_field, put_field, filled, listed, get_element, put_element, a_bound, scan, get_kept_num, get_kept_ref, set_kept_num, set_kept_ref, let_kept_num, let_kept_ref, scoped_block, literal, let_literal, let_kept_literal, call, Part, that, Items, at_end, an_item, ArmsAre, no_more, one_arm, AllAre, none_is, one_is, Args, no_arg, one_arg, clause_in, sounds_in, is_shown, kind_of, equal_by, compared}
 use Rattle.ps_soundness.proofs.Loops.{Turns}
 
 -- a local of a type that isn't void, on the stack of its type
@@ -207,44 +210,6 @@ module _ (told : Told) (nums refs : ℕ) where
       let same = same_types told of.name name of.fields others of.named (as_many of.fields others are many.are tys_are) (sym of.text_is ∙ text_is) in
       structure of.named of.text_is (args_are of.fields are (tys_are ∙ sym same) of.valued h)
 
-  -- `length` and `iformat` of what they take
-  one_argument : {known : Standing} {args : Nodes} {tys : TyViews} {claims : List Claim} (code : ℕ) (line : Line) (of gives : TyView) →
-      Arguments args tys claims → tys ≡ types.more of types.none → Each (IsPart known) claims →
-      ((e : Node) → Part nums refs known e of → Clause nums refs known (node.Lib code (more e none) line) gives) →
-      Clause nums refs known (node.Lib code args line) gives
-  one_argument code line of gives typed.Arguments.no_more e h of_one = absurd cc
-  one_argument {known = known} code line of gives (typed.Arguments.one_more {n = n} {t = t} typed.Arguments.no_more) e h of_one =
-      let same : t ≡ of = cc in of_one n (subst (λ (u : TyView). Part nums refs known n u) same h.0)
-  one_argument code line of gives (typed.Arguments.one_more (typed.Arguments.one_more rest)) e h of_one = absurd cc
-
-  no_argument : {known : Standing} {args : Nodes} {tys : TyViews} {claims : List Claim} (code : ℕ) (line : Line) (gives : TyView) →
-      Arguments args tys claims → tys ≡ types.none → Clause nums refs known (node.Lib code none line) gives →
-      Clause nums refs known (node.Lib code args line) gives
-  no_argument code line gives typed.Arguments.no_more e h = h
-  no_argument code line gives (typed.Arguments.one_more rest) e h = absurd cc
-
-  lib_is : {known : Standing} {args : Nodes} {tys : TyViews} {ty : TyView} {claims : List Claim} (wholes : List (List Field)) (code : ℕ) (line : Line)
-      (name : List ℕ) → lookup procedures name ≡ Some (library (plain code tys ty)) → IsRunLibrary (Some wholes) code → Arguments args tys claims →
-      Each (IsPart known) claims → Clause nums refs known (node.Lib code args line) ty
-  lib_is {known = known} {args = args} {tys = tys} {ty = ty} wholes code line name found (inl (inl e)) are h =
-      let says = (library_says code tys ty name found).0 e in
-      subst (λ (t : TyView). Clause nums refs known (node.Lib code args line) t) (sym says.1)
-      (subst (λ (n : ℕ). Clause nums refs known (node.Lib n args line) types.Int) (sym e)
-      (one_argument 11 line types.Str types.Int are says.0 h (λ e p. text_length p)))
-  lib_is {known = known} {args = args} {tys = tys} {ty = ty} wholes code line name found (inl (inr e)) are h =
-      let says = (library_says code tys ty name found).1 e in
-      subst (λ (t : TyView). Clause nums refs known (node.Lib code args line) t) (sym says.1)
-      (subst (λ (n : ℕ). Clause nums refs known (node.Lib n args line) types.Str) (sym e)
-      (one_argument 12 line types.Int types.Str are says.0 h (λ e p. iformat p)))
-  lib_is {known = known} {args = args} {tys = tys} {ty = ty} wholes code line name found (inr (inl e)) are h =
-      let says = (input_says code tys ty name found).0 e in
-      subst (λ (t : TyView). Clause nums refs known (node.Lib code args line) t) (sym says.1)
-      (subst (λ (n : ℕ). Clause nums refs known (node.Lib n args line) types.Str) (sym e) (no_argument 9 line types.Str are says.0 a_line))
-  lib_is {known = known} {args = args} {tys = tys} {ty = ty} wholes code line name found (inr (inr e)) are h =
-      let says = (input_says code tys ty name found).1 e in
-      subst (λ (t : TyView). Clause nums refs known (node.Lib code args line) t) (sym says.1)
-      (subst (λ (n : ℕ). Clause nums refs known (node.Lib n args line) types.Bool) (sym e) (no_argument 10 line types.Bool are says.0 at_eof))
-
   fields_are : (tys : TyViews) → tys ≡ types_of_fields (fields_by tys)
   fields_are types.none = refl
   fields_are (types.more ty rest) = ap (types.more ty) (fields_are rest)
@@ -252,6 +217,30 @@ module _ (told : Told) (nums refs : ℕ) where
   fields_valued : (tys : TyViews) → AllValued tys → AllByRecursion (λ (field : Field). IsValued field.ty) (fields_by tys)
   fields_valued types.none h = tt
   fields_valued (types.more ty rest) h = (h.0, fields_valued rest h.1)
+
+  parameters_valued : (of : LibraryProcedure) → AllValued (parameters_of of)
+  parameters_valued (OnHeap CreateDatabase) = (tt, (tt, tt))
+  parameters_valued (OnHeap OpenDatabase) = (tt, (tt, (tt, tt)))
+  parameters_valued (OnHeap Commit) = tt
+  parameters_valued (OnHeap MakeTable) = tt
+  parameters_valued (OnHeap EnterString) = (tt, (tt, (tt, tt)))
+  parameters_valued (OnHeap LookUpString) = (tt, (tt, tt))
+  parameters_valued (OnHeap EnterInt) = (tt, (tt, (tt, tt)))
+  parameters_valued (OnHeap LookUpInt) = (tt, (tt, tt))
+  parameters_valued (OnHeap Cardinality) = (tt, tt)
+  parameters_valued ReadLine = tt
+  parameters_valued AtEnd = tt
+  parameters_valued Length = (tt, tt)
+  parameters_valued IntText = (tt, tt)
+
+  lib_is : {known : Standing} {args : Nodes} {tys : TyViews} {ty : TyView} {claims : List Claim} (code : ℕ) (line : Line) (name : List ℕ) →
+      lookup procedures name ≡ Some (library (plain code tys ty)) → Arguments args tys claims → Each (IsPart known) claims →
+      Clause nums refs known (node.Lib code args line) ty
+  lib_is {known = known} {args = args} {tys = tys} {ty = ty} code line name found are h =
+      let told = library_says code tys ty name found in
+      clause_of.library {of = told.of} (record { by_number = told.by_number; gives = told.gives_it; result = result_is code tys ty name found })
+      (subst (λ (ts : TyViews). Args nums refs known args (fields_by ts)) told.takes
+      (args_are (fields_by tys) are (fields_are tys) (fields_valued tys (subst AllValued (sym told.takes) (parameters_valued told.of))) h))
 
   by_rule : {known : Standing} {t : Node} {claims : List Claim} {ty : TyView} (wholes : List (List Field)) → Rule t claims ty →
       RunsIn (Some wholes) t → AllByRecursion GivesClaim claims → Each (IsPart known) claims → Clause nums refs known t ty
@@ -291,7 +280,7 @@ module _ (told : Told) (nums refs : ℕ) where
   by_rule wholes typed.bound is given h = a_bound h.0
   by_rule wholes (typed.call {tys = tys} are) is given h =
       call h.0 (args_are (fields_by tys) are (fields_are tys) (fields_valued tys given.0.0) h.1)
-  by_rule wholes (typed.lib {code = code} {line = line} of_library are) is given h = lib_is wholes code line of_library.0 of_library.1 is.0 are h
+  by_rule wholes (typed.lib {code = code} {line = line} of_library are) is given h = lib_is code line of_library.0 of_library.1 are h
   by_rule wholes (typed.write {t = t} ok) is given h = write (is_shown t ok) h.0
   by_rule wholes (typed.write_wide {t = t} ok) is given h = write_wide (is_shown t ok) h.0 h.1.0
 
@@ -342,9 +331,10 @@ module _ (told : Told) (nums refs : ℕ) where
       literal_sound told wholes declares te runs at (are_below env free below) heap
 
   -- what is after the locals in scope isn't named
-  behind_unnamed : (x : ℕ) (env : Env) (free : Free) → LocalsBelow env free → free.nums ≤ x → Unnamed x env
+  behind_unnamed : (x : Spot) (env : Env) (free : Free) → LocalsBelow env free → limit x.number free ≤ x.slot → Unnamed x env
   behind_unnamed x env free below le ty found is =
-      let b : x < free.nums = subst (λ (stack : Bool). x < limit stack free) is (below x ty found) in absurd (omega by_arith)
+      let b : x.slot < limit x.number free = subst (λ (stack : Bool). x.slot < limit stack free) is (below x.slot ty found) in
+      absurd (omega (by_arith, le, b))
 
   is_loop : (slot : ℕ) (a b c s : Node) (control : Place) (first env own : Env) (free behind between free' : Free) → slot ≡ free.nums →
       first.locals ≡ env.locals → Declares first (behind_loop free) control types.Int own behind →
@@ -353,12 +343,13 @@ module _ (told : Told) (nums refs : ℕ) where
       LocalsBelow own behind → Within nums refs between → IsLoop nums slot b c s
   is_loop slot a b c s control first env own free behind between free' slot_is same declares are t below three g h own_below within =
       let many = h.nums in let most = within.nums_are in
-      let kept : (x : ℕ) → free.nums ≤ x → x < free.nums + 3 → Each (KeepClaim x) (a has types.Int ∷ b has types.Int ∷ c has types.Int ∷ [])
-      = λ x low high. keeps_each x are (locals_grow env free behind g below) (omega by_arith) (behind_unnamed x env free below low) in
-      let kept_by_clause : (x : ℕ) → free.nums ≤ x → x < free.nums + 3 → Keeps x s
-      = λ x low high. keeps x t (locals_grow own behind between h own_below) (omega by_arith)
-      (declared_unnamed x declares high (subst (λ (locals : List Local). Unnamed x (record { locals = locals; scopes = first.scopes })) (sym same)
-      (behind_unnamed x env free below low))) in
+      let kept : (x : ℕ) → free.nums ≤ x → x < free.nums + 3 → Each (KeepClaim (on_nums x)) (a has types.Int ∷ b has types.Int ∷ c has types.Int ∷ [])
+      = λ x low high. keeps_each (on_nums x) are (locals_grow env free behind g below) (omega by_arith) (behind_unnamed (on_nums x) env free below low) in
+      let kept_by_clause : (x : ℕ) → free.nums ≤ x → x < free.nums + 3 → Keeps (on_nums x) s
+      = λ x low high. keeps (on_nums x) t (locals_grow own behind between h own_below) (omega by_arith)
+      (declared_unnamed (on_nums x) declares high
+      (subst (λ (locals : List Local). Unnamed (on_nums x) (record { locals = locals; scopes = first.scopes })) (sym same)
+      (behind_unnamed (on_nums x) env free below low))) in
       record {
         three = omega by_arith;
         limit_keeps = (kept slot (omega by_arith) (omega by_arith)).1.0;
@@ -381,6 +372,23 @@ module _ (told : Told) (nums refs : ℕ) where
           subst (λ (scope : Option ℕ). AreAround now scope (Some wholes) env.scopes) (sym (scope_same frame types.Int slot (Num z))) before.1,
         ));
       }
+
+  -- a value in a free slot
+  spares : {env : Env} {free : Free} (wholes : List (List Field)) (ty : TyView) (from : ℕ) → next_slot ty free ≤ from → LocalsBelow env free →
+      SparesAll (stand (Some wholes) env) ty from
+  spares {env = env} {free = free} wholes ty from low below at above heap v =
+      sound_set_local at ty v (λ now frame g are. free_slot now frame free ty at v env.locals (omega (by_arith, low, above)) (are_below env free below) are)
+
+  scan_is : {env : Env} {free : Free} (wholes : List (List Field)) (strings : Bool) (q s : ℕ) → q ≡ free.refs → s ≡ free.nums → LocalsBelow env free →
+      IsScan (stand (Some wholes) env) strings q s
+  scan_is {env = env} {free = free} wholes strings q s q_is s_is below = record {
+    pntrs = spares {env = env} {free = free} wholes types.Pntr q (omega by_arith) below;
+    procedures = spares {env = env} {free = free} wholes (caller (key_type strings)) q (omega by_arith) below;
+    texts = spares {env = env} {free = free} wholes types.Str q (omega by_arith) below;
+    ints = spares {env = env} {free = free} wholes types.Int s (omega by_arith) below;
+    answers = λ n depth line heap procedure args is vs. sound_call (context n depth) (within_answers told n (suc depth)) line procedure args
+        (two (key_type strings) types.Pntr) types.Bool is vs;
+  }
 
   -- a scope that keeps no name yet keeps none at its end, or the loop's control alone
   plain_is_open : (around : List (List Field)) (field : Field) (rest : List Field) → [] ∷ around ≡ (field ∷ rest) ∷ around → ⊥
@@ -482,7 +490,14 @@ module _ (told : Told) (nums refs : ℕ) where
         let of_s : (inside : List (List Field)) → RunsIn (Some inside) s → Part nums refs (stand (Some inside) own) s types.Void
         = λ inside r. as_part inside t r fit.3 own_below (clause inside t r fit.3 own_below within) in
         loop_is wholes slot a b c scope control s line slot_is opens declares ended is fit.3 are t below h d.below at_between three of_s
-    clause wholes (typed.scan q_is s_is are) is b below within = absurd is
+    clause wholes (typed.scan {env = env} {free = free} {free' = free'} {string = strings} {a = a} {f = f} {q = q} {s = s} {line = line} q_is s_is are) is b
+        below within =
+        let inside = locals_in_scan env free below in
+        let g = all_grows (track_all are inside) in
+        let more_nums = g.nums in let more_refs = g.refs in let nums_are = within.nums_are in let refs_are = within.refs_are in
+        let two = clauses wholes are ((is.0, b.0), ((is.1, b.1), tt)) inside within in
+        let kept = keeps_each (on_refs q) are inside (omega by_arith) (behind_unnamed (on_refs q) env free below (omega by_arith)) in
+        scan (omega by_arith) (omega by_arith) kept.1.0 (scan_is wholes strings q s q_is s_is below) two.0 two.1.0
     clause wholes (typed.literal is_body) is b below within = literal
 
     clauses : {env : Env} {free free' : Free} {claims : List Claim} (wholes : List (List Field)) → AreTyped env free claims free' →

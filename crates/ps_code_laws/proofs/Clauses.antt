@@ -16,16 +16,22 @@ use Rattle.ps_typing_laws.specs.ps_typing.WellTyped.{At, IsOfType, types_of_para
 use Rattle.ps_stepping.specs.ps_heap.Operators.{is_int}
 use Rattle.ps_stepping.specs.ps_heap.Objects.{Heap}
 use Rattle.ps_stepping.specs.ps_heap.Values.{Value}
-use Rattle.ps_stepping.specs.ps_meaning.Evaluation.{eval, eval_all}
+use Rattle.ps_stepping.specs.ps_meaning.Evaluation.{call_meant, eval, eval_all}
 use Rattle.ps_stepping.specs.ps_meaning.Calls.{context}
+use Rattle.ps_stepping.specs.ps_heap.Library.{LibraryProcedure, library_procedure}
+use Rattle.ps_typing_laws.specs.ps_typing.Library.{procedures, caller, two}
+use Rattle.ps_gen.specs.ps_emitter.Giving.{library_result}
 use Rattle.ps_soundness.specs.Running.{IsScopeText, HasField}
 use Rattle.ps_soundness.specs.Shapes.{IsOf}
 use Rattle.ps_soundness.specs.Valued.{IsValued}
+use Rattle.ps_soundness.proofs.Library.{parameters_of, type_given}
 use Rattle.ps_soundness.proofs.Combining.{Standing, Sound, sound_then, sound_give}
+use Rattle.ps_soundness.proofs.Calling.{ValuesOf}
+use Rattle.ps_soundness.proofs.Scans.{key_type, SparesAll}
 use Rattle.ps_soundness.proofs.Loops.{Settable, Turns, Spares}
 use Rattle.ps_code_laws.specs.Literals.{BodiesAre, AllBodiesAre, Fits}
 use Rattle.ps_code_laws.proofs.Known.{HasPlace, opened}
-use Rattle.ps_code_laws.proofs.Keeps.{Keeps}
+use Rattle.ps_code_laws.proofs.Keeps.{on_nums, on_refs, Keeps}
 
 -- the types whose values are numbers, those whose values are references, and those that can be written
 pub data IsNum : TyView → Type 0 where
@@ -54,12 +60,12 @@ pub data IsShown : TyView → Type 0 where
 -- what a loop by `for` needs: its three locals, and that nothing in it sets them but itself
 pub record IsLoop (nums slot : ℕ) (b c s : Node) : Type 0 where
   pub three : slot + 2 < nums
-  pub limit_keeps : Keeps slot b
-  pub step_keeps : Keeps slot c
-  pub step_keeps_limit : Keeps (slot + 1) c
-  pub keeps : Keeps slot s
-  pub keeps_limit : Keeps (slot + 1) s
-  pub keeps_step : Keeps (slot + 2) s
+  pub limit_keeps : Keeps (on_nums slot) b
+  pub step_keeps : Keeps (on_nums slot) c
+  pub step_keeps_limit : Keeps (on_nums (slot + 1)) c
+  pub keeps : Keeps (on_nums slot) s
+  pub keeps_limit : Keeps (on_nums (slot + 1)) s
+  pub keeps_step : Keeps (on_nums (slot + 2)) s
 
 -- however many turns may be left and calls are round it, and from each heap on, a clause yields a value of its type
 abbrev pub Sounds : Standing → Standing → Node → TyView → Type 0
@@ -78,10 +84,25 @@ Controls first last control = (z : ℤ) → is_int z ≡ true → Settable first
 abbrev pub TurnsIn : Standing → List ℕ → Node → Type 0
 TurnsIn known bytes s = (n depth : ℕ) → Turns known known (Some bytes) (Kept 0 0) (eval (context n depth) s)
 
+-- what a scan needs: its locals of each row are free, and its procedure, called with a key and what is under it, yields a bool
+pub record IsScan (known : Standing) (strings : Bool) (q s : ℕ) : Type 0 where
+  pub pntrs : SparesAll known types.Pntr q
+  pub procedures : SparesAll known (caller (key_type strings)) q
+  pub texts : SparesAll known types.Str q
+  pub ints : SparesAll known types.Int s
+  pub answers : (n depth : ℕ) (line : Line) (heap : Heap) (procedure : Value) (args : List Value) → IsOf heap (caller (key_type strings)) procedure →
+      ValuesOf heap (two (key_type strings) types.Pntr) args → Sound heap known known types.Bool (call_meant (context n depth) line procedure args)
+
 -- the types of arguments as those of fields, by which the words of a row go
 abbrev pub fields_by : TyViews → List Field
 fields_by types.none = []
 fields_by (types.more ty rest) = record { ty = ty; name = [] } ∷ fields_by rest
+
+-- a procedure of the library of this number gives this type, which is the one that the generator takes for it
+pub record IsLibraryCall (code : ℕ) (of : LibraryProcedure) (ty : TyView) : Type 0 where
+  pub by_number : library_procedure code ≡ Some of
+  pub gives : ty ≡ type_given of
+  pub result : library_result procedures code ≡ ty
 
 -- what two values of a type can be compared by
 pub data IsCompared : Relation → TyView → Type 0 where
@@ -174,10 +195,11 @@ mutual
         Part nums refs known i types.Int → Part nums refs known e t → Clause nums refs known (node.SetElement v i e t line) types.Void
     a_bound : {known : Standing} {v : Node} {upper : Bool} {t : TyView} → Part nums refs known v (types.Vector t) →
         Clause nums refs known (node.Bound v upper) types.Int
-    text_length : {known : Standing} {e : Node} {line : Line} → Part nums refs known e types.Str →
-        Clause nums refs known (node.Lib 11 (more e none) line) types.Int
-    iformat : {known : Standing} {e : Node} {line : Line} → Part nums refs known e types.Int →
-        Clause nums refs known (node.Lib 12 (more e none) line) types.Str
+    library : {known : Standing} {code : ℕ} {args : Nodes} {line : Line} {of : LibraryProcedure} {ty : TyView} → IsLibraryCall code of ty →
+        Args nums refs known args (fields_by (parameters_of of)) → Clause nums refs known (node.Lib code args line) ty
+    scan : {known : Standing} {strings : Bool} {a f : Node} {q s : ℕ} {line : Line} → q + 2 < refs → s + 2 < nums → Keeps (on_refs q) f →
+        IsScan known strings q s → Part nums refs known a types.Pntr → Part nums refs known f (caller (key_type strings)) →
+        Clause nums refs known (node.Scan strings a f q s line) types.Int
     get_kept_num : {known : Standing} {up position : ℕ} {ty : TyView} → IsNum ty → HasPlace known up position ty →
         Clause nums refs known (node.Name (Kept up position) ty) ty
     get_kept_ref : {known : Standing} {up position : ℕ} {ty : TyView} → IsRef ty → HasPlace known up position ty →
@@ -201,8 +223,6 @@ mutual
         Clause nums refs known (node.Let (Kept up position) ty (node.Proc of)) types.Void
     call : {known : Standing} {f : Node} {args : Nodes} {line : Line} {tys : TyViews} {ty : TyView} → Part nums refs known f (types.Proc tys ty) →
         Args nums refs known args (fields_by tys) → Clause nums refs known (node.Call f args line) ty
-    a_line : {known : Standing} {line : Line} → Clause nums refs known (node.Lib 9 none line) types.Str
-    at_eof : {known : Standing} {line : Line} → Clause nums refs known (node.Lib 10 none line) types.Bool
 
   -- a clause that yields a value of its type, and whose bodies fit
   pub data Part (nums refs : ℕ) : Standing → Node → TyView → Type 0 where

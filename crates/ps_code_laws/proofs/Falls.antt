@@ -183,7 +183,7 @@ falls_in_turn loop clause h z =
 abbrev pub CallsFall : Context → Type 0
 CallsFall c = (of : BodyNode) (args : List Value) → Falling (c.call of args)
 
-falls_call : (c : Context) → CallsFall c → (line : Line) (v : Value) (args : List Value) → Falling (call_meant c line v args)
+pub falls_call : (c : Context) → CallsFall c → (line : Line) (v : Value) (args : List Value) → Falling (call_meant c line v args)
 unfolding call_meant
 falls_call c k line (Procedure (as_written of) scope) args =
     falls_choose (nat_lt c.depth most_calls) _ _ (falls_in_frame (frame_of_call of scope args) (c.call of args) (k of args)) (falls_stop _)

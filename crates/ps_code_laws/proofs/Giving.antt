@@ -10,11 +10,12 @@ use Rattle.ps_typing_laws.specs.ps_typing.WellTyped.{Env, Free, behind_one, with
 use Rattle.ps_typing_laws.specs.ps_typing.WellTyped as typed
 use Rattle.ps_typing_laws.specs.Counted.{Each}
 use Rattle.ps_soundness.specs.Valued.{IsValued, IsGiven}
-use Rattle.ps_soundness.specs.Running.{RunsIn, AllRunIn, ArmsRunIn, IsRunLibrary}
-use Rattle.ps_soundness.proofs.Sequences.{all_right, library_says}
+use Rattle.ps_soundness.specs.Running.{RunsIn, AllRunIn, ArmsRunIn}
+use Rattle.ps_stepping.specs.ps_heap.Library.{CreateDatabase, OpenDatabase, Commit, MakeTable, EnterString, LookUpString, EnterInt, LookUpInt, Cardinality, LibraryProcedure, OnHeap, ReadLine, AtEnd, Length, IntText}
+use Rattle.ps_soundness.proofs.Sequences.{all_right}
+use Rattle.ps_soundness.proofs.Library.{type_given, library_says}
 use Rattle.ps_soundness.proofs.Valued.{given_by, valued_by, field_valued}
 use Rattle.ps_code_laws.specs.Literals.{BodiesAre, AllBodiesAre, ArmsBodiesAre, Fits}
-use Rattle.ps_code_laws.proofs.InputCalls.{input_says}
 
 -- a clause that runs, whose bodies fit, and whose names are of such types
 abbrev pub Stands : (TyView → Type 0) → List (List Field) → Claim → Type 0
@@ -79,19 +80,30 @@ parts_stand Q wholes typed.element is b = ((is.0, b.0), ((is.1, b.1), tt))
 parts_stand Q wholes typed.set_element is b = ((is.0, b.0), ((is.1, b.1), ((is.2, b.2), tt)))
 parts_stand Q wholes typed.bound is b = ((is, b), tt)
 parts_stand Q wholes (typed.call are) is b = ((is.0, b.0), args_stand Q wholes are is.1 b.1)
-parts_stand Q wholes (typed.lib of_library are) is b = args_stand Q wholes are is.1 b
+parts_stand Q wholes (typed.lib of_library are) is b = args_stand Q wholes are is b
 parts_stand Q wholes (typed.write ok) is b = ((is.0, b.0), ((tt, tt), tt))
 parts_stand Q wholes (typed.write_wide ok) is b = ((is.0, b.0), ((is.1, b.1), tt))
 
 abbrev pub GivesClaim : Claim → Type 0
 GivesClaim claim = IsGiven claim.ty
 
-library_gives : (wholes : List (List Field)) (code : ℕ) (tys : TyViews) (ty : TyView) (name : List ℕ) →
-    lookup procedures name ≡ Some (library (plain code tys ty)) → IsRunLibrary (Some wholes) code → IsGiven ty
-library_gives wholes code tys ty name found (inl (inl e)) = subst IsGiven (sym ((library_says code tys ty name found).0 e).1) tt
-library_gives wholes code tys ty name found (inl (inr e)) = subst IsGiven (sym ((library_says code tys ty name found).1 e).1) tt
-library_gives wholes code tys ty name found (inr (inl e)) = subst IsGiven (sym ((input_says code tys ty name found).0 e).1) tt
-library_gives wholes code tys ty name found (inr (inr e)) = subst IsGiven (sym ((input_says code tys ty name found).1 e).1) tt
+procedure_gives : (of : LibraryProcedure) → IsGiven (type_given of)
+procedure_gives (OnHeap CreateDatabase) = tt
+procedure_gives (OnHeap OpenDatabase) = tt
+procedure_gives (OnHeap Commit) = tt
+procedure_gives (OnHeap MakeTable) = tt
+procedure_gives (OnHeap EnterString) = tt
+procedure_gives (OnHeap LookUpString) = tt
+procedure_gives (OnHeap EnterInt) = tt
+procedure_gives (OnHeap LookUpInt) = tt
+procedure_gives (OnHeap Cardinality) = tt
+procedure_gives ReadLine = tt
+procedure_gives AtEnd = tt
+procedure_gives Length = tt
+procedure_gives IntText = tt
+
+library_gives : (code : ℕ) (tys : TyViews) (ty : TyView) (name : List ℕ) → lookup procedures name ≡ Some (library (plain code tys ty)) → IsGiven ty
+library_gives code tys ty name found = let told = library_says code tys ty name found in subst IsGiven (sym told.gives_it) (procedure_gives told.of)
 
 rule_gives : (wholes : List (List Field)) {t : Node} {claims : List Claim} {ty : TyView} → Rule t claims ty → AllByRecursion GivesClaim claims →
     RunsIn (Some wholes) t → IsGiven ty
@@ -127,7 +139,7 @@ rule_gives wholes (typed.element {t = t}) h r = given_by t h.0
 rule_gives wholes typed.set_element h r = tt
 rule_gives wholes typed.bound h r = tt
 rule_gives wholes (typed.call are) h r = h.0.1
-rule_gives wholes (typed.lib {code = code} {tys = tys} {t = t} of_library are) h r = library_gives wholes code tys t of_library.0 of_library.1 r.0
+rule_gives wholes (typed.lib {code = code} {tys = tys} {t = t} of_library are) h r = library_gives code tys t of_library.0 of_library.1
 rule_gives wholes (typed.write writable) h r = tt
 rule_gives wholes (typed.write_wide writable) h r = tt
 
@@ -140,7 +152,7 @@ mutual
   gives wholes (typed.block typed.unscoped are is) r b = gives_items wholes are r b tt
   gives wholes (typed.block typed.scoped are is) r b = gives_items (r.0.fields ∷ wholes) are r.1 b tt
   gives wholes (typed.loop slot_is opens declares is are t) r b = tt
-  gives wholes (typed.scan q_is s_is are) r b = absurd r
+  gives wholes (typed.scan q_is s_is are) r b = tt
   gives wholes (typed.literal is_body) r b = b.0.valued
 
   pub gives_each : (wholes : List (List Field)) {env : Env} {free behind : Free} {claims : List Claim} → AreTyped env free claims behind →

@@ -227,7 +227,7 @@ module _ (P : BodyNode → Type 0) where
     λ slot. literal_or (arguments_on false params args) slot Nil (arguments_are false params args h) tt,
   )
 
-  holds_call : (c : Context) → CallsHold c → (line : Line) (v : Value) (args : List Value) → Literal v → AreLiterals P args →
+  pub holds_call : (c : Context) → CallsHold c → (line : Line) (v : Value) (args : List Value) → Literal v → AreLiterals P args →
       Holds (call_meant c line v args)
   unfolding call_meant
   holds_call c k line (Procedure (as_written of) scope) args is are =

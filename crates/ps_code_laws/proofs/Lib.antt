@@ -5,7 +5,7 @@ pub mod LibraryCompiling
 pub mod Standing
 pub mod Keeps
 pub mod Known
-pub mod InputCalls
+pub mod LibraryResults
 pub mod Giving
 pub mod Clauses
 pub mod Naming
@@ -24,6 +24,7 @@ pub mod Loops
 pub mod Operands
 pub mod Attempts
 pub mod TextForms
+pub mod LibraryForms
 pub mod StructureForms
 pub mod VectorForms
 pub mod RowForms
@@ -33,6 +34,7 @@ pub mod Scoping
 pub mod Arguments
 pub mod CallForms
 pub mod Calls
+pub mod ScanForms
 pub mod Handed
 pub mod Beginning
 pub mod Simulation

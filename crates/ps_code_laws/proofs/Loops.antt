@@ -30,7 +30,7 @@ use Rattle.ps_soundness.proofs.Growing.{grows_not, grows_then}
 use Rattle.ps_soundness.proofs.Loops.{goes_on_int}
 use Rattle.ps_code_laws.proofs.Known.{HasPlace, next, opened}
 use Rattle.ps_code_laws.proofs.Clauses.{int, KeepsTypes, Controls}
-use Rattle.ps_code_laws.proofs.Keeps.{Same, Leaves, other_local, leaves_set, leaves_then, leaves_kept, leaves_scoped}
+use Rattle.ps_code_laws.proofs.Keeps.{on_nums, Same, Leaves, other_local, leaves_set, leaves_then, leaves_kept, leaves_scoped}
 use Rattle.ps_code_laws.proofs.Falls.{falls_set, falls_then, falls_scoped}
 use Rattle.ps_code_laws.proofs.Staying.{Stays, stays_then, stays_set}
 use Rattle.ps_code_laws.proofs.Literals.{IsLiteral}
@@ -47,7 +47,7 @@ same_local row slot v = if_true (nat_eq slot slot) v (row slot) (eq-eqb slot slo
 abbrev Reads : ℕ → ℤ → Frame → Type 0
 Reads x z f = word_of (f.nums x) ≡ z
 
-reads_on : (x : ℕ) (z : ℤ) (f : Frame) (o : Outcome) → Reads x z f → Same x f o → On (λ v g. Reads x z g) o
+reads_on : (x : ℕ) (z : ℤ) (f : Frame) (o : Outcome) → Reads x z f → Same (on_nums x) f o → On (λ v g. Reads x z g) o
 reads_on x z f (Value_is v g s) h k = ap word_of k ∙ h
 reads_on x z f (Ends e s) h k = tt
 
@@ -61,13 +61,13 @@ record Two (slot : ℕ) (z limit : ℤ) (f : Frame) : Type 0 where
   pub control_is : Reads slot z f
   pub limit_is : Reads (slot + 1) limit f
 
-two_on : (slot : ℕ) (z limit : ℤ) (f : Frame) (o : Outcome) → Two slot z limit f → Same slot f o → Same (slot + 1) f o →
+two_on : (slot : ℕ) (z limit : ℤ) (f : Frame) (o : Outcome) → Two slot z limit f → Same (on_nums slot) f o → Same (on_nums (slot + 1)) f o →
     On (λ v g. Two slot z limit g) o
 two_on slot z limit f (Value_is v g s) h k l = record { control_is = ap word_of k ∙ h.control_is; limit_is = ap word_of l ∙ h.limit_is }
 two_on slot z limit f (Ends e s) h k l = tt
 
-three_on : (slot : ℕ) (z limit step : ℤ) (f : Frame) (o : Outcome) → Three slot z limit step f → Same slot f o → Same (slot + 1) f o →
-    Same (slot + 2) f o →
+three_on : (slot : ℕ) (z limit step : ℤ) (f : Frame) (o : Outcome) → Three slot z limit step f → Same (on_nums slot) f o → Same (on_nums (slot + 1)) f o →
+    Same (on_nums (slot + 2)) f o →
     On (λ v g. Three slot z limit step g) o
 three_on slot z limit step f (Value_is v g s) h k l m =
     record { control_is = ap word_of k ∙ h.control_is; limit_is = ap word_of l ∙ h.limit_is; step_is = ap word_of m ∙ h.step_is }
@@ -92,9 +92,9 @@ module _ (w : Way) where
         From w n (Three slot z limit step) [] [] (turn_meant scope control clause z) types.Void need turn q
     pub next_at : IsAt (code_in w.unit) q (instr.ForNext slot turn)
     pub back : turn < q
-    pub keeps : (z : ℤ) → Leaves slot (turn_meant scope control clause z)
-    pub keeps_limit : (z : ℤ) → Leaves (slot + 1) (turn_meant scope control clause z)
-    pub keeps_step : (z : ℤ) → Leaves (slot + 2) (turn_meant scope control clause z)
+    pub keeps : (z : ℤ) → Leaves (on_nums slot) (turn_meant scope control clause z)
+    pub keeps_limit : (z : ℤ) → Leaves (on_nums (slot + 1)) (turn_meant scope control clause z)
+    pub keeps_step : (z : ℤ) → Leaves (on_nums (slot + 2)) (turn_meant scope control clause z)
 
   module _ (n : Origin) (own_known : Standing) (slot : ℕ) (scope : Option (List ℕ)) (control : Place) (need turn q : ℕ) (clause : Meaning)
       (limit step_by : ℤ) (h : Stands n own_known slot scope control need turn q clause) where
@@ -260,7 +260,7 @@ module _ (w : Way) where
       Does w n [] [] a types.Int na p pa → IsAt (code_in w.unit) pa (instr.SetM slot) →
       Does w n [] [] b types.Int nb (pa + 5) pb → IsAt (code_in w.unit) pb (instr.SetM (slot + 1)) →
       Does w n [] [] c types.Int nc (pb + 5) pc → IsAt (code_in w.unit) pc (instr.SetM (slot + 2)) →
-      IsAt (code_in w.unit) (pc + 5) (instr.ForStart slot (q + 9) line) → Leaves slot b → Leaves slot c → Leaves (slot + 1) c →
+      IsAt (code_in w.unit) (pc + 5) (instr.ForStart slot (q + 9) line) → Leaves (on_nums slot) b → Leaves (on_nums slot) c → Leaves (on_nums (slot + 1)) c →
       Does w n [] [] (for_meant n.turns line slot scope control a b c clause) types.Void need p (q + 9)
   unfolding for_meant
   does_for n own_known slot scope control need q na nb nc p pa pb pc a b c clause line h le_a le_b le_c la lb lc da at_a db at_b dc at_c at_start
@@ -338,12 +338,12 @@ module _ (w : Way) where
     plain_leads : (z : ℤ) → is_int z ≡ true → Leads n own types.Void (turn_meant None (Plain control) clause z)
     plain_leads z is = leads_then (set_leads z is) (λ new g. leads_more (omega arith) g leads)
 
-    plain_keeps : (x : ℕ) → x ≤ slot + 2 → Leaves x clause → (z : ℤ) → Leaves x (turn_meant None (Plain control) clause z)
+    plain_keeps : (x : ℕ) → x ≤ slot + 2 → Leaves (on_nums x) clause → (z : ℤ) → Leaves (on_nums x) (turn_meant None (Plain control) clause z)
     plain_keeps x le h z =
-        leaves_then x (set (Plain control) types.Int (Num z)) _ (leaves_set x control types.Int (Num z) (λ number e. omega arith)) (λ u. h)
+        leaves_then (on_nums x) (set (Plain control) types.Int (Num z)) _ (leaves_set (on_nums x) control types.Int (Num z) (λ number e. omega arith)) (λ u. h)
 
-    pub plain_stands : KeepsTypes n.known own slot → IsAt (code_in w.unit) q (instr.ForNext slot turn) → turn < q → Leaves slot clause →
-        Leaves (slot + 1) clause → Leaves (slot + 2) clause → Stands n own slot None (Plain control) need turn q clause
+    pub plain_stands : KeepsTypes n.known own slot → IsAt (code_in w.unit) q (instr.ForNext slot turn) → turn < q → Leaves (on_nums slot) clause →
+        Leaves (on_nums (slot + 1)) clause → Leaves (on_nums (slot + 2)) clause → Stands n own slot None (Plain control) need turn q clause
     plain_stands typed next_at back keeps keeps_limit keeps_step = record {
       typed = typed;
       leads = plain_leads;
@@ -423,12 +423,12 @@ module _ (w : Way) where
       holds = holds_scoped Fits bytes _ (holds_then Fits _ _ (holds_set Fits (Kept 0 0) types.Int (Num z) tt) (λ u literal. leads.holds));
     }
 
-    kept_keeps : (x : ℕ) → Leaves x clause → (z : ℤ) → Leaves x (turn_meant (Some bytes) (Kept 0 0) clause z)
+    kept_keeps : (x : ℕ) → Leaves (on_nums x) clause → (z : ℤ) → Leaves (on_nums x) (turn_meant (Some bytes) (Kept 0 0) clause z)
     kept_keeps x h z =
-        leaves_scoped x bytes _ (leaves_then x (set (Kept 0 0) types.Int (Num z)) _ (leaves_kept x 0 0 types.Int (Num z)) (λ u. h))
+        leaves_scoped (on_nums x) bytes _ (leaves_then (on_nums x) (set (Kept 0 0) types.Int (Num z)) _ (leaves_kept (on_nums x) 0 0 types.Int (Num z)) (λ u. h))
 
-    pub kept_stands : KeepsTypes n.known n.known slot → IsAt (code_in w.unit) (q + 1) (instr.ForNext slot turn) → turn < q + 1 → Leaves slot clause →
-        Leaves (slot + 1) clause → Leaves (slot + 2) clause → Stands n n.known slot (Some bytes) (Kept 0 0) need turn (q + 1) clause
+    pub kept_stands : KeepsTypes n.known n.known slot → IsAt (code_in w.unit) (q + 1) (instr.ForNext slot turn) → turn < q + 1 → Leaves (on_nums slot) clause →
+        Leaves (on_nums (slot + 1)) clause → Leaves (on_nums (slot + 2)) clause → Stands n n.known slot (Some bytes) (Kept 0 0) need turn (q + 1) clause
     kept_stands typed next_at back keeps keeps_limit keeps_step = record {
       typed = typed;
       leads = scoped_leads;

@@ -58,20 +58,6 @@ quiet_procedure : (of : BodyNode) → IsQuietly (made_procedure of)
 unfolding made_procedure
 quiet_procedure of f s = refl
 
-quiet_line : (input bytes : List ℕ) → IsQuietly (put_input input >>= λ u. made_text bytes)
-unfolding put_input made_text ◌>>=◌ after
-quiet_line input bytes f s = refl
-
-quiet_read_line : (line : Line) → IsQuietly (read_line line)
-unfolding read_line with_input
-quiet_read_line line f s =
-    quiet_attempt line (line_read s.store.input) (λ bytes. put_input (behind_line s.store.input) >>= λ u. made_text bytes)
-    (λ bytes. quiet_line (behind_line s.store.input) bytes) f s
-
-quiet_at_end : IsQuietly at_end
-unfolding at_end with_input give
-quiet_at_end f s = refl
-
 module _ (w : Way) where
   pub does_get_kept : (n : Origin) (p up position : ℕ) {ty : TyView} → IsNum ty → HasPlace n.known up position ty → Stand w p (instr.KeptM up position) →
       Does w n [] [] (get (Kept up position) ty) ty 1 p (p + 9)
@@ -158,18 +144,3 @@ module _ (w : Way) where
       ap (λ (constant : Option ConstantView). procedure_of constant (place w (p + 5) nums refs f s.store)) there
       ∙ push_ref_goes w (p + 5) (compiled (Procedure (as_written of) f.scope)) nums refs f (and_closure s.store) room)
       (quiet_procedure of) at
-
-  -- the input
-  pub does_read_line : (n : Origin) (p : ℕ) (line : Line) → Stand w p (instr.Lib 9 line) → Does w n [] [] (read_line line) types.Str 1 p (p + 9)
-  unfolding read_line with_input put_input ◌>>=◌ after
-  does_read_line n p line at =
-      does_meant w p 1 (instr.Lib 9 line)
-      (λ nums refs f s room since. attempt_steps w (p + 9) nums refs types.Str f s line (line_read s.store.input) _ _
-      (λ bytes. text_steps w (p + 9) nums refs f (record s { store = on_input (behind_line s.store.input) s.store }) bytes room))
-      (quiet_read_line line) at
-
-  pub does_at_end : (n : Origin) (p : ℕ) (line : Line) → Stand w p (instr.Lib 10 line) → Does w n [] [] at_end types.Bool 1 p (p + 9)
-  unfolding at_end with_input give
-  does_at_end n p line at =
-      does_meant w p 1 (instr.Lib 10 line)
-      (λ nums refs f s room since. push_goes w (p + 9) (number_of (is_at_end s.store.input)) nums refs f s.store room) quiet_at_end at

@@ -21,14 +21,16 @@ use Rattle.ps_gen.specs.ps_program.Parts.{Part, operand, label, branch, fold_all
 use Rattle.ps_gen.specs.ps_program.Slots.{reaches, depth}
 use Rattle.ps_typing_laws.specs.ps_typing.Checking.{isnt_void}
 use Rattle.ps_stepping.specs.ps_heap.Operators.{neg_of, arith_of}
+use Rattle.ps_stepping.specs.ps_heap.Library.{LibraryProcedure, library_procedure}
 use Rattle.ps_soundness.specs.Shapes.{IsOf, AreOf, Grows}
+use Rattle.ps_soundness.proofs.Library.{parameters_of, type_given}
 use Rattle.ps_soundness.proofs.Growing.{grows_not, grows_then, of_kept}
 use Rattle.ps_soundness.proofs.Combining.{Standing, sound_then}
 use Rattle.ps_stepping.specs.ps_heap.Objects.{Heap}
 use Rattle.ps_stepping.specs.ps_heap.Ends.{Trapped}
 use Rattle.ps_stepping.specs.ps_heap.Values.{Value, Num, Flag, Text, Nil, Procedure, Nothing, as_written, number_of, word_of, flag_of, bytes_of, shown}
 use Rattle.ps_stepping.specs.ps_meaning.Meaning.{Frame, Store, State, Meaning, give, after, ◌>>=◌, choose, answer, made_text, made_procedure, written, and_closure, set}
-use Rattle.ps_stepping.specs.ps_meaning.Operations.{compares, join_meant, part_meant, make_meant, elements_meant, fill_meant, set_field_meant, element_meant, set_element_meant}
+use Rattle.ps_stepping.specs.ps_meaning.Operations.{compares, join_meant, part_meant, make_meant, elements_meant, fill_meant, set_field_meant, element_meant, set_element_meant, lib_meant}
 use Rattle.ps_stepping.specs.ps_meaning.Evaluation.{call_meant, eval, eval_all, eval_each, eval_arms, eval_labels}
 use Rattle.ps_gen.specs.ps_emitter.Choices as choice
 use Rattle.ps_type_text.specs.Texts.{Field, type_text}
@@ -47,14 +49,15 @@ use Rattle.ps_code_laws.proofs.Staying.{stays_eval, stays_all}
 use Rattle.ps_code_laws.proofs.Literals.{AreLiterals}
 use Rattle.ps_code_laws.proofs.Holding.{holds_then, holds_all, calls_hold}
 use Rattle.ps_code_laws.proofs.Known.{opened}
-use Rattle.ps_code_laws.proofs.ScopeForms.{does_get_kept, does_get_kept_ref, does_set_kept, does_set_kept_ref, does_closure, does_read_line, does_at_end}
+use Rattle.ps_code_laws.proofs.ScopeForms.{does_get_kept, does_get_kept_ref, does_set_kept, does_set_kept_ref, does_closure}
 use Rattle.ps_code_laws.proofs.Scoping.{does_scoped}
-use Rattle.ps_code_laws.proofs.Clauses.{IsNum, IsRef, Kind, IsShown, IsCompared, Clause, Items, ArmsAre, AllAre, Args, sounds_in, bodies_in, behind_items, items_sound, items_fit}
+use Rattle.ps_code_laws.proofs.Clauses.{IsNum, IsRef, Kind, IsShown, IsCompared, Clause, Items, ArmsAre, AllAre, Args, fields_by, sounds_in, bodies_in, behind_items, items_sound, items_fit}
 use Rattle.ps_code_laws.proofs.TypeOf.{type_in}
 use Rattle.ps_code_laws.proofs.Clauses as clause
 use Rattle.ps_code_laws.proofs.Doing.{Origin, after_it, Leads, Way, place, Does, does_then, does_then_held, does_nothing, does_left, does_give, push_goes, push_ref_goes, does_get, does_get_ref, does_set, does_set_ref, taken, taken_ref, does_answer, does_write, does_stop, does_jump_false, does_and, does_or, does_jump, jump_does, does_while, does_same, moved, does_over, does_over_held, less_room, nums_few, refs_few}
 use Rattle.ps_code_laws.proofs.Operands.{context_in, falls_in, holds_in, deepest, reaches_behind, at_least_one, nums_of, refs_of, Stand, to_end, from_place, next_of, leads_of, does_one, does_two, does_three}
-use Rattle.ps_code_laws.proofs.TextForms.{does_join, does_part, does_length, does_iformat}
+use Rattle.ps_code_laws.proofs.TextForms.{does_join, does_part}
+use Rattle.ps_code_laws.proofs.LibraryForms.{does_procedure}
 use Rattle.ps_code_laws.proofs.StructureForms.{does_is, does_field, does_set_field}
 use Rattle.ps_code_laws.proofs.VectorForms.{does_fill, does_element, does_set_element, does_bound}
 use Rattle.ps_code_laws.proofs.RowForms.{pushed_nums, pushed_refs, all_nums, all_refs, does_make, does_list}
@@ -62,10 +65,15 @@ use Rattle.ps_code_laws.proofs.Comparing.{compare_acts}
 use Rattle.ps_code_laws.proofs.Branches.{does_label, does_chosen, does_default}
 use Rattle.ps_code_laws.proofs.Loops.{Stands, does_for, plain_stands, kept_stands}
 use Rattle.ps_code_laws.proofs.Calls.{Entered, does_call}
+use Rattle.ps_code_laws.proofs.ScanForms.{does_scan}
 
 one_or_other : (b : Bool) (x y : ℕ) → (b ≡ true → 1 ≤ x) → (b ≡ false → 1 ≤ y) → 1 ≤ x + y
 one_or_other true x y h k = let l = h refl in omega by_arith
 one_or_other false x y h k = let l = k refl in omega by_arith
+
+width_scan : (strings : Bool) (q s to : ℕ) (line : Line) → width_of (choice.scan strings q s to line) ≡ 17
+width_scan true q s to line = refl
+width_scan false q s to line = refl
 
 -- a clause that isn't void has an instruction
 mutual
@@ -93,15 +101,13 @@ mutual
   some_size (clause.listed kind l items) is = omega by_arith
   some_size (clause.get_element kind v i) is = omega by_arith
   some_size (clause.a_bound v) is = omega by_arith
-  some_size (clause.text_length e) is = omega by_arith
-  some_size (clause.iformat e) is = omega by_arith
+  some_size (clause.library call args) is = omega by_arith
+  some_size (clause.scan refs_fit nums_fit keeps scans a f) is = omega by_arith
   some_size (clause.get_kept_num of_type there) is = omega by_arith
   some_size (clause.get_kept_ref of_type there) is = omega by_arith
   some_size (clause.scoped_block own are h) is = omega by_arith
   some_size (clause.call f args) is = omega by_arith
   some_size clause.literal is = omega by_arith
-  some_size clause.a_line is = omega by_arith
-  some_size clause.at_eof is = omega by_arith
   some_size (clause.arith a b) is = omega by_arith
   some_size (clause.compare of_type a b) is = omega by_arith
   some_size other is = absurd cc
@@ -359,10 +365,21 @@ module _ (w : Way) where
         (call_meant (context_in w n.turns) line v)
         (λ last vs l are held. does_call w (after_it n last n.known) (q + size_all args) (depth whole) line tys ty v vs (omega by_arith) entered
         (of_kept new last l (types.Proc tys ty) v is) fits are held at_call)))
-    clause_does n entered at k (clause.a_line {line = line}) h names =
-        moved w 1 (depth (node.Lib 9 none line)) at (at + 9) (at + (0 + 9)) (at_least_one 0 []) (omega by_arith) (does_read_line w n at line h.0)
-    clause_does n entered at k (clause.at_eof {line = line}) h names =
-        moved w 1 (depth (node.Lib 10 none line)) at (at + 9) (at + (0 + 9)) (at_least_one 0 []) (omega by_arith) (does_at_end w n at line h.0)
+    clause_does n entered at k (clause.library {code = code} {args = args} {line = line} {of = of} {ty = ty} is targs) h names =
+        let whole = node.Lib code args line in
+        let q = at + size_all args in
+        let call_at = after_clauses w.unit args at k _ h in
+        let fields = fields_by (parameters_of of) in
+        to_end w (q + 9) (at + size whole) (omega by_arith)
+        (does_args n entered at k (depth whole) 0 (q + 9) [] [] (omega by_arith) (omega by_arith) targs (omega by_arith)
+        (front w.unit at (emit_all args at k) _ h) names (lib_meant line (library_procedure code))
+        (λ new vs g are held.
+        subst (λ (t : TyView). Does w (after_it n new n.known) (pushed_nums fields vs []) (pushed_refs fields vs [])
+        (lib_meant line (library_procedure code) vs) t (depth whole) q (q + 9)) (sym is.gives)
+        (subst (λ (procedure : Option LibraryProcedure). Does w (after_it n new n.known) (pushed_nums fields vs []) (pushed_refs fields vs [])
+        (lib_meant line procedure vs) (type_given of) (depth whole) q (q + 9)) (sym is.by_number)
+        (moved w 1 (depth whole) q (q + 9) (q + 9) (at_least_one 0 (fold_all deepest operand args)) refl
+        (does_procedure w (after_it n new n.known) q code line of vs is.by_number are call_at.0)))))
     clause_does n entered at k clause.empty h names = to_end w at (at + 0) (omega by_arith) (does_nothing w n 1 at)
     clause_does n entered at k (clause.block {items = items} ti) h names =
         let start : at ≡ at + 0 = omega by_arith in
@@ -783,30 +800,40 @@ module _ (w : Way) where
         (does_one w _ (depth e) 1 (depth whole) at (at + size e) (at + size e + 1) (omega by_arith) (omega by_arith) (leads_of w n te)
         (does n entered at k te (front w.unit at (emit e at k) _ h) names)
         (λ new v g is. does_bound w (after_it n new n.known) (at + size e) upper t v is (after_clause w.unit e at k _ h).0))
-    clause_does n entered at k (clause.text_length {e = e} {line = line} te) h names =
-        let one = more e none in
-        let whole = node.Lib 11 one line in
-        let at_instr : Ahead w.unit (at + size e) (instr.Lib 11 line ∷ [])
-        = ahead_at w.unit (at + size_all one) (at + size e) (instr.Lib 11 line ∷ []) (omega by_arith)
-        (after_clauses w.unit one at k (instr.Lib 11 line ∷ []) h) in
-        to_end w (at + size e + 9) (at + size whole) (omega by_arith)
-        (does_one w (λ v. give (Num (pos (length (bytes_of v))))) (depth e) 1 (depth whole) at (at + size e) (at + size e + 9) (omega by_arith)
-        (omega by_arith)
-        (leads_of w n te)
-        (does n entered at k te (front w.unit at (emit e at k) [] (front w.unit at (emit_all one at k) _ h)) (named_front w.unit k (constants e) [] names))
-        (λ new v g is. does_length w (after_it n new n.known) (at + size e) line v is at_instr.0))
-    clause_does n entered at k (clause.iformat {e = e} {line = line} te) h names =
-        let one = more e none in
-        let whole = node.Lib 12 one line in
-        let at_instr : Ahead w.unit (at + size e) (instr.Lib 12 line ∷ [])
-        = ahead_at w.unit (at + size_all one) (at + size e) (instr.Lib 12 line ∷ []) (omega by_arith)
-        (after_clauses w.unit one at k (instr.Lib 12 line ∷ []) h) in
-        to_end w (at + size e + 9) (at + size whole) (omega by_arith)
-        (does_one w (λ v. made_text (signed_decimal (word_of v))) (depth e) 1 (depth whole) at (at + size e) (at + size e + 9) (omega by_arith)
-        (omega by_arith)
-        (leads_of w n te)
-        (does n entered at k te (front w.unit at (emit e at k) [] (front w.unit at (emit_all one at k) _ h)) (named_front w.unit k (constants e) [] names))
-        (λ new v g is. does_iformat w (after_it n new n.known) (at + size e) line v at_instr.0))
+
+    clause_does n entered at k (clause.scan {strings = strings} {a = a} {f = f} {q = q} {s = s} {line = line} refs_fit nums_fit keeps is ta tf) h names =
+        let whole = node.Scan strings a f q s line in
+        let context = context_in w n.turns in
+        let pa = at + size a in
+        let pf = pa + 5 + size f in
+        let turn = pf + 5 + 5 + 5 + 5 + 5 + 5 + 5 in
+        let rest = after_clause w.unit a at k _ h in
+        let stands = after_clause w.unit f (pa + 5) (k + count a) _ rest.1 in
+        let begins = stands.1.1.1.1.1.1 in
+        let same_turn : at + size a + 5 + size f + 5 + 30 ≡ turn = omega by_arith in
+        let scan_at : Stand w turn (choice.scan strings q s (turn + 17 + 9 + 9) line)
+        = subst (λ (end : ℕ). Stand w turn (choice.scan strings q s end line)) (ap (λ (j : ℕ). j + 17 + 9 + 9) same_turn) begins.1.0 in
+        let calls = next_of w turn 17 (choice.scan strings q s _ line) _ (width_scan strings q s _ line) begins.1 in
+        let more_at : Stand w (turn + 17 + 9) (instr.ScanMore s turn) = subst (λ (j : ℕ). Stand w (turn + 17 + 9) (instr.ScanMore s j)) same_turn calls.1.0 in
+        to_end w (turn + 17 + 9 + 9 + 5) (at + size whole) (omega by_arith)
+        (does_scan w n strings q s (depth whole) (depth a) (depth f) at pa pf line (eval context a) (eval context f) is refs_fit nums_fit (omega by_arith)
+        (omega by_arith) (omega by_arith) (leads_of w n ta) (leads_of w n tf)
+        (does n entered at k ta (front w.unit at (emit a at k) _ h) (named_front w.unit k (constants a) _ names)) rest.0
+        (does n entered (pa + 5) (k + count a) tf (front w.unit (pa + 5) (emit f (pa + 5) (k + count a)) _ rest.1) (names_behind w.unit a k _ names))
+        stands.0 stands.1.0 stands.1.1.0 stands.1.1.1.0 stands.1.1.1.1.0 stands.1.1.1.1.1.0 begins.0 (keeps context)
+        (λ heap. record {
+          refs_fit = refs_fit;
+          nums_fit = nums_fit;
+          deep = omega by_arith;
+          texts = is.texts;
+          ints = is.ints;
+          answers = is.answers n.turns (length w.callers) line;
+          entered = entered;
+          scan_at = scan_at;
+          call_at = calls.0;
+          more_at = more_at;
+          get_at = calls.1.1.0;
+        }))
 
     -- the values of fields, over words that stay, and then what takes them all
     does_args : (n : Origin) (entered : Entered w n.turns) (at k need before end : ℕ) {ts : Nodes} {fields : List Field} {ty : TyView} (bn : List ℤ)

@@ -35,14 +35,11 @@ mutual
   type_is (clause.listed kind l items) = refl
   type_is (clause.get_element kind v i) = refl
   type_is (clause.a_bound v) = refl
-  type_is (clause.text_length e) = refl
-  type_is (clause.iformat e) = refl
+  type_is (clause.library is args) = is.result
   type_is (clause.get_kept_num is there) = refl
   type_is (clause.get_kept_ref is there) = refl
   type_is clause.literal = refl
   type_is (clause.call f args) = ap result_of (type_in f)
-  type_is clause.a_line = refl
-  type_is clause.at_eof = refl
   type_is other = refl
 
   pub type_in : {nums refs : ℕ} {known : Standing} {t : Node} {ty : TyView} → clause.Part nums refs known t ty → type_of t ≡ ty

@@ -166,7 +166,7 @@ unfolding frame_of_call
 scope_of_call (body params gives tree text line) scope args = refl
 
 -- where no turn is left nothing is called, and else a turn is taken
-within_answers : (told : Told) (n depth : ℕ) → Answers (call_within n depth)
+pub within_answers : (told : Told) (n depth : ℕ) → Answers (call_within n depth)
 unfolding call_within stop
 within_answers told zero depth = record {
   answers = λ of scope args ps g state typed_heap is are. (grows_not state.store.held.objects, typed_heap);

@@ -5,15 +5,15 @@ pub mod Places
 pub mod Fields
 pub mod Scopes
 pub mod Combining
-mod Tables
+pub mod Tables
 mod Errors
 pub mod Calling
 pub mod Objects
 pub mod Loops
 pub mod Sequences
-mod HeapCalls
-mod Library
-mod Scans
+pub mod HeapCalls
+pub mod Library
+pub mod Scans
 pub mod Reading
 pub mod Valued
 pub mod Rules

@@ -28,7 +28,7 @@ key_type strings = if strings then types.Str else types.Int
 abbrev pub SparesAll : Standing → TyView → ℕ → Type 0
 SparesAll known ty from = (at : ℕ) → from ≤ at → (heap : Heap) (v : Value) → Sound heap known known types.Void (set (Plain at) ty v)
 
-arguments_are : (strings : Bool) (heap : Heap) (found : Found) → MayBeFound strings heap (Some found) →
+pub arguments_are : (strings : Bool) (heap : Heap) (found : Found) → MayBeFound strings heap (Some found) →
     ValuesOf heap (two (key_type strings) types.Pntr) (scan_arguments found)
 arguments_are strings heap found h = (of strings found.key h.0, (h.1, tt))
   where
@@ -41,7 +41,7 @@ arguments_are strings heap found h = (of strings found.key h.0, (h.1, tt))
 count_is_int : (count : ℕ) → count < 2 ^ 31 → is_int (pos count) ≡ true
 count_is_int count low = lt-ltb count (2 ^ 31) low
 
-found_kept : (strings : Bool) (heap new : Heap) → Grows heap new → (found : Found) → MayBeFound strings heap (Some found) → MayBeFound strings new (Some found)
+pub found_kept : (strings : Bool) (heap new : Heap) → Grows heap new → (found : Found) → MayBeFound strings heap (Some found) → MayBeFound strings new (Some found)
 found_kept strings heap new g found h = (h.0, pointed_kept heap new g found.object h.1)
 
 sound_else : {heap : Heap} {first last : Standing} {ty : TyView} {m n : Meaning} (b : Bool) → Sound heap first last ty m →
