@@ -128,13 +128,13 @@ Behind n last ty (Ends e s) = Unit {0}
 pub since_left : (n : Origin) (last : Standing) (ty : TyView) (v : Value) (f : Frame) (s : State) → IsLeft n last ty v f s →
     IsSince (after_it n s.store.held.objects last) f s
 since_left n last ty v f s left = record {
-      few = left.few;
-      grows = grows_not s.store.held.objects;
-      typed = left.typed;
-      are = left.are;
-      held = left.held;
-      weighs = left.weighs;
-    }
+  few = left.few;
+  grows = grows_not s.store.held.objects;
+  typed = left.typed;
+  are = left.are;
+  held = left.held;
+  weighs = left.weighs;
+}
 
 -- a part that takes turns alone, and yields a value of a type
 pub record Leads (n : Origin) (last : Standing) (ty : TyView) (a : Meaning) : Type 0 where

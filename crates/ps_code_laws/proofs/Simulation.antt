@@ -800,7 +800,6 @@ module _ (w : Way) where
         (does_one w _ (depth e) 1 (depth whole) at (at + size e) (at + size e + 1) (omega by_arith) (omega by_arith) (leads_of w n te)
         (does n entered at k te (front w.unit at (emit e at k) _ h) names)
         (λ new v g is. does_bound w (after_it n new n.known) (at + size e) upper t v is (after_clause w.unit e at k _ h).0))
-
     clause_does n entered at k (clause.scan {strings = strings} {a = a} {f = f} {q = q} {s = s} {line = line} refs_fit nums_fit keeps is ta tf) h names =
         let whole = node.Scan strings a f q s line in
         let context = context_in w n.turns in

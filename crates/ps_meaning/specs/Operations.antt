@@ -18,6 +18,7 @@ use Rattle.ps_heap.specs.Held as held
 use Rattle.ps_heap.specs.Held.{element_place}
 use Rattle.ps_heap.specs.Library.{LibraryProcedure, OnHeap, ReadLine, AtEnd, Length, IntText, text_argument, heap_call}
 use Rattle.ps_meaning.specs.Meaning.{Meaning, give, ◌>>=◌, attempt, with_heap, read, assign, answered, made, made_text, with_input, put_input}
+
 -- the values of fields, each as it is kept
 unfoldable pub kept_all : List Form → List Value → List Value
 kept_all [] vs = vs

@@ -106,7 +106,7 @@ pub scan_sound : {heap : Heap} {known : Standing} (n : ℕ) (line : Line) (strin
     SparesAll known (caller (key_type strings)) refs →
     ((new : Heap) → Sound new known known types.Pntr a) → ((new : Heap) → Sound new known known (caller (key_type strings)) f) →
     ((from : Heap) (procedure : Value) → IsOf from (caller (key_type strings)) procedure → (heap : Heap) (args : List Value) → Grows from heap →
-        ValuesOf heap (two (key_type strings) types.Pntr) args → Sound heap known known types.Bool (call procedure args)) →
+    ValuesOf heap (two (key_type strings) types.Pntr) args → Sound heap known known types.Bool (call procedure args)) →
     Sound heap known known types.Int
     (begin_scan strings refs nums a f (λ table procedure. scan_turns n (record { line = line; strings = strings; refs = refs; nums = nums; table = table; call = call procedure }) None 0))
 unfolding begin_scan

@@ -96,10 +96,12 @@ no_such_procedure = refl
 
 -- A scan. The table and the procedure stand in two locals; the key that is found is the last one from then on.
 abbrev scanning : ℤ → Value → Config → Config
-scanning started last c = record c { locals = record {
-  nums = λ s. if nat_eq s 2 then started else pos 0;
-  refs = λ s. if nat_eq s 2 then last else (if nat_eq s 0 then Pointer 0 else Nil);
-} }
+scanning started last c = record c {
+  locals = record {
+    nums = λ s. if nat_eq s 2 then started else pos 0;
+    refs = λ s. if nat_eq s 2 then last else (if nat_eq s 0 then Pointer 0 else Nil);
+  };
+}
 
 key_is_found : acts (instr.ScanT 0 0 20 line) 5 (scanning (pos 0) Nil (at [] [] with_k 0))
     ≡ on (with_locals (λ s. if nat_eq s 2 then pos 1 else (if nat_eq s 2 then pos 0 else pos 0))

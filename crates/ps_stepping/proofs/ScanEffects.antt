@@ -32,7 +32,6 @@ does_back own to c =
     does_if nothing c (nat_lt to own) (turn_to (spent c.store) to c) Stuck
     (does_turn nothing c c to (spent c.store) (λ next n r. record { nums = omega (arith, ap length n); refs = omega (arith, ap length r) })) tt
 
-
 -- where there is room, a value is pushed
 does_pushed : (e : Effect) (c d : Config) (v : Value) (next : Config → Step) → Does e c (next (record d { refs = v ∷ d.refs })) → Does e c (with_pushed v d next)
 does_pushed e c d v next h = does_if e c (nat_lt ((frame_in d.unit).refs + length d.refs) frame_words) (next (record d { refs = v ∷ d.refs })) Stuck h tt
