@@ -220,7 +220,8 @@ unfolding scan_turns scan_next scan_call next_key next_string next_int table_of 
     frame_of_call fresh_frame noting touched_after touched_weight is_first_touch home_at enter_call looked_up entered places_with is_among is_in cardinality_call cardinality
 one_call_too_many = refl
 
--- The value under a key that is found is touched, and the scope of the procedure where it would be called, also where a trap or the want of a turn comes first.
+-- The value under a key that is found is touched, also where a trap or the want of a turn keeps the scan from calling; the scope of the procedure only where it
+-- is called.
 abbrev counted_of : Outcome → ℕ
 counted_of (Value_is v frame state) = state.store.held.counted
 counted_of (Ends e state) = state.store.held.counted
@@ -228,12 +229,12 @@ counted_of (Ends e state) = state.store.held.counted
 abbrev untouched : ℕ → State
 untouched turns = begun_with (record held { touched = [] }) turns
 
-touched_without_a_turn : counted_of (scan_by 0 true looking (Pointer 1) (Some 4) None 0 (untouched 0)) ≡ 112 + 120
+touched_without_a_turn : counted_of (scan_by 0 true looking (Pointer 1) (Some 4) None 0 (untouched 0)) ≡ 112
 unfolding scan_turns scan_next scan_call next_key next_string next_int table_of give stop after ◌>>=◌ choose attempt change with_heap take_turn in_frame back_to set call_meant
     frame_of_call fresh_frame noting touched_after touched_weight is_first_touch home_at enter_call looked_up entered places_with is_among is_in cardinality_call cardinality
 touched_without_a_turn = refl
 
-touched_though_too_deep : counted_of (scan_by 9 true (around_with 2000 (λ args h. h) (λ args. true)) (Pointer 1) (Some 4) None 0 (untouched 9)) ≡ 112 + 120
+touched_though_too_deep : counted_of (scan_by 9 true (around_with 2000 (λ args h. h) (λ args. true)) (Pointer 1) (Some 4) None 0 (untouched 9)) ≡ 112
 unfolding scan_turns scan_next scan_call next_key next_string next_int table_of give stop after ◌>>=◌ choose attempt change with_heap take_turn in_frame back_to set call_meant
     frame_of_call fresh_frame noting touched_after touched_weight is_first_touch home_at enter_call looked_up entered places_with is_among is_in cardinality_call cardinality
 touched_though_too_deep = refl
