@@ -12,8 +12,7 @@ use Rattle.ps_meaning.specs.Evaluation.{most_calls}
 use Rattle.ps_heap.specs.Scopes.{kept_name, new_scope, scope_at, scope_out}
 use Rattle.ps_meaning.specs.Meaning.{Store, spent, and_object, and_closure}
 use Rattle.ps_heap.specs.Objects.{Object, Structure, Elements, Scope, Keyed, new_number}
-use Rattle.ps_heap.specs.References.{scope_ids}
-use Rattle.ps_heap.specs.Held.{touching, reading_name, assigned_name}
+use Rattle.ps_heap.specs.Held.{reading_name, assigned_name}
 use Rattle.ps_heap.specs.Values.{Value, Num, Procedure, as_written, as_compiled, word_of}
 use Rattle.ps_heap.specs.Values as value
 use Rattle.ps_stepping.specs.Config.{Caller, Config, constants_in, frame_in, constant_at}
@@ -125,14 +124,14 @@ does_call : (n : ℕ) (line : Line) (c : Config) → Does (enters n) c (call n l
 does_call n line c =
     let e = enters n in
     let enter : List Value → UnitView → Option ℕ → Config → Step = λ vs of scope d.
-    if takes_refs n (frame_in of) then pop_nums (frame_in of).num_params [] d (λ zs f. called (length f.callers) line of scope zs vs (having (touching (scope_ids scope)) f)) else Stuck in
+    if takes_refs n (frame_in of) then pop_nums (frame_in of).num_params [] d (λ zs f. called (length f.callers) line of scope zs vs f) else Stuck in
     popped_refs e n [] c c (λ vs d. pop_procedure d (λ of scope f. enter vs of scope f))
     (λ vs rest long. popped_ref e c (record c { refs = rest }) (λ v d. unit_called v (λ of scope. enter vs of scope d))
     (λ v below is. does_unit_called e c v (λ of scope. enter vs of scope (record c { refs = below }))
     (λ of scope. does_tested e c (takes_refs n (frame_in of)) _
     (λ fits. popped_nums e (frame_in of).num_params [] c (record c { refs = below })
-    (λ zs f. called (length f.callers) line of scope zs vs (having (touching (scope_ids scope)) f))
-    (λ zs left many. does_entered n c (having (touching (scope_ids scope)) (record c { nums = left; refs = below })) line of scope zs vs refl
+    (λ zs f. called (length f.callers) line of scope zs vs f)
+    (λ zs left many. does_entered n c (record c { nums = left; refs = below }) line of scope zs vs refl
     (sym (eqb-true n (frame_in of).ref_params (first_is (nat_eq n (frame_in of).ref_params) _ fits)))
     (omega (arith, many)) (omega (arith, long, ap length is)))))))
 

@@ -181,7 +181,7 @@ argument_missing = refl
 
 -- 2,000 calls are made inside one another, and none deeper, whether or not a turn is left
 last_depth : called 1999 line body None [] [] ready ≡ Goes (Turn 0 ∷ []) (body_of_call body None [] [] (record ready.store { turns = 0 }) ready)
-unfolding ready
+unfolding ready touched_after touched_weight
 last_depth = refl
 
 too_deep : called 2000 line body None [] [] (record ready { store = record ready.store { turns = 0 } }) ≡ Stops (Trapped trap.TooDeep line) 0
