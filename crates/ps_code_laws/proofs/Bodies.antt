@@ -24,7 +24,7 @@ use Rattle.ps_stepping.specs.ps_meaning.Runs.{Given, fresh_frame, fresh_store, f
 use Rattle.ps_gen.specs.ps_emitter.Choices as choice
 use Rattle.ps_gen.specs.Units.{HasUnit, unit_of}
 use Rattle.ps_stepping.specs.Config.{frame_words, Caller, Config, code_in, frame_in, IsAt, start}
-use Rattle.ps_stepping.specs.Machine.{Step, Goes, Stops, act, Steps, at_instruction, resumed}
+use Rattle.ps_stepping.specs.Machine.{Step, Goes, Stops, and_touched, act, Steps, at_instruction, resumed}
 use Rattle.ps_stepping.specs.Machine as machine
 use Rattle.ps_stepping.specs.Path.{Reaches, Finishes}
 use Rattle.ps_stepping.specs.Path as path
@@ -50,19 +50,19 @@ with_end c events later rest h =
     subst (λ (es : List Event). Finishes c (es ++ rest)) (sym (map-append compiled_event events later))
     (subst (λ (es : List Event). Finishes c es) (sym (append_assoc (compiled_events events) (compiled_events later) rest)) h)
 
-back_goes : {c next : Config} {events : List Event} (later : List Event) (callers : List Caller) (gives : TyView) (v : Value) (store : Store) →
+back_goes : {c next : Config} (events later : List Event) (callers : List Caller) (gives : TyView) (v : Value) (store : Store) →
     Steps c (Goes (compiled_events events) next) → ComesBack next later callers gives v store → ComesBack c (events ++ later) callers gives v store
-back_goes {c = c} {events = events} later [] gives v store s h = with_end c events later (Finish Done store.held.counted ∷ []) (path.goes s h)
-back_goes {c = c} {events = events} later (caller ∷ callers) gives v store s h =
+back_goes {c = c} events later [] gives v store s h = with_end c events later (Finish Done store.held.counted ∷ []) (path.goes s h)
+back_goes {c = c} events later (caller ∷ callers) gives v store s h =
     subst (λ (es : List Event). Reaches c es (resumed caller (nums_left gives v ++ caller.nums) (refs_left gives v ++ caller.refs) callers (compiled_store store)))
     (sym (map-append compiled_event events later)) (path.more s h)
 
-follows_goes : {c next : Config} {events : List Event} (so_far : List Event) (callers : List Caller) (gives : TyView) (o : Outcome) →
+follows_goes : {c next : Config} (events so_far : List Event) (callers : List Caller) (gives : TyView) (o : Outcome) →
     Steps c (Goes (compiled_events events) next) →
     Follows next (so_far ++ events) callers gives o → Follows c so_far callers gives o
-follows_goes {events = events} so_far callers gives (Value_is v f state) s h =
-    (events ++ h.0, h.1 ∙ append_assoc so_far events h.0, back_goes h.0 callers gives v state.store s h.2)
-follows_goes {c = c} {events = events} so_far callers gives (Ends e state) s h = (
+follows_goes events so_far callers gives (Value_is v f state) s h =
+    (events ++ h.0, h.1 ∙ append_assoc so_far events h.0, back_goes events h.0 callers gives v state.store s h.2)
+follows_goes {c = c} events so_far callers gives (Ends e state) s h = (
   events ++ h.0,
   h.1 ∙ append_assoc so_far events h.0,
   with_end c events h.0 (Finish e state.store.held.counted ∷ []) (path.goes s h.2),
@@ -74,13 +74,13 @@ EndsSo (Value_is v f state) e counted so_far = ⊥
 EndsSo (Ends end state) e counted so_far = (e ≡ end) × (counted ≡ state.store.held.counted) × (state.events ≡ so_far)
 
 follows_stops : {c : Config} {e : End} {touched : ℕ} (so_far : List Event) (callers : List Caller) (gives : TyView) (o : Outcome) →
-    Steps c (Stops e touched) → EndsSo o e (touched + c.store.held.counted) so_far → Follows c so_far callers gives o
+    Steps c (Stops e touched) → EndsSo o e (and_touched touched c.store.held.counted) so_far → Follows c so_far callers gives o
 follows_stops so_far callers gives (Value_is v f state) s h = absurd h
 follows_stops {c = c} {e = e} {touched = touched} so_far callers gives (Ends end state) s h = (
   [],
   h.2 ∙ sym (append-nil so_far),
   subst (λ (counted : ℕ). Finishes c (Finish end counted ∷ [])) h.1
-      (subst (λ (e : End). Finishes c (Finish e (touched + c.store.held.counted) ∷ [])) h.0 (path.stops s)),
+      (subst (λ (e : End). Finishes c (Finish e (and_touched touched c.store.held.counted) ∷ [])) h.0 (path.stops s)),
 )
 
 -- the way to what an outcome says
@@ -90,7 +90,7 @@ way_to u callers gives o = record {
   callers = callers;
   Holds = λ c so_far. Follows c so_far callers gives o;
   Final = λ e counted so_far. EndsSo o e counted so_far;
-  goes = λ {c} {next} {so_far} {events} s h. follows_goes so_far callers gives o s h;
+  goes = λ {c} {next} {so_far} events s h. follows_goes events so_far callers gives o s h;
   stops = λ {c} {so_far} {e} {touched} s h. follows_stops so_far callers gives o s h;
 }
 
@@ -222,7 +222,7 @@ RunsAsMeant weigh given program =
 program_by : (told : Told) (gives : TyView) (tree : Node) (line : Line) (weigh : Routine → ℕ) (given : Given) → WeighsUnits weigh →
     IsFittingHeap given.heap → IsBody [] (body [] gives tree None line) → BodyRuns [] (body [] gives tree None line) →
     AllByRecursion Fits (bodies (body [] gives tree None line)) → RunsAsMeant weigh given (body [] gives tree None line)
-unfolding events_with outcome_with fresh_state fresh_store fresh_frame body_meant keep_all ◌>>=◌ after give frame_of_call arguments_on
+unfolding events_with outcome_with fresh_state fresh_frame body_meant keep_all ◌>>=◌ after give frame_of_call arguments_on
 program_by told gives tree line weigh given weighs heap typed_body runs fit =
     let of : BodyNode = body [] gives tree None line in
     let m = body_meets told [] [] of given.turns typed_body runs tt fit in

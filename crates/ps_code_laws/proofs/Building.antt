@@ -50,8 +50,8 @@ use Rattle.ps_soundness.proofs.Loops.{Turns}
 
 -- a local of a type that isn't void, on the stack of its type
 pub data IsSlot (nums refs slot : ℕ) (ty : TyView) : Type 0 where
-  on_nums : IsNum ty → slot < nums → IsSlot nums refs slot ty
-  on_refs : IsRef ty → slot < refs → IsSlot nums refs slot ty
+  in_nums : IsNum ty → slot < nums → IsSlot nums refs slot ty
+  in_refs : IsRef ty → slot < refs → IsSlot nums refs slot ty
 
 num_is : {ty : TyView} → IsNum ty → is_number ty ≡ true
 num_is int = refl
@@ -66,9 +66,9 @@ ref_is proc = refl
 slot_by_kind : (nums refs slot : ℕ) (ty : TyView) (free : Free) → slot < limit (is_number ty) free → free.nums ≤ nums → free.refs ≤ refs → Kind ty →
     IsSlot nums refs slot ty
 slot_by_kind nums refs slot ty free below n r (of_num is) =
-    let b : slot < free.nums = subst (λ (stack : Bool). slot < limit stack free) (num_is is) below in on_nums is (omega by_arith)
+    let b : slot < free.nums = subst (λ (stack : Bool). slot < limit stack free) (num_is is) below in in_nums is (omega by_arith)
 slot_by_kind nums refs slot ty free below n r (of_ref is) =
-    let b : slot < free.refs = subst (λ (stack : Bool). slot < limit stack free) (ref_is is) below in on_refs is (omega by_arith)
+    let b : slot < free.refs = subst (λ (stack : Bool). slot < limit stack free) (ref_is is) below in in_refs is (omega by_arith)
 
 -- the free slots after a clause are among the locals
 pub record Within (nums refs : ℕ) (free : Free) : Type 0 where
@@ -146,18 +146,18 @@ module _ (told : Told) (nums refs : ℕ) where
       slot_by_kind nums refs slot ty free (below slot ty is) within.nums_are within.refs_are (kind_of ty valued)
 
   got : {known : Standing} (slot : ℕ) (ty : TyView) → IsSlot nums refs slot ty → Clause nums refs known (node.Name (Plain slot) ty) ty
-  got slot ty (on_nums is below) = get_num is below
-  got slot ty (on_refs is below) = get_ref is below
+  got slot ty (in_nums is below) = get_num is below
+  got slot ty (in_refs is below) = get_ref is below
 
   stored : {known : Standing} (slot : ℕ) (ty : TyView) (e : Node) → IsSlot nums refs slot ty → Part nums refs known e ty →
       Clause nums refs known (node.SetName (Plain slot) ty e) types.Void
-  stored slot ty e (on_nums is below) h = set_num is below h
-  stored slot ty e (on_refs is below) h = set_ref is below h
+  stored slot ty e (in_nums is below) h = set_num is below h
+  stored slot ty e (in_refs is below) h = set_ref is below h
 
   named : {known : Standing} (slot : ℕ) (ty : TyView) (e : Node) → IsSlot nums refs slot ty → Part nums refs known e ty →
       Clause nums refs known (node.Let (Plain slot) ty e) types.Void
-  named slot ty e (on_nums is below) h = let_num is below h
-  named slot ty e (on_refs is below) h = let_ref is below h
+  named slot ty e (in_nums is below) h = let_num is below h
+  named slot ty e (in_refs is below) h = let_ref is below h
 
   -- a name that a scope keeps
   kept_got : {known : Standing} (up position : ℕ) (ty : TyView) → Kind ty → HasPlace known up position ty →

@@ -127,7 +127,7 @@ within w of callers = record {
   callers = callers;
   Holds = λ c so_far. w.Holds c so_far;
   Final = λ e counted so_far. w.Final e counted so_far;
-  goes = λ {c} {next} {so_far} {events} s h. w.goes s h;
+  goes = λ {c} {next} {so_far} events s h. w.goes events s h;
   stops = λ {c} {so_far} {e} {touched} s h. w.stops s h;
 }
 

@@ -120,7 +120,7 @@ module _ (w : Way) where
       let now : State = record { events = s.events ++ turn; store = touched } in
       let entered : Held → Config = λ held. body_of_call (unit_of of) scope (map word_of (arguments_on true params args) ++ [])
       (compiled_all (arguments_on false params args) ++ []) (on_held held (compiled_store taken)) c in
-      step w {events = turn} i at (acts ∙ ap (λ (held : Held). Goes turn (entered held)) (touching_compiled (scope_ids scope) s.store.held weighs))
+      step w turn i at (acts ∙ ap (λ (held : Held). Goes turn (entered held)) (touching_compiled (scope_ids scope) s.store.held weighs))
       (subst (λ (next : Config). w.Holds next now.events) (sym (body_stands params gives tree text line scope args touched c refl))
       (enters (waiting c) of scope args (types_of_params params) gives now (omega arith) room typed weighs is are fits literals held
       (back_behind w p nums refs gives f s.store

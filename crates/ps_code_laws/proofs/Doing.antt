@@ -23,7 +23,7 @@ use Rattle.ps_soundness.proofs.Growing.{grows_not, grows_then}
 use Rattle.ps_soundness.proofs.Combining.{Standing, IsStanding, Sound, sound_then}
 use Rattle.ps_soundness.proofs.Combining as combining
 use Rattle.ps_stepping.specs.Config.{frame_words, Caller, Config, code_in, frame_in, IsAt}
-use Rattle.ps_stepping.specs.Machine.{Step, Goes, Stops, Stuck, on, push_num, push_ref, forward, back, turn_to, answered, act, Steps, at_instruction}
+use Rattle.ps_stepping.specs.Machine.{Step, Goes, Stops, Stuck, and_touched, on, push_num, push_ref, forward, back, turn_to, answered, act, Steps, at_instruction}
 use Rattle.ps_stepping.specs.Machine as machine
 use Rattle.ps_code_laws.specs.Compiled.{compiled, compiled_store, compiled_events, WeighsUnits}
 use Rattle.ps_code_laws.specs.Meets.{nums_left, refs_left, standing}
@@ -40,8 +40,8 @@ pub record Way : Type 1 where
   pub callers : List Caller
   pub Holds : Config → List Event → Type 0
   pub Final : End → ℕ → List Event → Type 0
-  pub goes : {c next : Config} {so_far events : List Event} → Steps c (Goes (compiled_events events) next) → Holds next (so_far ++ events) → Holds c so_far
-  pub stops : {c : Config} {so_far : List Event} {e : End} {touched : ℕ} → Steps c (Stops e touched) → Final e (touched + c.store.held.counted) so_far →
+  pub goes : {c next : Config} {so_far : List Event} (events : List Event) → Steps c (Goes (compiled_events events) next) → Holds next (so_far ++ events) → Holds c so_far
+  pub stops : {c : Config} {so_far : List Event} {e : End} {touched : ℕ} → Steps c (Stops e touched) → Final e (and_touched touched c.store.held.counted) so_far →
       Holds c so_far
 
 pub if_true : {A : Type 0} (b : Bool) (x y : A) → b ≡ true → (if b then x else y) ≡ x
@@ -204,16 +204,16 @@ module _ (w : Way) where
         w.Holds (place p (bn ++ nums) (br ++ refs) f s.store) s.events
 
   -- one step
-  pub step : {c next : Config} {so_far events : List Event} (i : Instr) → IsAt (code_in c.unit) c.at i → act i c ≡ Goes (compiled_events events) next →
+  pub step : {c next : Config} {so_far : List Event} (events : List Event) (i : Instr) → IsAt (code_in c.unit) c.at i → act i c ≡ Goes (compiled_events events) next →
       w.Holds next (so_far ++ events) → w.Holds c so_far
-  step {c = c} i at e h = w.goes (subst (λ (s : Step). Steps c s) e (at_instruction at)) h
+  step {c = c} events i at e h = w.goes events (subst (λ (s : Step). Steps c s) e (at_instruction at)) h
 
   pub quiet : {c next : Config} {so_far : List Event} (i : Instr) → IsAt (code_in c.unit) c.at i → act i c ≡ on next → w.Holds next so_far →
       w.Holds c so_far
-  quiet {next = next} {so_far = so_far} i at e h = step {events = []} i at e (subst (λ (es : List Event). w.Holds next es) (sym (append-nil so_far)) h)
+  quiet {next = next} {so_far = so_far} i at e h = step [] i at e (subst (λ (es : List Event). w.Holds next es) (sym (append-nil so_far)) h)
 
   pub halt : {c : Config} {so_far : List Event} {e : End} {touched : ℕ} (i : Instr) → IsAt (code_in c.unit) c.at i → act i c ≡ Stops e touched →
-      w.Final e (touched + c.store.held.counted) so_far → w.Holds c so_far
+      w.Final e (and_touched touched c.store.held.counted) so_far → w.Holds c so_far
   halt {c = c} i at e h = w.stops (subst (λ (s : Step). Steps c s) e (at_instruction at)) h
 
   -- where as many bytes are counted as in a state
@@ -461,7 +461,7 @@ module _ (w : Way) where
   unfolding emit stop
   write_goes q before line width bytes i true nums refs f s same at acts reach =
       let events = some_out (in_places width bytes) s.store.held.counted in
-      step {events = events} i at
+      step events i at
       (acts ∙ ap (λ (es : List Event). Goes es (place q nums refs f s.store)) (out_compiled (in_places width bytes) s.store.held.counted)) reach
   write_goes q before line width bytes i false nums refs f s same at acts reach = halt_there i s same at acts reach
 
@@ -562,7 +562,7 @@ module _ (w : Way) where
   unfolding after
   turn_goes k to before i nums after_nums refs after_refs ty f s zero next same at acts rest reach = halt_there i s same at acts reach
   turn_goes k to before i nums after_nums refs after_refs ty f s (suc left) next same at acts rest reach =
-      step {events = Turn s.store.held.counted ∷ []} i at acts (rest (s.events ++ Turn s.store.held.counted ∷ []) left (omega arith) reach)
+      step (Turn s.store.held.counted ∷ []) i at acts (rest (s.events ++ Turn s.store.held.counted ∷ []) left (omega arith) reach)
 
   -- the test of a loop: with a turn to the start of its clause, or on
   again_goes : (p to : ℕ) (v : Value) (nums : List ℤ) (refs : List Value) (f : Frame) (store : Store) → to < p → is_one (word_of v) ≡ true →

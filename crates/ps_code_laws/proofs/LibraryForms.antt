@@ -97,7 +97,7 @@ module _ (w : Way) where
       act i before ≡ attempted line (compiled_attempt compiled_answer a) (λ answer. gives answer (place w k nums refs f s.store)) →
       Given k nums refs ty f s.store gives → Comes w k nums refs ty (attempt line a put_answer f s) → w.Holds before s.events
   unfolding attempt put_answer
-  answer_goes k nums refs ty f s line i before gives (Yields a) same at acts given reach = step w {events = a.events} i at (acts ∙ given a) reach
+  answer_goes k nums refs ty f s line i before gives (Yields a) same at acts given reach = step w a.events i at (acts ∙ given a) reach
   answer_goes k nums refs ty f s line i before gives (Fails trap) same at acts given reach = halt_there w i s same at acts reach
 
   -- a call on the heap with these arguments, whose words stand on the stacks

@@ -160,7 +160,8 @@ mutual
         three.1.1.0,
         names_are (r.3.0.fields ∷ wholes) t r.3.2 b.3 (env_more declares tt (valued.0, opened_valued env.scopes opens valued.1)),
       )
-  names_are wholes (typed.scan q_is s_is are) r b valued = absurd r
+  names_are wholes (typed.scan q_is s_is are) r b valued =
+      let both = names_each wholes are ((r.0, b.0), ((r.1, b.1), tt)) valued in (both.0, both.1.0)
   names_are wholes (typed.literal is_body) r b valued = names_in_body wholes is_body r b valued.1
 
   names_each : (wholes : List (List Field)) {env : Env} {free behind : Free} {claims : List Claim} → AreTyped env free claims behind →

@@ -26,7 +26,7 @@ use Rattle.ps_stepping.specs.ps_meaning.Evaluation.{Context, most_calls, call_me
 use Rattle.ps_stepping.specs.ps_meaning.Loops.{Scanning, set_last, scan_call, scan_next, scan_turns, begin_scan}
 use Rattle.ps_gen.specs.ps_emitter.Choices as choice
 use Rattle.ps_stepping.specs.Config.{Config, frame_words, frame_in, code_in}
-use Rattle.ps_stepping.specs.Steps.{Step, Goes, Stops, Stuck, on, attempted, with_num, with_ref}
+use Rattle.ps_stepping.specs.Steps.{Step, Goes, Stops, Stuck, and_touched, on, attempted, with_num, with_ref}
 use Rattle.ps_stepping.specs.Machine.{act, back, turn_to}
 use Rattle.ps_stepping.specs.Objects.{having, object_of}
 use Rattle.ps_stepping.specs.Scans.{with_pushed, with_pushed_num, last_key, last_of, called_with, touched_now, scan_found, scan_on, one_more, scan_more}
@@ -75,11 +75,11 @@ call_restores c line v args f t = tt
 
 -- The locals of a scan: the table, the procedure, how many calls have been, and the key that it was at last.
 
-key_in : Bool → ℕ → ℕ → Frame → Key
+unfoldable pub key_in : Bool → ℕ → ℕ → Frame → Key
 key_in true q s f = string_key (bytes_of (compiled (f.refs (q + 2))))
 key_in false q s f = int_key (word_of (f.nums (s + 1)))
 
-abbrev last_in : Bool → ℕ → ℕ → Frame → Option Key
+abbrev pub last_in : Bool → ℕ → ℕ → Frame → Option Key
 last_in strings q s f = if is_one (word_of (f.nums (s + 2))) then Some (key_in strings q s f) else None
 
 pub record IsScanning (strings : Bool) (q s : ℕ) (table procedure : Value) (count : ℕ) (last : Option Key) (f : Frame) : Type 0 where
@@ -170,6 +170,10 @@ one_call_more count low =
 
 both_below : (a b m n : ℕ) → a < m → b < n → (nat_lt a m && nat_lt b n) ≡ true
 both_below a b m n h k = ap (λ (x : Bool). x && nat_lt b n) (lt-ltb a m h) ∙ lt-ltb b n k
+
+touched_is : (more counted : ℕ) → and_touched more counted ≡ more + counted
+touched_is zero counted = omega arith
+touched_is (suc more) counted = refl
 
 -- no turn came back
 abbrev TurnsFell : State → Outcome → Type 0
@@ -428,7 +432,8 @@ module _ (w : Way) where
         let machine = touched_now ids (compiled_held held) in
         let same : machine ≡ touched_weight held.weigh held.objects held.homes ids held.touched =
         touches_weigh held.weigh since.weighs held.objects held.homes ids held.touched in
-        let sum : held.counted + touched_weight held.weigh held.objects held.homes ids held.touched ≡ machine + held.counted = omega (arith, same) in
+        let sum : held.counted + touched_weight held.weigh held.objects held.homes ids held.touched ≡ and_touched machine held.counted =
+        omega (arith, same, touched_is machine held.counted) in
         halt w {touched = machine} (choice.scan strings q s last_at line) h.scan_at
         (acts ∙ if_true (is_same (word_of (f.nums s)) (pos most_scan_calls)) _ _ (ap (λ (z : ℤ). is_same z (pos most_scan_calls)) is.count_is ∙ most))
         (subst (λ (k : ℕ). w.Final (Trapped Overflow line) k t.events) sum reach)

@@ -13,7 +13,7 @@ use Rattle.ps_stepping.specs.ps_heap.Held.{reading_name, assigned_name}
 use Rattle.ps_stepping.specs.ps_heap.Texts.{line_read, behind_line, is_at_end}
 use Rattle.ps_stepping.specs.ps_heap.Objects.{Heap, new_number}
 use Rattle.ps_stepping.specs.ps_heap.Scopes.{new_scope, kept_name}
-use Rattle.ps_stepping.specs.ps_meaning.Meaning.{Frame, Store, State, give, after, ◌>>=◌, made_text, made_procedure, with_input, put_input, enter, on_input, and_object, and_closure, get, set}
+use Rattle.ps_stepping.specs.ps_meaning.Meaning.{Frame, Store, State, give, after, ◌>>=◌, made_text, made_procedure, with_input, put_input, enter, on_input, and_object, and_closure, change, get, set}
 use Rattle.ps_stepping.specs.ps_meaning.Operations.{read_line, at_end}
 use Rattle.ps_gen.specs.Units.{unit_of}
 use Rattle.ps_stepping.specs.Config.{constants_in, constant_at}
@@ -43,11 +43,11 @@ there_of {n = n} {position = position} {ty = ty} f s (next h) since =
     next_there s.store.held.objects f.scope h.whole h.fields position ty around.0 h.at
 
 quiet_get : (up position : ℕ) (ty : TyView) → IsQuietly (get (Kept up position) ty)
-unfolding get
+unfolding get change
 quiet_get up position ty f s = refl
 
 quiet_set : (up position : ℕ) (ty : TyView) (v : Value) → IsQuietly (set (Kept up position) ty v)
-unfolding set
+unfolding set change
 quiet_set up position ty v f s = refl
 
 quiet_enter : (bytes : List ℕ) → IsQuietly (enter bytes)

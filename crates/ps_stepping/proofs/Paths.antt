@@ -1,10 +1,10 @@
 -- What happens from a configuration of a run on is the rest of what happens in the run.
-use Rattle.std.proofs.Common.{◌≡◌, ℕ, ◌+◌, List, [], ◌∷◌, ◌++◌, sym, ap, ◌∙◌, subst, append_assoc}
+use Rattle.std.proofs.Common.{◌≡◌, ℕ, List, [], ◌∷◌, ◌++◌, sym, ap, ◌∙◌, subst, append_assoc}
 use Rattle.std.proofs.lemmas.List.{append-nil}
 use Rattle.ps_heap.specs.Ends.{End}
 use Rattle.ps_heap.specs.Events.{Event, Finish}
 use Rattle.ps_stepping.specs.Config.{Config}
-use Rattle.ps_stepping.specs.Machine.{Step, Goes, Stops, Stuck, Steps, Runs}
+use Rattle.ps_stepping.specs.Machine.{Step, Goes, Stops, Stuck, and_touched, Steps, Runs}
 use Rattle.ps_stepping.specs.Machine as machine
 use Rattle.ps_stepping.specs.Path.{Reaches, no_step, more, Finishes, stops, goes}
 use Rattle.ps_stepping.proofs.Determined.{one_step}
@@ -24,7 +24,7 @@ comes_to_an_end : (total : List Event) (c : Config) (so_far : List Event) → Ru
 comes_to_an_end total c so_far (machine.goes {next = next} {events = events} s run) =
     let end = comes_to_an_end total next (so_far ++ events) run in
     (events ++ end.0, goes s end.1, end.2 ∙ append_assoc so_far events end.0)
-comes_to_an_end total c so_far (machine.stops {e = e} {touched = k} s is) = (Finish e (k + c.store.held.counted) ∷ [], stops s, is)
+comes_to_an_end total c so_far (machine.stops {e = e} {touched = k} s is) = (Finish e (and_touched k c.store.held.counted) ∷ [], stops s, is)
 
 -- a machine takes one way to its end
 one_way : (c : Config) (events others : List Event) → Finishes c events → Finishes c others → events ≡ others
@@ -32,7 +32,7 @@ one_way c events others (stops {e = e} {touched = k} s) (stops {e = e'} {touched
     let both : Stops e k ≡ Stops e' k' = one_step c _ _ s t in
     let same : e ≡ e' = cc in
     let as_many : k ≡ k' = cc in
-    ap (λ (x : End). Finish x (k + c.store.held.counted) ∷ []) same ∙ ap (λ (n : ℕ). Finish e' (n + c.store.held.counted) ∷ []) as_many
+    ap (λ (x : End). Finish x (and_touched k c.store.held.counted) ∷ []) same ∙ ap (λ (n : ℕ). Finish e' (and_touched n c.store.held.counted) ∷ []) as_many
 one_way c events others (stops {e = e} {touched = k} s) (goes {next = next} {events = first} t way) =
     absurd (let both : Stops e k ≡ Goes first next = one_step c _ _ s t in cc)
 one_way c events others (goes {next = next} {events = first} s way) (stops {e = e} {touched = k} t) =
@@ -58,7 +58,7 @@ way_ends total c last before run way =
     (found.0, found.1)
 
 pub stops_at_the_end : (total : List Event) (c last : Config) (before : List Event) (e : End) (touched : ℕ) → Runs total c [] → Reaches c before last →
-    Steps last (Stops e touched) → total ≡ before ++ Finish e (touched + last.store.held.counted) ∷ []
+    Steps last (Stops e touched) → total ≡ before ++ Finish e (and_touched touched last.store.held.counted) ∷ []
 stops_at_the_end total c last before e touched run way s = last_step total last before e touched (on_the_way total c last [] before run way) s
 
 pub is_never_stuck : (total : List Event) (c last : Config) (before : List Event) → Runs total c [] → Reaches c before last → Steps last Stuck → ⊥

@@ -17,7 +17,7 @@ use Rattle.ps_heap.specs.Values.{Value, number_of, is_one, flag_text, bytes_of}
 use Rattle.ps_heap.specs.Values as value
 use Rattle.ps_meaning.specs.Meaning.{Store, some_out, in_places, is_width, spent}
 use Rattle.ps_meaning.specs.Loops.{goes_on}
-pub use Rattle.ps_stepping.specs.Steps.{Step, Goes, Stops, Stuck, on, put_num, push_num, push_ref, pop_num_of, pop_num, pop_ref_of, pop_ref, pop_two, is_num_slot, is_ref_slot, with_num, with_ref, answered, one_num, two_nums, test, text_of, pop_text, with_text, attempted}
+pub use Rattle.ps_stepping.specs.Steps.{Step, Goes, Stops, Stuck, and_touched, on, put_num, push_num, push_ref, pop_num_of, pop_num, pop_ref_of, pop_ref, pop_two, is_num_slot, is_ref_slot, with_num, with_ref, answered, one_num, two_nums, test, text_of, pop_text, with_text, attempted}
 pub use Rattle.ps_stepping.specs.Jumps.{forward, turn_to, back}
 use Rattle.ps_stepping.specs.Scans.{scan_on, scan_more}
 use Rattle.ps_stepping.specs.Procedures.{num_back, ref_back, acts_on_procedures}
@@ -147,4 +147,4 @@ pub data Steps (c : Config) : Step → Type 0 where
 pub data Runs (total : List Event) : Config → List Event → Type 0 where
   goes : {c next : Config} {so_far events : List Event} → Steps c (Goes events next) → Runs total next (so_far ++ events) → Runs total c so_far
   stops : {c : Config} {so_far : List Event} {e : End} {touched : ℕ} → Steps c (Stops e touched) →
-      total ≡ so_far ++ Finish e (touched + c.store.held.counted) ∷ [] → Runs total c so_far
+      total ≡ so_far ++ Finish e (and_touched touched c.store.held.counted) ∷ [] → Runs total c so_far

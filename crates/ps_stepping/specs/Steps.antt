@@ -1,5 +1,5 @@
 -- What a step is, and what instructions do with the two stacks.
-use Rattle.std.specs.Prelude.{ℕ, ◌+◌, ℤ, Bool, List, [], ◌∷◌, length, nat_lt, Option, Some, None, if◌then◌else◌}
+use Rattle.std.specs.Prelude.{ℕ, zero, suc, ◌+◌, ℤ, Bool, List, [], ◌∷◌, length, nat_lt, Option, Some, None, if◌then◌else◌}
 use Rattle.ps_code.specs.ps_base.CodeUnit.{ConstantView, text, literal}
 use Rattle.ps_code.specs.ps_base.declared.line.Line.{Line}
 use Rattle.ps_heap.specs.Ends.{End, Trapped}
@@ -16,6 +16,11 @@ pub data Step : Type 0 where
   Goes : (events : List Event) (next : Config) → Step
   Stops : (end_of_run : End) (touched : ℕ) → Step
   Stuck : Step
+
+-- what is counted where a step ends in which so many bytes of objects were touched
+abbrev pub and_touched : ℕ → ℕ → ℕ
+and_touched zero counted = counted
+and_touched (suc touched) counted = suc touched + counted
 
 -- goes on quietly
 abbrev pub on : Config → Step

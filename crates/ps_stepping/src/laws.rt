@@ -1,10 +1,10 @@
-ghost use Rattle.std.specs.Prelude.{◌≡◌, ℕ, ◌+◌, List, [], ◌∷◌, ◌++◌};
+ghost use Rattle.std.specs.Prelude.{◌≡◌, ℕ, List, [], ◌∷◌, ◌++◌};
 ghost use Rattle.ps_code.specs.ps_base.declared.instr.Instr.{Instr};
 ghost use Rattle.ps_heap.specs.Ends.{End};
 ghost use Rattle.ps_heap.specs.Events.{Event, Finish};
 ghost use Rattle.ps_stepping.specs.Config.{Config, code_in, IsAt};
 ghost use Rattle.ps_stepping.specs.Effects.{effect_of, HasEffect};
-ghost use Rattle.ps_stepping.specs.Machine.{Step, Goes, Stops, Stuck, act, Steps, Runs};
+ghost use Rattle.ps_stepping.specs.Machine.{Step, Goes, Stops, Stuck, and_touched, act, Steps, Runs};
 ghost use Rattle.ps_stepping.specs.Path.{Reaches, Finishes};
 
 /// At an offset of the code there is one instruction at most, and a configuration has one step.
@@ -21,7 +21,7 @@ pub fn rest_of_a_run()
     ensures rest { (total : List Event) (c last : Config) (before behind : List Event) → Runs total c [] → Reaches c before last →
         Finishes last behind → total ≡ before ++ behind }
     ensures end { (total : List Event) (c last : Config) (before : List Event) (e : End) (touched : ℕ) → Runs total c [] → Reaches c before last →
-        Steps last (Stops e touched) → total ≡ before ++ Finish e (touched + last.store.held.counted) ∷ [] }
+        Steps last (Stops e touched) → total ≡ before ++ Finish e (and_touched touched last.store.held.counted) ∷ [] }
     ensures goes { (total : List Event) (c last : Config) (before : List Event) → Runs total c [] → Reaches c before last → Steps last Stuck → ⊥ }
     ensures front { (total : List Event) (c last : Config) (before : List Event) → Runs total c [] → Reaches c before last →
         (behind : List Event) × (total ≡ before ++ behind) }
