@@ -14,7 +14,7 @@ use Rattle.ps_typing_laws.specs.ps_typing.WellTyped.{Env, Free, Local, behind_on
 use Rattle.ps_typing_laws.specs.ps_typing.WellTyped as typed
 use Rattle.ps_stepping.specs.ps_heap.Values.{Value, Nothing, word_of}
 use Rattle.ps_stepping.specs.ps_heap.Objects.{Heap}
-use Rattle.ps_stepping.specs.ps_meaning.Meaning.{Frame, give, ◌>>=◌, set}
+use Rattle.ps_stepping.specs.ps_meaning.Meaning.{Frame, give, ◌>>=◌, set, change}
 use Rattle.ps_stepping.specs.ps_meaning.Frames.{arguments_on, keep, keep_all}
 use Rattle.ps_gen.specs.Units.{kept_at, keeps, size_keeps}
 use Rattle.ps_stepping.specs.Config.{frame_in}
@@ -139,7 +139,7 @@ module _ (w : Way) where
       Ahead w.unit p (keeps params free.nums free.refs) →
       From w (begun turns heap locals wholes env.scopes) (Passed free (arguments_on true params args) (arguments_on false params args)) [] []
       (keep_all params args) types.Void 1 p (p + size_keeps params)
-  unfolding keep_all keep arguments_on give set
+  unfolding keep_all keep arguments_on give set change
   keeps_do told wholes (typed.Takes.no_more {env = env} {free = free}) locals args kinds places turns heap p are literals nums refs h =
       let same : p ≡ p + 0 = omega arith in
       let pre : Frame → Type 0 = Passed free (arguments_on true [] args) (arguments_on false [] args) in

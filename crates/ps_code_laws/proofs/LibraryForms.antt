@@ -15,7 +15,7 @@ use Rattle.ps_stepping.specs.ps_heap.Held.{Held}
 use Rattle.ps_stepping.specs.ps_heap.Events.{Event}
 use Rattle.ps_stepping.specs.ps_heap.Calls.{Answer}
 use Rattle.ps_stepping.specs.ps_heap.Library.{HeapProcedure, CreateDatabase, OpenDatabase, Commit, MakeTable, EnterString, LookUpString, EnterInt, LookUpInt, Cardinality, LibraryProcedure, OnHeap, ReadLine, AtEnd, Length, IntText, library_procedure, text_argument, heap_call}
-use Rattle.ps_stepping.specs.ps_meaning.Meaning.{Frame, Store, State, Meaning, give, after, ◌>>=◌, attempt, put_answer, answered, made_text, with_input, put_input, on_held, on_input}
+use Rattle.ps_stepping.specs.ps_meaning.Meaning.{Frame, Store, State, Meaning, give, after, ◌>>=◌, attempt, put_answer, answered, made_text, with_input, put_input, on_held, on_input, stop}
 use Rattle.ps_stepping.specs.ps_meaning.Operations.{read_line, at_end, lib_meant}
 use Rattle.ps_stepping.specs.Config.{Config, frame_words, code_in, frame_in, IsAt}
 use Rattle.ps_stepping.specs.Steps.{Step, Goes, attempted, pop_num, pop_text}
@@ -96,7 +96,7 @@ module _ (w : Way) where
       (gives : Answer → Config → Step) (a : Attempt Answer) → before.store.held.counted ≡ s.store.held.counted → IsAt (code_in before.unit) before.at i →
       act i before ≡ attempted line (compiled_attempt compiled_answer a) (λ answer. gives answer (place w k nums refs f s.store)) →
       Given k nums refs ty f s.store gives → Comes w k nums refs ty (attempt line a put_answer f s) → w.Holds before s.events
-  unfolding attempt put_answer
+  unfolding attempt put_answer stop
   answer_goes k nums refs ty f s line i before gives (Yields a) same at acts given reach = step w a.events i at (acts ∙ given a) reach
   answer_goes k nums refs ty f s line i before gives (Fails trap) same at acts given reach = halt_there w i s same at acts reach
 

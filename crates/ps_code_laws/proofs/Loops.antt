@@ -17,7 +17,7 @@ use Rattle.ps_stepping.specs.ps_heap.Operators.{is_int, is_same}
 use Rattle.ps_stepping.specs.ps_heap.Objects.{Heap}
 use Rattle.ps_stepping.specs.ps_heap.Ends.{Trapped}
 use Rattle.ps_stepping.specs.ps_heap.Values.{Value, Num, Nothing, word_of}
-use Rattle.ps_stepping.specs.ps_meaning.Meaning.{Frame, Store, State, Outcome, Value_is, Ends, Meaning, give, stop, after, ◌>>=◌, choose, in_scope, with_turns, spent, take_turn, with_local, set}
+use Rattle.ps_stepping.specs.ps_meaning.Meaning.{Frame, Store, State, Outcome, Value_is, Ends, Meaning, give, stop, after, ◌>>=◌, choose, in_scope, with_turns, spent, take_turn, with_local, change, set}
 use Rattle.ps_stepping.specs.ps_meaning.Loops.{Counting, goes_on, in_turn, for_turns, for_loop, for_meant}
 use Rattle.ps_stepping.specs.Config.{Config, code_in, constants_in, constant_at, frame_in, IsAt}
 use Rattle.ps_stepping.specs.Machine.{turn_to, started, counted, act}
@@ -392,7 +392,7 @@ module _ (w : Way) where
 
     kept_post : (z limit step : ℤ) (f : Frame) (s : State) → Three slot z limit step f →
         On (λ v g. Three slot z limit step g) (set (Kept 0 0) types.Int (Num z) f s)
-    unfolding set
+    unfolding set change
     kept_post z limit step f s is = is
 
     kept_leads : (new : Heap) (z : ℤ) → is_int z ≡ true → Leads (inside new) own types.Void (set (Kept 0 0) types.Int (Num z))

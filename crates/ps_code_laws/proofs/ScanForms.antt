@@ -221,15 +221,13 @@ module _ (w : Way) where
       called_with true q s (Text bytes) object (place w p nums refs f store)
       ≡ on (place w p nums (Pointer object ∷ Text bytes ∷ compiled procedure ∷ refs) (found_frame q s (string_key bytes) f) store)
   string_called q s p object bytes procedure nums refs f store is room =
-      let room_for : (k : ℕ) → k + length refs < (2 + length refs) + 1 → (frame_in w.unit).refs + (k + length refs) < frame_words =
-      λ k few. let h = room.on_refs in omega arith in
       let config : (ℕ → ℤ) → (ℕ → Value) → Value → Config = λ row values v.
       record (place w p nums (Pointer object ∷ Text bytes ∷ v ∷ refs) f store) { locals = record { nums = row; refs = values } } in
       let numbers : ℕ → ℤ = with_local (λ slot. word_of (f.nums slot)) (s + 2) (pos 1) in
       let values : ℕ → Value = with_local (λ slot. compiled (f.refs slot)) (q + 2) (Text bytes) in
-      if_lt ((frame_in w.unit).refs + length refs) frame_words _ _ (room_for 0 (omega arith))
-      ∙ if_lt ((frame_in w.unit).refs + suc (length refs)) frame_words _ _ (room_for 1 (omega arith))
-      ∙ if_lt ((frame_in w.unit).refs + suc (suc (length refs))) frame_words _ _ (room_for 2 (omega arith))
+      if_lt ((frame_in w.unit).refs + length refs) frame_words _ _ (let h = room.on_refs in omega arith)
+      ∙ if_lt ((frame_in w.unit).refs + suc (length refs)) frame_words _ _ (let h = room.on_refs in omega arith)
+      ∙ if_lt ((frame_in w.unit).refs + suc (suc (length refs))) frame_words _ _ (let h = room.on_refs in omega arith)
       ∙ ap (λ (v : Value). on (config numbers values (compiled v))) is
       ∙ ap (λ (row : ℕ → ℤ). on (config row values (compiled procedure))) (sym (words_set f.nums (s + 2) (Num (pos 1))))
       ∙ ap (λ (row : ℕ → Value). on (config (λ slot. word_of (with_local f.nums (s + 2) (Num (pos 1)) slot)) row (compiled procedure)))

@@ -201,7 +201,7 @@ module _ (w : Way) where
         let made : State = record s { store = and_closure s.store } in
         (does_closure w n at k {params = types.none} {gives = types.Void} of stand named).by nums refs f s room since
         ((d (Procedure (as_written of) f.scope)).by nums refs f made (less_room w 0 1 nums refs (omega by_arith) room)
-        (record { few = since.few; grows = since.grows; typed = since.typed; are = since.are; held = since.held }) reach);
+        (record { few = since.few; grows = since.grows; typed = since.typed; are = since.are; held = since.held; weighs = since.weighs }) reach);
   }
 
   does_arith : (n : Origin) (p : ℕ) (op : Operator) (line : Line) (v u : Value) → Stand w p (choice.arith op line) →
