@@ -13,7 +13,7 @@ use Rattle.ps_gen.specs.ps_program.declared.place.Place.{Place}
 use Rattle.ps_gen.specs.ps_program.declared.place.Place.TheVariants.{Plain, Kept}
 use Rattle.ps_gen.specs.ps_program.Node.{Param, Node, BodyNode, body}
 use Rattle.std.specs.Prelude.{if◌then◌else◌}
-use Rattle.ps_gen.specs.ps_program.Slots.{depth, reaches}
+use Rattle.ps_gen.specs.ps_program.Slots.{depth}
 use Rattle.ps_type_text.specs.Texts.{Field}
 use Rattle.ps_typing_laws.specs.ps_typing.Placing.{is_number}
 use Rattle.ps_typing_laws.specs.ps_typing.Locals.{taken_by_params}
@@ -21,8 +21,6 @@ use Rattle.ps_typing_laws.specs.ps_typing.WellTyped.{Env, Free, types_of_params,
 use Rattle.ps_typing_laws.specs.ps_typing.WellTyped as typed
 use Rattle.ps_typing_laws.specs.Counted.{IsCounted}
 use Rattle.ps_typing_laws.proofs.Tracked.{params_tracked, LocalsBelow, track, track_body, limit_is}
-use Rattle.ps_gen.specs.ps_program.Parts.{Part as PartOf}
-use Rattle.ps_gen.proofs.of_ps_program.PartLemmas.{fold_parts}
 use Rattle.ps_stepping.specs.ps_heap.Values.{Value}
 use Rattle.ps_stepping.specs.ps_heap.Objects.{Heap, with_new, new_number}
 use Rattle.ps_stepping.specs.ps_heap.Scopes.{new_scope}
@@ -55,7 +53,7 @@ use Rattle.ps_code_laws.proofs.Arguments.{kinds_are}
 use Rattle.ps_code_laws.proofs.Handed.{Passed, passed_in, none_passed, locals_handed}
 use Rattle.ps_code_laws.proofs.Beginning.{begun, keep_leads, keeps_do}
 use Rattle.ps_code_laws.proofs.Calls.{Entered}
-use Rattle.ps_code_laws.proofs.Operands.{context_in, Stand, at_least_one}
+use Rattle.ps_code_laws.proofs.Operands.{some_depth, context_in, Stand}
 use Rattle.ps_soundness.specs.Valued.{IsValued, AllValued}
 use Rattle.ps_code_laws.proofs.Simulation.{does}
 
@@ -70,11 +68,6 @@ width_by false (Kept up position) rest nums refs h = let e = h nums (refs + 1) i
 width_keeps : (params : List Param) (nums refs : ℕ) → widths (keeps params nums refs) ≡ size_keeps params
 width_keeps [] nums refs = refl
 width_keeps (param ∷ rest) nums refs = width_by (is_number param.ty) param.place rest nums refs (width_keeps rest)
-
--- a clause needs room for a word at least
-some_depth : (tree : Node) → 1 ≤ depth tree
-some_depth tree =
-    subst (λ (n : ℕ). 1 ≤ n) (sym (fold_parts (λ (clause : Node) (parts : List (PartOf ℕ)). reaches 0 parts) tree)) (at_least_one 0 _)
 
 on_any : (o : Outcome) → On (λ v f. Unit {0}) o
 on_any (Value_is v f s) = tt

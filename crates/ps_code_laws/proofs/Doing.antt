@@ -193,10 +193,10 @@ module _ (w : Way) where
   Comes k nums refs ty (Value_is v f s) = w.Holds (place k (nums_left ty v ++ nums) (refs_left ty v ++ refs) f s.store) s.events
   Comes k nums refs ty (Ends e s) = w.Final e s.store.held.counted s.events
 
-  -- there is room for so many words more on each stack
+  -- there is room for so many words more on each stack, with the locals of both
   pub record Room (need : ℕ) (nums : List ℤ) (refs : List Value) : Type 0 where
-    pub on_nums : (frame_in w.unit).nums + length nums + need ≤ 512
-    pub on_refs : (frame_in w.unit).refs + length refs + need ≤ 512
+    pub on_nums : (frame_in w.unit).nums + (frame_in w.unit).refs + length nums + need ≤ 512
+    pub on_refs : (frame_in w.unit).nums + (frame_in w.unit).refs + length refs + need ≤ 512
 
   -- From p to k the code does what is meant, with these words on the stacks before it, and takes them.
   pub record Does (n : Origin) (bn : List ℤ) (br : List Value) (m : Meaning) (ty : TyView) (need p k : ℕ) : Type 0 where

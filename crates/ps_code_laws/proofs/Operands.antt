@@ -1,11 +1,12 @@
 -- Operands, one after the other, and what is done with their values.
-use Rattle.std.proofs.Common.{◌≡◌, ℕ, ◌+◌, ◌≤◌, ℤ, List, [], ◌∷◌, ◌++◌, length, ap, subst, length-append, arith as by_arith}
+use Rattle.std.proofs.Common.{◌≡◌, ℕ, ◌+◌, ◌≤◌, ℤ, List, [], ◌∷◌, ◌++◌, length, sym, ap, subst, length-append, arith as by_arith}
 use Rattle.ps_gen.specs.ps_base.TyView.{TyView}
 use Rattle.ps_gen.specs.ps_base.Instr.{width_of}
 use Rattle.ps_gen.specs.ps_base.declared.instr.Instr.{Instr}
 use Rattle.ps_gen.specs.ps_program.Node.{Node}
-use Rattle.ps_gen.specs.ps_program.Parts.{Part}
-use Rattle.ps_gen.specs.ps_program.Slots.{reaches}
+use Rattle.ps_gen.specs.ps_program.Parts.{Part, fold}
+use Rattle.ps_gen.proofs.of_ps_program.PartLemmas.{fold_parts}
+use Rattle.ps_gen.specs.ps_program.Slots.{reaches, depth}
 use Rattle.ps_stepping.specs.ps_heap.Values.{Value}
 use Rattle.ps_stepping.specs.ps_heap.Objects.{Heap}
 use Rattle.ps_stepping.specs.ps_meaning.Meaning.{Meaning, ◌>>=◌}
@@ -39,6 +40,11 @@ reaches_behind before need (x ∷ xs) ys h =
 pub at_least_one : (before : ℕ) (parts : List (Part ℕ)) → 1 ≤ reaches before parts
 at_least_one before [] = omega by_arith
 at_least_one before (part ∷ parts) = let h = at_least_one (before + 1) parts in omega by_arith
+
+-- a clause needs room for a word at least
+pub some_depth : (tree : Node) → 1 ≤ depth tree
+some_depth tree =
+    subst (λ (n : ℕ). 1 ≤ n) (sym (fold_parts (λ (clause : Node) (parts : List (Part ℕ)). reaches 0 parts) tree)) (at_least_one 0 _)
 
 module _ (w : Way) where
   abbrev pub nums_of : ℕ

@@ -184,7 +184,7 @@ TurnsFell old (Ends e t) = Unit {0}
 pub record Scans (w : Way) (n : Origin) (strings : Bool) (q s : ℕ) (line : Line) (turn need : ℕ) : Type 0 where
   pub refs_fit : q + 2 < (frame_in w.unit).refs
   pub nums_fit : s + 2 < (frame_in w.unit).nums
-  pub deep : 3 ≤ need
+  pub deep : 2 ≤ need
   pub texts : SparesAll n.known types.Str q
   pub ints : SparesAll n.known types.Int s
   pub answers : (heap : Heap) (procedure : Value) (args : List Value) → IsOf heap (caller (key_type strings)) procedure →
@@ -209,6 +209,10 @@ module _ (w : Way) where
   last_there true q s p nums refs f store = refl
   last_there false q s p nums refs f store = refl
 
+  -- there is room for the procedure, a key and what is under it
+  abbrev MayCall : List ℤ → List Value → Type 0
+  MayCall nums refs = ((frame_in w.unit).refs + length refs + 3 ≤ 512) × ((frame_in w.unit).nums + length nums + 1 ≤ 512)
+
   -- the words that the procedure is called with, over its own
   abbrev called_nums : Bool → Found → List ℤ → List ℤ
   called_nums strings found nums = pushed_nums (fields_by (two (key_type strings) types.Pntr)) (scan_arguments found) nums
@@ -217,7 +221,7 @@ module _ (w : Way) where
   called_refs strings found refs = pushed_refs (fields_by (two (key_type strings) types.Pntr)) (scan_arguments found) refs
 
   string_called : (q s p object : ℕ) (bytes : List ℕ) (procedure : Value) (nums : List ℤ) (refs : List Value) (f : Frame) (store : Store) →
-      f.refs (q + 1) ≡ procedure → Room w 3 nums refs →
+      f.refs (q + 1) ≡ procedure → MayCall nums refs →
       called_with true q s (Text bytes) object (place w p nums refs f store)
       ≡ on (place w p nums (Pointer object ∷ Text bytes ∷ compiled procedure ∷ refs) (found_frame q s (string_key bytes) f) store)
   string_called q s p object bytes procedure nums refs f store is room =
@@ -225,30 +229,30 @@ module _ (w : Way) where
       record (place w p nums (Pointer object ∷ Text bytes ∷ v ∷ refs) f store) { locals = record { nums = row; refs = values } } in
       let numbers : ℕ → ℤ = with_local (λ slot. word_of (f.nums slot)) (s + 2) (pos 1) in
       let values : ℕ → Value = with_local (λ slot. compiled (f.refs slot)) (q + 2) (Text bytes) in
-      if_lt ((frame_in w.unit).refs + length refs) frame_words _ _ (let h = room.on_refs in omega arith)
-      ∙ if_lt ((frame_in w.unit).refs + suc (length refs)) frame_words _ _ (let h = room.on_refs in omega arith)
-      ∙ if_lt ((frame_in w.unit).refs + suc (suc (length refs))) frame_words _ _ (let h = room.on_refs in omega arith)
+      if_lt ((frame_in w.unit).refs + length refs) frame_words _ _ (let h = room.0 in omega arith)
+      ∙ if_lt ((frame_in w.unit).refs + suc (length refs)) frame_words _ _ (let h = room.0 in omega arith)
+      ∙ if_lt ((frame_in w.unit).refs + suc (suc (length refs))) frame_words _ _ (let h = room.0 in omega arith)
       ∙ ap (λ (v : Value). on (config numbers values (compiled v))) is
       ∙ ap (λ (row : ℕ → ℤ). on (config row values (compiled procedure))) (sym (words_set f.nums (s + 2) (Num (pos 1))))
       ∙ ap (λ (row : ℕ → Value). on (config (λ slot. word_of (with_local f.nums (s + 2) (Num (pos 1)) slot)) row (compiled procedure)))
       (sym (refs_set f.refs (q + 2) (Text bytes)))
 
   int_called : (q s p object : ℕ) (z : ℤ) (procedure : Value) (nums : List ℤ) (refs : List Value) (f : Frame) (store : Store) →
-      f.refs (q + 1) ≡ procedure → Room w 3 nums refs →
+      f.refs (q + 1) ≡ procedure → MayCall nums refs →
       called_with false q s (Num z) object (place w p nums refs f store)
       ≡ on (place w p (z ∷ nums) (Pointer object ∷ compiled procedure ∷ refs) (found_frame q s (int_key z) f) store)
   int_called q s p object z procedure nums refs f store is room =
       let config : (ℕ → ℤ) → Value → Config = λ row v. with_words w p (z ∷ nums) (Pointer object ∷ v ∷ refs) row f store in
       let inner = with_local f.nums (s + 1) (Num z) in
-      if_lt ((frame_in w.unit).refs + length refs) frame_words _ _ (let h = room.on_refs in omega arith)
-      ∙ if_lt ((frame_in w.unit).nums + length nums) frame_words _ _ (let h = room.on_nums in omega arith)
-      ∙ if_lt ((frame_in w.unit).refs + suc (length refs)) frame_words _ _ (let h = room.on_refs in omega arith)
+      if_lt ((frame_in w.unit).refs + length refs) frame_words _ _ (let h = room.0 in omega arith)
+      ∙ if_lt ((frame_in w.unit).nums + length nums) frame_words _ _ (let h = room.1 in omega arith)
+      ∙ if_lt ((frame_in w.unit).refs + suc (length refs)) frame_words _ _ (let h = room.0 in omega arith)
       ∙ ap (λ (v : Value). on (config (with_local (with_local (λ slot. word_of (f.nums slot)) (s + 1) z) (s + 2) (pos 1)) (compiled v))) is
       ∙ ap (λ (row : ℕ → ℤ). on (config (with_local row (s + 2) (pos 1)) (compiled procedure))) (sym (words_set f.nums (s + 1) (Num z)))
       ∙ ap (λ (row : ℕ → ℤ). on (config row (compiled procedure))) (sym (words_set inner (s + 2) (Num (pos 1))))
 
   called_acts : (strings : Bool) (q s p object : ℕ) (key : Key) (procedure : Value) (nums : List ℤ) (refs : List Value) (f : Frame) (store : Store) →
-      IsKeyOf strings key → f.refs (q + 1) ≡ procedure → Room w 3 nums refs →
+      IsKeyOf strings key → f.refs (q + 1) ≡ procedure → MayCall nums refs →
       called_with strings q s (shown_key key) object (place w p nums refs f store)
       ≡ on (place w p (called_nums strings (record { key = key; object = object }) [] ++ nums)
       (called_refs strings (record { key = key; object = object }) (compiled procedure ∷ []) ++ refs) (found_frame q s key f) store)
@@ -440,7 +444,9 @@ module _ (w : Way) where
         let touched : State = record t { store = on_held (touching ids t.store.held) t.store } in
         let here = place w (turn + 17) nums refs f t.store in
         let low_next : suc count < 2 ^ 31 = omega (arith, low, eqb-false count most_scan_calls most) in
-        let deep : Room w 3 nums refs = less_room w 3 need nums refs h.deep room in
+        let deep : MayCall nums refs =
+        let refs_fit = h.refs_fit in let nums_fit = h.nums_fit in let on_nums = room.on_nums in let on_refs = room.on_refs in let two = h.deep in
+        (omega arith, omega arith) in
         let since_touched : IsSince n f touched = record {
           few = since.few;
           grows = since.grows;
@@ -567,7 +573,7 @@ module _ (w : Way) where
   }
 
   pub does_scan : (n : Origin) (strings : Bool) (q s need na nf p pa pf : ℕ) (line : Line) (a f : Meaning) → IsScan n.known strings q s →
-      q + 2 < (frame_in w.unit).refs → s + 2 < (frame_in w.unit).nums → 3 ≤ need → na ≤ need → nf ≤ need → Leads n n.known types.Pntr a →
+      q + 2 < (frame_in w.unit).refs → s + 2 < (frame_in w.unit).nums → 2 ≤ need → na ≤ need → nf ≤ need → Leads n n.known types.Pntr a →
       Leads n n.known (caller (key_type strings)) f → Does w n [] [] a types.Pntr na p pa → Stand w pa (instr.SetP q) →
       Does w n [] [] f (caller (key_type strings)) nf (pa + 5) pf → Stand w pf (instr.SetP (q + 1)) →
       Stand w (pf + 5) (instr.Int (pos 0)) → Stand w (pf + 5 + 5) (instr.SetM s) → Stand w (pf + 5 + 5 + 5) (instr.Int (pos 0)) →

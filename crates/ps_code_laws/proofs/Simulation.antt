@@ -55,7 +55,7 @@ use Rattle.ps_code_laws.proofs.Clauses.{IsNum, IsRef, Kind, IsShown, IsCompared,
 use Rattle.ps_code_laws.proofs.TypeOf.{type_in}
 use Rattle.ps_code_laws.proofs.Clauses as clause
 use Rattle.ps_code_laws.proofs.Doing.{Origin, after_it, Leads, Way, place, Does, does_then, does_then_held, does_nothing, does_left, does_give, push_goes, push_ref_goes, does_get, does_get_ref, does_set, does_set_ref, taken, taken_ref, does_answer, does_write, does_stop, does_jump_false, does_and, does_or, does_jump, jump_does, does_while, does_same, moved, does_over, does_over_held, less_room, nums_few, refs_few}
-use Rattle.ps_code_laws.proofs.Operands.{context_in, falls_in, holds_in, deepest, reaches_behind, at_least_one, nums_of, refs_of, Stand, to_end, from_place, next_of, leads_of, does_one, does_two, does_three}
+use Rattle.ps_code_laws.proofs.Operands.{some_depth, context_in, falls_in, holds_in, deepest, reaches_behind, at_least_one, nums_of, refs_of, Stand, to_end, from_place, next_of, leads_of, does_one, does_two, does_three}
 use Rattle.ps_code_laws.proofs.TextForms.{does_join, does_part}
 use Rattle.ps_code_laws.proofs.LibraryForms.{does_procedure}
 use Rattle.ps_code_laws.proofs.StructureForms.{does_is, does_field, does_set_field}
@@ -809,6 +809,7 @@ module _ (w : Way) where
         let rest = after_clause w.unit a at k _ h in
         let stands = after_clause w.unit f (pa + 5) (k + count a) _ rest.1 in
         let begins = stands.1.1.1.1.1.1 in
+        let some = some_depth f in
         let same_turn : at + size a + 5 + size f + 5 + 30 ≡ turn = omega by_arith in
         let scan_at : Stand w turn (choice.scan strings q s (turn + 17 + 9 + 9) line)
         = subst (λ (end : ℕ). Stand w turn (choice.scan strings q s end line)) (ap (λ (j : ℕ). j + 17 + 9 + 9) same_turn) begins.1.0 in
