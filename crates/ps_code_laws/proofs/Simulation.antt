@@ -1,5 +1,6 @@
 -- The code of a clause does what the clause means.
 use Rattle.std.proofs.Common.{◌≡◌, ℕ, ◌+◌, ◌<◌, ◌≤◌, ℤ, Bool, true, false, not, List, [], ◌∷◌, ◌++◌, length, Option, Some, None, refl, sym, ap, ◌∙◌, subst, append_assoc, length-append, pos, arith as by_arith}
+use Rattle.std.specs.Prelude.{if◌then◌else◌}
 use Rattle.std.specs.List.{AllByRecursion}
 use Rattle.std.specs.Fmt.{signed_decimal}
 use Rattle.ps_gen.specs.ps_base.TyView.{TyView, TyViews}
@@ -12,6 +13,7 @@ use Rattle.ps_gen.specs.ps_base.declared.operator.Operator.{Operator}
 use Rattle.ps_gen.specs.ps_base.declared.operator.Operator.TheVariants as operator
 use Rattle.ps_gen.specs.ps_base.declared.operator.Relation.{Relation}
 use Rattle.ps_gen.specs.ps_base.declared.operator.Relation.TheVariants as relation
+use Rattle.ps_gen.specs.ps_base.declared.instr.Instr.{Instr}
 use Rattle.ps_gen.specs.ps_base.declared.instr.Instr.TheVariants as instr
 use Rattle.ps_gen.specs.ps_program.declared.place.Place.{Place}
 use Rattle.ps_gen.specs.ps_program.declared.place.Place.TheVariants.{Plain, Kept}
@@ -813,7 +815,10 @@ module _ (w : Way) where
         let same_turn : at + size a + 5 + size f + 5 + 30 ≡ turn = omega by_arith in
         let scan_at : Stand w turn (choice.scan strings q s (turn + 17 + 9 + 9) line)
         = subst (λ (end : ℕ). Stand w turn (choice.scan strings q s end line)) (ap (λ (j : ℕ). j + 17 + 9 + 9) same_turn) begins.1.0 in
-        let calls = next_of w turn 17 (choice.scan strings q s _ line) _ (width_scan strings q s _ line) begins.1 in
+        let begin = at + size a + 5 + size f + 5 + 30 in
+        let behind_scan : List Instr = instr.Call (if strings then 2 else 1) line ∷ instr.ScanMore s begin ∷ instr.GetM s ∷ [] in
+        let calls : Ahead w.unit (turn + 17) behind_scan
+        = next_of w turn 17 (choice.scan strings q s (begin + 17 + 9 + 9) line) behind_scan (width_scan strings q s (begin + 17 + 9 + 9) line) begins.1 in
         let more_at : Stand w (turn + 17 + 9) (instr.ScanMore s turn) = subst (λ (j : ℕ). Stand w (turn + 17 + 9) (instr.ScanMore s j)) same_turn calls.1.0 in
         to_end w (turn + 17 + 9 + 9 + 5) (at + size whole) (omega by_arith)
         (does_scan w n strings q s (depth whole) (depth a) (depth f) at pa pf line (eval context a) (eval context f) is refs_fit nums_fit (omega by_arith)
