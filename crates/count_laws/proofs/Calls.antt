@@ -178,8 +178,7 @@ open_like name password mode h n w less weighs = of (admission h.directory name 
 asked_like : (ask grant : Held → Answer) → GrantLike ask → GrantLike grant → GrantLike (λ h. then_answered (ask h) grant)
 asked_like ask grant a g h n w less weighs =
     let first = a h n w less weighs in
-    let second = g (ask h).held first.0.counted first.0.weigh first.0.less first.0.weighs in
-    (
+    let second = g (ask h).held first.0.counted first.0.weigh first.0.less first.0.weighs in (
       record {
         events = first.0.events ++ second.0.events;
         counted = second.0.counted;
@@ -189,14 +188,13 @@ asked_like ask grant a g h n w less weighs =
         weighs = second.0.weighs;
       },
       ap (λ (x : Answer). then_answered x grant) first.1
-      ∙ ap (λ (x : Answer). record x { events = first.0.events ++ x.events }) second.1,
+          ∙ ap (λ (x : Answer). record x { events = first.0.events ++ x.events }) second.1,
     )
 
 asks_create_like : (name : List ℕ) → GrantLike (asks_to_create name)
 unfolding asks_to_create
 asks_create_like name h n w less weighs =
-    let known = if h.asked then 0 else full_directory_weight h.directory in
-    (
+    let known = if h.asked then 0 else full_directory_weight h.directory in (
       record {
         events = _;
         counted = n + known + 64;
@@ -211,8 +209,7 @@ asks_create_like name h n w less weighs =
 asks_open_like : (name mode : List ℕ) → GrantLike (asks_to_open name mode)
 unfolding asks_to_open
 asks_open_like name mode h n w less weighs =
-    let known = if h.asked then 0 else full_directory_weight h.directory in
-    (
+    let known = if h.asked then 0 else full_directory_weight h.directory in (
       record {
         events = _;
         counted = n + known;

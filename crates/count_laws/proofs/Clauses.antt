@@ -13,12 +13,11 @@ use Rattle.ps_heap.specs.Ends.{End, Done, OutOfTurns}
 use Rattle.ps_heap.specs.Values.{Value, Num, Text, Nil, Pointer, Vector, Procedure, Nothing, as_written, Routine, word_of, flag_of}
 use Rattle.ps_heap.specs.Texts.{line_read, behind_line}
 use Rattle.ps_heap.specs.Tables.{Key, string_key, int_key}
-use Rattle.ps_heap.specs.References.{scope_ids}
 use Rattle.ps_heap.specs.Weights.{code_weight}
 use Rattle.ps_heap.specs.Events.{Finish}
 use Rattle.ps_heap.specs.Library.{LibraryProcedure, OnHeap, ReadLine, AtEnd, Length, IntText, library_procedure, heap_call}
 use Rattle.ps_heap.specs.Scans.{Found, most_scan_calls, next_key, scan_arguments}
-use Rattle.ps_meaning.specs.Meaning.{Outcome, Value_is, Ends, Meaning, stop, ◌>>=◌, made, touch, read, put_input, take_turn, set}
+use Rattle.ps_meaning.specs.Meaning.{Outcome, Value_is, Ends, Meaning, stop, ◌>>=◌, made, touch, touch_scope, read, put_input, take_turn, set}
 use Rattle.ps_meaning.specs.Frames.{frame_of_call, keep, keep_all}
 use Rattle.ps_meaning.specs.Operations.{is_equal, make_meant, read_line, at_end, lib_meant}
 use Rattle.ps_meaning.specs.Loops.{while_turns, Counting, goes_on, in_turn, for_turns, for_loop, for_meant, Scanning, set_last, scan_call, scan_next, scan_turns, begin_scan}
@@ -26,7 +25,7 @@ use Rattle.ps_meaning.specs.Evaluation.{Context, most_calls, call_meant, eval, e
 use Rattle.ps_meaning.specs.Calls.{body_meant, call_within, context}
 use Rattle.ps_meaning.specs.Runs.{Given, fresh_frame, fresh_state, outcome_with, all_events, events_with}
 use Rattle.count_laws.specs.Heavier.{Weighs, AreLess}
-use Rattle.count_laws.proofs.Like.{less_append, Heavier, heavier_state, IsLike, Alike, alike_then, alike_give, alike_stop, alike_choose, alike_answer, alike_attempt, alike_with_heap, alike_touch, alike_read, alike_assign, alike_get, alike_set, alike_made, alike_made_text, alike_made_procedure, alike_written, alike_turn, alike_with_input, alike_put_input, alike_scope, alike_in_frame, alike_answered}
+use Rattle.count_laws.proofs.Like.{less_append, Heavier, heavier_state, IsLike, Alike, alike_then, alike_give, alike_stop, alike_choose, alike_answer, alike_attempt, alike_with_heap, alike_touch, alike_touch_scope, alike_read, alike_assign, alike_get, alike_set, alike_made, alike_made_text, alike_made_procedure, alike_written, alike_turn, alike_with_input, alike_put_input, alike_scope, alike_in_frame, alike_answered}
 use Rattle.count_laws.proofs.Calls.{heap_call_like}
 
 alike_in_turn : (loop : Counting) (clause : Meaning) → Alike clause → (z : ℤ) → Alike (in_turn loop clause z)
@@ -40,8 +39,7 @@ CallsAlike c = (of : BodyNode) (args : List Value) → Alike (c.call of args)
 alike_call : (c : Context) → CallsAlike c → (line : Line) (v : Value) (args : List Value) → Alike (call_meant c line v args)
 unfolding call_meant
 alike_call c k line (Procedure (as_written of) scope) args =
-    alike_then (touch (scope_ids scope)) _ (alike_touch (scope_ids scope)) (λ u.
-    alike_choose (nat_lt c.depth most_calls) _ _ (alike_in_frame (frame_of_call of scope args) (c.call of args) (k of args)) (alike_stop _))
+    alike_choose (nat_lt c.depth most_calls) _ _ (alike_in_frame (frame_of_call of scope args) (c.call of args) (k of args)) (alike_stop _)
 alike_call c k line v args = alike_stop _
 
 pub alike_for_turns : (n : ℕ) (loop : Counting) (clause : Meaning) → Alike clause → (z : ℤ) → Alike (for_turns n loop clause z)
@@ -251,7 +249,8 @@ alike_within : (n depth : ℕ) (of : BodyNode) (args : List Value) → Alike (ca
 unfolding call_within
 alike_within zero depth of args = alike_stop _
 alike_within (suc n) depth of args =
-    alike_then take_turn _ alike_turn (λ t. alike_body (context n depth) (alike_within n (suc depth)) of args)
+    alike_then take_turn _ alike_turn (λ t. alike_then touch_scope _ alike_touch_scope
+    (λ u. alike_body (context n depth) (alike_within n (suc depth)) of args))
 
 pub calls_alike : (n depth : ℕ) → CallsAlike (context n depth)
 calls_alike n depth = alike_within n (suc depth)

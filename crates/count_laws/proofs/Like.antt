@@ -11,14 +11,14 @@ use Rattle.ps_heap.specs.Ends.{End}
 use Rattle.ps_heap.specs.Values.{Value, Num, Flag, Text, Nil, Pointer, Vector, Procedure, Nothing, Routine}
 use Rattle.ps_heap.specs.Texts.{Attempt, Yields, Fails}
 use Rattle.ps_heap.specs.Objects.{Heap, Object, object_at}
-use Rattle.ps_heap.specs.References.{values_of}
+use Rattle.ps_heap.specs.References.{scope_ids, values_of}
 use Rattle.ps_heap.specs.Weights.{own_weight, text_weight, closure_weight, value_weight, values_weight, whole_weight, full_weight}
 use Rattle.ps_heap.specs.Scopes.{new_scope}
 use Rattle.ps_heap.specs.Held.{Held, home_at, weight_at, is_first_touch, touched_with, touched_weight, touching, reading, reading_name, assigning, assigned_name}
 use Rattle.ps_heap.specs.Held as held
 use Rattle.ps_heap.specs.Calls as calls
 use Rattle.ps_heap.specs.Events.{Event, Out, Turn}
-use Rattle.ps_meaning.specs.Meaning.{Frame, Store, State, Outcome, Value_is, Ends, Meaning, give, stop, after, ◌>>=◌, choose, answer, attempt, with_heap, change, touch, read, assign, put_answer, answered, made, made_text, made_procedure, with_input, put_input, enter, back_in, back_to, scoped, in_scope, in_frame, some_out, emit, in_places, is_width, written, with_turns, turned, take_turn, get, set}
+use Rattle.ps_meaning.specs.Meaning.{Frame, Store, State, Outcome, Value_is, Ends, Meaning, give, stop, after, ◌>>=◌, choose, answer, attempt, with_heap, change, touch, touch_scope, read, assign, put_answer, answered, made, made_text, made_procedure, with_input, put_input, enter, back_in, back_to, scoped, in_scope, in_frame, some_out, emit, in_places, is_width, written, with_turns, turned, take_turn, get, set}
 use Rattle.count_laws.specs.Heavier.{Weighs, IsLess, AreLess}
 
 pub less_append : (as bs cs ds : List Event) → AreLess as bs → AreLess cs ds → AreLess (as ++ cs) (bs ++ ds)
@@ -148,6 +148,9 @@ touching_changes ids h n w less weighs = record {
 
 pub alike_touch : (ids : List ℕ) → Alike (touch ids)
 alike_touch ids = alike_change Nothing (touching ids) (touching_changes ids)
+
+pub alike_touch_scope : Alike touch_scope
+alike_touch_scope f s r = alike_touch (scope_ids f.scope) f s r
 
 pub alike_read : (v : Value) → Alike (read v)
 alike_read v = alike_change v (reading v) (λ h n w less weighs. touching_changes _ h n w less weighs)
