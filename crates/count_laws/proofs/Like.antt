@@ -21,11 +21,11 @@ use Rattle.ps_heap.specs.Events.{Event, Out, Turn}
 use Rattle.ps_meaning.specs.Meaning.{Frame, Store, State, Outcome, Value_is, Ends, Meaning, give, stop, after, ◌>>=◌, choose, answer, attempt, with_heap, change, touch, touch_scope, read, assign, put_answer, answered, made, made_text, made_procedure, with_input, put_input, enter, back_in, back_to, scoped, in_scope, in_frame, some_out, emit, in_places, is_width, written, with_turns, turned, take_turn, get, set}
 use Rattle.count_laws.specs.Heavier.{Weighs, IsLess, AreLess}
 
-pub less_append : (as bs cs ds : List Event) → AreLess as bs → AreLess cs ds → AreLess (as ++ cs) (bs ++ ds)
+pub less_append : (xs bs cs ds : List Event) → AreLess xs bs → AreLess cs ds → AreLess (xs ++ cs) (bs ++ ds)
 less_append [] [] cs ds h k = k
 less_append [] (b ∷ bs) cs ds h k = absurd h
-less_append (a ∷ as) [] cs ds h k = absurd h
-less_append (a ∷ as) (b ∷ bs) cs ds h k = (h.0, less_append as bs cs ds h.1 k)
+less_append (a ∷ xs) [] cs ds h k = absurd h
+less_append (a ∷ xs) (b ∷ bs) cs ds h k = (h.0, less_append xs bs cs ds h.1 k)
 
 -- what is held where so many bytes are counted, and this is what code weighs
 abbrev pub heavier : ℕ → (Routine → ℕ) → Held → Held
@@ -101,8 +101,7 @@ Changes does = (h : Held) (n : ℕ) (w : Routine → ℕ) → h.counted ≤ n �
 pub alike_change : (v : Value) (does : Held → Held) → Changes does → Alike (change v does)
 unfolding change
 alike_change v does c f s r =
-    let k = c s.store.held r.counted r.weigh r.less r.weighs in
-    (
+    let k = c s.store.held r.counted r.weigh r.less r.weighs in (
       record { events = r.events; counted = k.counted; weigh = k.weigh; are = r.are; less = k.less; weighs = k.weighs },
       ap (λ (x : Held). Value_is v f (record { events = r.events; store = record s.store { held = x } })) k.is,
     )
@@ -134,8 +133,12 @@ pub touched_less : (light heavy : Routine → ℕ) → Weighs light heavy → (h
 unfolding touched_weight
 touched_less light heavy h heap homes [] touched = omega arith
 touched_less light heavy h heap homes (id ∷ ids) touched =
-    omega (arith, either_less (is_first_touch homes id touched) (weight_at light (object_at heap id)) (weight_at heavy (object_at heap id))
-    (weight_less light heavy h (object_at heap id)), touched_less light heavy h heap homes ids (touched_with homes id touched))
+    omega (
+      arith,
+      either_less (is_first_touch homes id touched) (weight_at light (object_at heap id)) (weight_at heavy (object_at heap id))
+          (weight_less light heavy h (object_at heap id)),
+      touched_less light heavy h heap homes ids (touched_with homes id touched),
+    )
 
 pub touching_changes : (ids : List ℕ) → Changes (touching ids)
 touching_changes ids h n w less weighs = record {
