@@ -10,7 +10,7 @@ use Rattle.ps_meaning.specs.ps_program.Node.{Param, Node, Nodes, none, more, Arm
 use Rattle.ps_meaning.specs.ps_program.Node as node
 use Rattle.ps_heap.specs.Operators.{is_same}
 use Rattle.ps_heap.specs.Ends.{End, Done, OutOfTurns}
-use Rattle.ps_heap.specs.Values.{Value, Num, Text, Nil, Pointer, Vector, Procedure, Nothing, as_written, Routine, word_of, flag_of}
+use Rattle.ps_heap.specs.Values.{Flag, Value, Num, Text, Nil, Pointer, Vector, Procedure, Nothing, as_written, Routine, word_of, flag_of}
 use Rattle.ps_heap.specs.Texts.{line_read, behind_line}
 use Rattle.ps_heap.specs.Tables.{Key, string_key, int_key}
 use Rattle.ps_heap.specs.Weights.{code_weight}

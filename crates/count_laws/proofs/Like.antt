@@ -140,7 +140,7 @@ touched_less light heavy h heap homes (id ∷ ids) touched =
       touched_less light heavy h heap homes ids (touched_with homes id touched),
     )
 
-pub touching_changes : (ids : List ℕ) → Changes (touching ids)
+abbrev pub touching_changes : (ids : List ℕ) → Changes (touching ids)
 touching_changes ids h n w less weighs = record {
   counted = n + touched_weight w h.objects h.homes ids h.touched;
   weigh = w;

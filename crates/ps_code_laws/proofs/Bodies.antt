@@ -1,11 +1,12 @@
 -- Bodies do what they mean, inside any bodies that wait, and so does a program.
-use Rattle.std.proofs.Common.{◌≡◌, ℕ, zero, suc, ◌+◌, ◌≤◌, List, [], ◌∷◌, ◌++◌, length, Option, Some, None, refl, sym, ◌∙◌, subst, append_assoc, append-nil, arith}
+use Rattle.std.proofs.Common.{◌≡◌, Bool, true, ℕ, zero, suc, ◌+◌, ◌≤◌, List, [], ◌∷◌, ◌++◌, length, Option, Some, None, refl, sym, ap, ◌∙◌, subst, append_assoc, append-nil, arith}
 use Rattle.std.specs.List.{AllByRecursion}
 use Rattle.std.proofs.lemmas.List.{map-append}
 use Rattle.ps_gen.specs.ps_base.TyView.{TyView, TyViews}
 use Rattle.ps_gen.specs.ps_base.TyView as types
 use Rattle.ps_gen.specs.ps_base.CodeUnit.{UnitView}
 use Rattle.ps_gen.specs.ps_base.declared.line.Line.{Line}
+use Rattle.ps_gen.specs.ps_base.declared.instr.Instr.{Instr}
 use Rattle.ps_gen.specs.ps_base.declared.instr.Instr.TheVariants as instr
 use Rattle.ps_gen.specs.ps_program.Node.{Param, Node, BodyNode, body}
 use Rattle.ps_type_text.specs.Texts.{Field}
@@ -24,7 +25,7 @@ use Rattle.ps_stepping.specs.ps_meaning.Runs.{Given, fresh_frame, fresh_store, f
 use Rattle.ps_gen.specs.ps_emitter.Choices as choice
 use Rattle.ps_gen.specs.Units.{HasUnit, unit_of}
 use Rattle.ps_stepping.specs.Config.{frame_words, Caller, Config, code_in, frame_in, IsAt, start}
-use Rattle.ps_stepping.specs.Machine.{Step, Goes, Stops, and_touched, act, Steps, at_instruction, resumed}
+use Rattle.ps_stepping.specs.Machine.{Step, Goes, Stops, and_touched, act, Steps, at_instruction, resumed, RunsBy, goes_by, stops_by}
 use Rattle.ps_stepping.specs.Machine as machine
 use Rattle.ps_stepping.specs.Path.{Reaches, Finishes}
 use Rattle.ps_stepping.specs.Path as path
@@ -33,10 +34,10 @@ use Rattle.ps_soundness.specs.Valued.{IsValued}
 use Rattle.ps_soundness.specs.Shapes.{type_of_body}
 use Rattle.ps_soundness.proofs.Telling.{Told}
 use Rattle.ps_soundness.proofs.Calling.{ValuesOf}
-use Rattle.ps_code_laws.specs.Literals.{AreScopesValued, Fits}
+use Rattle.ps_code_laws.specs.Literals.{AreScopesValued, Fits, FitsBy, instrs_of}
 use Rattle.ps_code_laws.specs.Meets.{nums_left, refs_left, standing, ComesBack, Follows, AreHanded, HasRoom, IsFittingHeap, Meets}
 use Rattle.ps_code_laws.specs.Compiled.{compiled_store, compiled_event, compiled_events, WeighsUnits}
-use Rattle.ps_code_laws.proofs.Doing.{Way, if_lt, quiet}
+use Rattle.ps_code_laws.proofs.Doing.{Way, if_lt, quiet, halt}
 use Rattle.ps_code_laws.proofs.CallForms.{Returned}
 use Rattle.ps_code_laws.proofs.Calls.{Enters, Entered}
 use Rattle.ps_code_laws.proofs.Called.{within, Closes, Returns, body_does}
@@ -83,15 +84,26 @@ follows_stops {c = c} {e = e} {touched = touched} so_far callers gives (Ends end
       (subst (λ (e : End). Finishes c (Finish e (and_touched touched c.store.held.counted) ∷ [])) h.0 (path.stops s)),
 )
 
+-- each instruction may run
+any_may : (is : List Instr) → AllByRecursion (λ (i : Instr). Unit {0}) is
+any_may [] = tt
+any_may (i ∷ is) = (tt, any_may is)
+
 -- the way to what an outcome says
 abbrev way_to : UnitView → List Caller → TyView → Outcome → Way
 way_to u callers gives o = record {
   unit = u;
   callers = callers;
+  Body = Fits;
+  Allows = λ i. Unit {0};
+  fits = λ of h. h;
+  allowed = λ of h. any_may (instrs_of of);
   Holds = λ c so_far. Follows c so_far callers gives o;
   Final = λ e counted so_far. EndsSo o e counted so_far;
-  goes = λ {c} {next} {so_far} events s h. follows_goes events so_far callers gives o s h;
-  stops = λ {c} {so_far} {e} {touched} s h. follows_stops so_far callers gives o s h;
+  goes = λ {c} {next} {so_far} events {i} at ok acts h.
+      follows_goes events so_far callers gives o (subst (λ (s : Step). Steps c s) acts (at_instruction at)) h;
+  stops = λ {c} {so_far} {e} {touched} {i} at ok acts h.
+      follows_stops so_far callers gives o (subst (λ (s : Step). Steps c s) acts (at_instruction at)) h;
 }
 
 -- the last instruction of a body
@@ -180,69 +192,99 @@ pub body_meets : (told : Told) (wholes scopes : List (List Field)) (of : BodyNod
     AreScopesValued scopes → AllByRecursion Fits (bodies of) → Meets n wholes scopes of
 body_meets told wholes scopes (body params gives tree text line) n typed_body runs valued fit =
     let of : BodyNode = body params gives tree text line in
-    let fits = names_in_body wholes typed_body runs (bodies_inside Fits of fit) valued in
+    let fits = names_in_body Fits (λ b h. h.valued) wholes typed_body runs (bodies_inside Fits of fit) valued in
     record {
       follows = λ callers scope args state turns room fitting stand are literals.
           let o = body_meant (context n (length callers)) of args (frame_of_call of scope args) state in
           let w = way_to (unit_of of) callers gives o in
           body_does told w callers n scope args state wholes scopes of (types_of_params params) gives (HasSo o) refl typed_body runs stand fits turns
           (all_enter told n (within w of callers)) fitting.typed fitting.weighs (handed state.store.held.objects params args are) literals fitting.fit
-          (λ k at v f s h. comes_so (unit_of of) callers gives o room k at v f s h) (has_so (unit_of of) callers gives o);
+          (λ k at v f s h. comes_so (unit_of of) callers gives o room k at.0 v f s h) (has_so (unit_of of) callers gives o);
     }
 
--- A run has the events of its way to the end.
-finishes_runs : {c : Config} {events : List Event} → Finishes c events → (so_far : List Event) → machine.Runs (so_far ++ events) c so_far
-finishes_runs (path.stops s) so_far = machine.stops s refl
-finishes_runs (path.goes {next = next} {events = events} {behind = behind} s rest) so_far =
-    machine.goes s (subst (λ (all : List Event). machine.Runs all next (so_far ++ events)) (append_assoc so_far events behind)
-    (finishes_runs rest (so_far ++ events)))
+-- Programs.
 
--- with the end as it is
-with_finish : (events : List Event) (e : End) (counted : ℕ) → compiled_events (events ++ Finish e counted ∷ []) ≡ compiled_events events ++ Finish e counted ∷ []
-with_finish events e counted = map-append compiled_event events (Finish e counted ∷ [])
+-- the way of a run that has all these events in the end
+abbrev run_to : (may : Instr → Bool) → UnitView → List Event → Way
+run_to may u total = record {
+  unit = u;
+  callers = [];
+  Body = FitsBy may;
+  Allows = λ i. may i ≡ true;
+  fits = λ of h. h.fits;
+  allowed = λ of h. h.each_may;
+  Holds = λ c so_far. RunsBy may (compiled_events total) c (compiled_events so_far);
+  Final = λ e counted so_far. total ≡ so_far ++ Finish e counted ∷ [];
+  goes = λ {c} {next} {so_far} events {i} at ok acts h. goes_by at ok acts
+      (subst (λ (es : List Event). RunsBy may (compiled_events total) next es) (map-append compiled_event so_far events) h);
+  stops = λ {c} {so_far} {e} {touched} {i} at ok acts h.
+      stops_by at ok acts
+      (ap compiled_events h ∙ map-append compiled_event so_far (Finish e (and_touched touched c.store.held.counted) ∷ []));
+}
 
-runs_so : (c : Config) (all events : List Event) (e : End) (counted : ℕ) → all ≡ events → Finishes c (compiled_events events ++ Finish e counted ∷ []) →
-    machine.Runs (compiled_events (all ++ Finish e counted ∷ [])) c []
-runs_so c all events e counted same h =
-    subst (λ (es : List Event). machine.Runs (compiled_events (es ++ Finish e counted ∷ [])) c []) (sym same)
-    (subst (λ (es : List Event). machine.Runs es c []) (sym (with_finish events e counted)) (finishes_runs h []))
+-- what is so where a program has its value
+abbrev EndsIn : List Event → Value → State → Type 0
+EndsIn total v s = total ≡ s.events ++ Finish Done s.store.held.counted ∷ []
 
-runs_by : (c : Config) (gives : TyView) (o : Outcome) → Follows c [] [] gives o → machine.Runs (compiled_events (all_events o)) c []
+ends_so : (may : Instr → Bool) (u : UnitView) (o : Outcome) → Closes (run_to may u (all_events o)) (EndsIn (all_events o)) o
 unfolding all_events
-runs_by c gives (Value_is v f state) h = runs_so c state.events h.0 Done state.store.held.counted h.1 h.2
-runs_by c gives (Ends e state) h = runs_so c state.events h.0 e state.store.held.counted h.1 h.2
+ends_so may u (Value_is v f s) = refl
+ends_so may u (Ends e s) = refl
+
+ends_at : (may : Instr → Bool) (of : BodyNode) (gives : TyView) (total : List Event) → Returns (within (run_to may (unit_of of) total) of []) gives (EndsIn total)
+ends_at may of gives total k at v f s is =
+    halt (within (run_to may (unit_of of) total) of []) (instr.Return (choice.kind_of gives)) at (return_stops (unit_of of) k gives v f s.store) is
 
 -- what the law of programs says of one
-abbrev pub RunsAsMeant : (Routine → ℕ) → Given → BodyNode → Type 0
-RunsAsMeant weigh given program =
-    machine.Runs (compiled_events (events_with weigh given program))
+abbrev pub RunsAsMeant : (Instr → Bool) → (Routine → ℕ) → Given → BodyNode → Type 0
+RunsAsMeant may weigh given program =
+    RunsBy may (compiled_events (events_with weigh given program))
     (start (unit_of program) (compiled_store (fresh_store weigh given (code_weight program)))) []
 
 -- a program is a body that is called with nothing
-program_by : (told : Told) (gives : TyView) (tree : Node) (line : Line) (weigh : Routine → ℕ) (given : Given) → WeighsUnits weigh →
-    IsFittingHeap given.heap → IsBody [] (body [] gives tree None line) → BodyRuns [] (body [] gives tree None line) →
-    AllByRecursion Fits (bodies (body [] gives tree None line)) → RunsAsMeant weigh given (body [] gives tree None line)
+program_by : (told : Told) (may : Instr → Bool) (gives : TyView) (tree : Node) (line : Line) (weigh : Routine → ℕ) (given : Given) → WeighsUnits weigh →
+    IsFittingHeap may given.heap → IsBody [] (body [] gives tree None line) → BodyRuns [] (body [] gives tree None line) →
+    AllByRecursion (FitsBy may) (bodies (body [] gives tree None line)) → RunsAsMeant may weigh given (body [] gives tree None line)
 unfolding events_with outcome_with fresh_state fresh_frame body_meant keep_all ◌>>=◌ after give frame_of_call arguments_on
-program_by told gives tree line weigh given weighs heap typed_body runs fit =
+program_by told may gives tree line weigh given weighs heap typed_body runs fit =
     let of : BodyNode = body [] gives tree None line in
-    let m = body_meets told [] [] of given.turns typed_body runs tt fit in
-    runs_by (start (unit_of of) (compiled_store (fresh_store weigh given (code_weight of)))) gives (outcome_with weigh given of)
-    (m.follows [] None [] (fresh_state weigh given (code_weight of)) (omega arith) tt
-    (record { typed = (heap.typed, heap.roots); fit = heap.fit; weighs = weighs }) tt tt tt)
+    let o = outcome_with weigh given of in
+    let w = run_to may (unit_of of) (all_events o) in
+    let fits = names_in_body (FitsBy may) (λ b h. h.fits.valued) [] typed_body runs (bodies_inside (FitsBy may) of fit) tt in
+    body_does told w [] given.turns None [] (fresh_state weigh given (code_weight of)) [] [] of types.none gives (EndsIn (all_events o)) refl typed_body runs tt
+    fits (omega arith) (all_enter told given.turns (within w of [])) (heap.typed, heap.roots) weighs tt tt heap.fit (ends_at may of gives (all_events o))
+    (ends_so may (unit_of of) o)
 
 -- and has no scope of its own
 no_scope : (gives : TyView) (tree : Node) (bytes : List ℕ) (line : Line) → IsBody [] (body [] gives tree (Some bytes) line) → ⊥
 no_scope gives tree bytes line (typed.of_params typed.scoped typed.Takes.no_more ended t) = cc
 
-pub program_runs : (told : Told) (program : BodyNode) (weigh : Routine → ℕ) (given : Given) → WeighsUnits weigh → IsFittingHeap given.heap →
-    IsWellTyped program → BodyRuns [] program → AllByRecursion (λ (of : BodyNode). IsValued (type_of_body of)) (bodies program) →
-    first_complex (bodies program) ≡ None → AllByRecursion HasUnit (bodies program) → RunsAsMeant weigh given program
-program_runs told (body params gives tree text line) weigh given weighs heap (no_params, is_void, typed_body) runs valued few units =
+-- where each instruction may run
+each_true : (is : List Instr) → AllByRecursion (λ (i : Instr). true ≡ true) is
+each_true [] = tt
+each_true (i ∷ is) = (refl, each_true is)
+
+pub all_true : (all : List BodyNode) → AllByRecursion (λ (of : BodyNode). AllByRecursion (λ (i : Instr). true ≡ true) (instrs_of of)) all
+all_true [] = tt
+all_true (of ∷ all) = (each_true (instrs_of of), all_true all)
+
+-- bodies that fit, and whose instructions may run
+both_fit : (may : Instr → Bool) (all : List BodyNode) → AllByRecursion Fits all →
+    AllByRecursion (λ (of : BodyNode). AllByRecursion (λ (i : Instr). may i ≡ true) (instrs_of of)) all → AllByRecursion (FitsBy may) all
+both_fit may [] h k = tt
+both_fit may (of ∷ all) h k = (record { fits = h.0; each_may = k.0 }, both_fit may all h.1 k.1)
+
+pub program_runs : (told : Told) (may : Instr → Bool) (program : BodyNode) (weigh : Routine → ℕ) (given : Given) → WeighsUnits weigh →
+    IsFittingHeap may given.heap → IsWellTyped program → BodyRuns [] program →
+    AllByRecursion (λ (of : BodyNode). IsValued (type_of_body of)) (bodies program) → first_complex (bodies program) ≡ None →
+    AllByRecursion HasUnit (bodies program) →
+    AllByRecursion (λ (of : BodyNode). AllByRecursion (λ (i : Instr). may i ≡ true) (instrs_of of)) (bodies program) → RunsAsMeant may weigh given program
+program_runs told may (body params gives tree text line) weigh given weighs heap (no_params, is_void, typed_body) runs valued few units instrs =
     let Done : List Param → Option (List ℕ) → Type 0 = λ ps scope. IsBody [] (body ps gives tree scope line) → BodyRuns [] (body ps gives tree scope line) →
-    AllByRecursion Fits (bodies (body ps gives tree scope line)) → RunsAsMeant weigh given (body ps gives tree scope line) in
+    AllByRecursion (FitsBy may) (bodies (body ps gives tree scope line)) → RunsAsMeant may weigh given (body ps gives tree scope line) in
     let by_scope : (scope : Option (List ℕ)) → Done [] scope = λ scope. elim scope as (λ s. Done [] s) [
-      | None ↦ program_by told gives tree line weigh given weighs heap
+      | None ↦ program_by told may gives tree line weigh given weighs heap
       | Some bytes ↦ λ is r f. absurd (no_scope gives tree bytes line is)
     ] in
-    subst (λ (ps : List Param). Done ps text) (sym no_params) (by_scope text) typed_body runs
-    (bodies_fit (bodies (body params gives tree text line)) valued few units)
+    let all = bodies (body params gives tree text line) in
+    subst (λ (ps : List Param). Done ps text) (sym no_params) (by_scope text) typed_body runs (both_fit may all (bodies_fit all valued few units) instrs)

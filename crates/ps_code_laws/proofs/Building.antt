@@ -25,7 +25,7 @@ use Rattle.ps_stepping.specs.ps_meaning.Calls.{context}
 use Rattle.ps_soundness.specs.Running.{IsPlace, HasAsMany, RunsIn, AllRunIn}
 use Rattle.ps_soundness.specs.Free.{AllBelow}
 use Rattle.ps_soundness.specs.Valued.{IsValued, AllValued}
-use Rattle.ps_soundness.specs.Shapes.{ComesToInside}
+use Rattle.ps_soundness.specs.Shapes.{ComesToInside, type_of_body}
 use Rattle.ps_soundness.proofs.Telling.{Told}
 use Rattle.ps_soundness.proofs.Places.{free_slot}
 use Rattle.ps_soundness.proofs.Combining.{Standing, AreAround, IsStanding, stand, Comes, sound_then, sound_set}
@@ -38,7 +38,7 @@ use Rattle.ps_soundness.proofs.Scans.{key_type, SparesAll}
 use Rattle.ps_soundness.proofs.Declaring.{declared_less, scope_same, sound_set_local, declared_sound, literal_sound}
 use Rattle.ps_soundness.proofs.Bodies.{within_answers, comes_to_inside}
 use Rattle.ps_soundness.proofs.Valued.{valued_by, field_valued}
-use Rattle.ps_code_laws.specs.Literals.{BodiesAre, AllBodiesAre, Fits}
+use Rattle.ps_code_laws.specs.Literals.{BodiesAre, AllBodiesAre}
 use Rattle.ps_code_laws.proofs.Known.{HasPlace, IsNext, opened}
 use Rattle.ps_code_laws.proofs.Known as kept
 use Rattle.ps_code_laws.proofs.Keeps.{Spot, on_nums, on_refs, Keeps, KeepClaim, keeps, keeps_each, Unnamed, each_left, each_right, locals_in_loop, locals_in_scan, declared_unnamed}
@@ -139,52 +139,52 @@ loop_runs : (wholes : List (List Field)) (slot : ℕ) (a b c : Node) (scope : Op
 loop_runs wholes slot a b c None control s line r = (r.0, r.1, r.2)
 loop_runs wholes slot a b c (Some bytes) control s line r = (r.0, r.1, r.2)
 
-module _ (told : Told) (nums refs : ℕ) where
+module _ (told : Told) (P : BodyNode → Type 0) (valued_body : (of : BodyNode) → P of → IsValued (type_of_body of)) (nums refs : ℕ) where
   slot_in : (env : Env) (free : Free) (slot : ℕ) (ty : TyView) → LocalsBelow env free → IsValued ty → Within nums refs free →
       Some_is (IsLocal slot ty) env.locals → IsSlot nums refs slot ty
   slot_in env free slot ty below valued within is =
       slot_by_kind nums refs slot ty free (below slot ty is) within.nums_are within.refs_are (kind_of ty valued)
 
-  got : {known : Standing} (slot : ℕ) (ty : TyView) → IsSlot nums refs slot ty → Clause nums refs known (node.Name (Plain slot) ty) ty
+  got : {known : Standing} (slot : ℕ) (ty : TyView) → IsSlot nums refs slot ty → Clause P nums refs known (node.Name (Plain slot) ty) ty
   got slot ty (in_nums is below) = get_num is below
   got slot ty (in_refs is below) = get_ref is below
 
-  stored : {known : Standing} (slot : ℕ) (ty : TyView) (e : Node) → IsSlot nums refs slot ty → Part nums refs known e ty →
-      Clause nums refs known (node.SetName (Plain slot) ty e) types.Void
+  stored : {known : Standing} (slot : ℕ) (ty : TyView) (e : Node) → IsSlot nums refs slot ty → Part P nums refs known e ty →
+      Clause P nums refs known (node.SetName (Plain slot) ty e) types.Void
   stored slot ty e (in_nums is below) h = set_num is below h
   stored slot ty e (in_refs is below) h = set_ref is below h
 
-  named : {known : Standing} (slot : ℕ) (ty : TyView) (e : Node) → IsSlot nums refs slot ty → Part nums refs known e ty →
-      Clause nums refs known (node.Let (Plain slot) ty e) types.Void
+  named : {known : Standing} (slot : ℕ) (ty : TyView) (e : Node) → IsSlot nums refs slot ty → Part P nums refs known e ty →
+      Clause P nums refs known (node.Let (Plain slot) ty e) types.Void
   named slot ty e (in_nums is below) h = let_num is below h
   named slot ty e (in_refs is below) h = let_ref is below h
 
   -- a name that a scope keeps
   kept_got : {known : Standing} (up position : ℕ) (ty : TyView) → Kind ty → HasPlace known up position ty →
-      Clause nums refs known (node.Name (Kept up position) ty) ty
+      Clause P nums refs known (node.Name (Kept up position) ty) ty
   kept_got up position ty (of_num is) there = get_kept_num is there
   kept_got up position ty (of_ref is) there = get_kept_ref is there
 
-  kept_stored : {known : Standing} (up position : ℕ) (ty : TyView) (e : Node) → Kind ty → HasPlace known up position ty → Part nums refs known e ty →
-      Clause nums refs known (node.SetName (Kept up position) ty e) types.Void
+  kept_stored : {known : Standing} (up position : ℕ) (ty : TyView) (e : Node) → Kind ty → HasPlace known up position ty → Part P nums refs known e ty →
+      Clause P nums refs known (node.SetName (Kept up position) ty e) types.Void
   kept_stored up position ty e (of_num is) there h = set_kept_num is there h
   kept_stored up position ty e (of_ref is) there h = set_kept_ref is there h
 
-  kept_named : {known : Standing} (up position : ℕ) (ty : TyView) (e : Node) → Kind ty → HasPlace known up position ty → Part nums refs known e ty →
-      Clause nums refs known (node.Let (Kept up position) ty e) types.Void
+  kept_named : {known : Standing} (up position : ℕ) (ty : TyView) (e : Node) → Kind ty → HasPlace known up position ty → Part P nums refs known e ty →
+      Clause P nums refs known (node.Let (Kept up position) ty e) types.Void
   kept_named up position ty e (of_num is) there h = let_kept_num is there h
   kept_named up position ty e (of_ref is) there h = let_kept_ref is there h
 
   abbrev IsPart : Standing → Claim → Type 0
-  IsPart known claim = Part nums refs known claim.clause claim.ty
+  IsPart known claim = Part P nums refs known claim.clause claim.ty
 
   all_are : {known : Standing} (value : TyView) (labels : Nodes) → Each (IsPart known) (all_have value labels) →
-      AllAre nums refs known value labels
+      AllAre P nums refs known value labels
   all_are value none h = none_is
   all_are value (more label rest) h = one_is h.0 (all_are value rest h.1)
 
   arms_are : {known : Standing} (value ty : TyView) (arms : Arms) → Each (IsPart known) (arms_have value ty arms) →
-      ArmsAre nums refs known value arms ty
+      ArmsAre P nums refs known value arms ty
   arms_are value ty no_arms h = no_more
   arms_are {known = known} value ty (more_arms (arm labels a) rest) h =
       let behind_labels = each_right (IsPart known) (all_have value labels) (a has ty ∷ arms_have value ty rest) h in
@@ -194,17 +194,17 @@ module _ (told : Told) (nums refs : ℕ) where
   -- the arguments of a structure are its fields'
   args_are : {known : Standing} {args : Nodes} {tys : TyViews} {claims : List Claim} (fields : List Field) → Arguments args tys claims →
       tys ≡ types_of_fields fields → AllByRecursion (λ (field : Field). IsValued field.ty) fields → Each (IsPart known) claims →
-      Args nums refs known args fields
+      Args P nums refs known args fields
   args_are [] typed.Arguments.no_more e holds h = no_arg
   args_are (field ∷ fields) typed.Arguments.no_more e holds h = absurd cc
   args_are [] (typed.Arguments.one_more rest) e holds h = absurd cc
   args_are {known = known} (field ∷ fields) (typed.Arguments.one_more {n = n} {t = t} {ts = ts} rest) e holds h =
       let same : t ≡ field.ty = cc in
       let others : ts ≡ types_of_fields fields = cc in
-      one_arg (kind_of field.ty holds.0) (subst (λ (u : TyView). Part nums refs known n u) same h.0) (args_are fields rest others holds.1 h.1)
+      one_arg (kind_of field.ty holds.0) (subst (λ (u : TyView). Part P nums refs known n u) same h.0) (args_are fields rest others holds.1 h.1)
 
   make_is : {known : Standing} {args : Nodes} {tys : TyViews} {claims : List Claim} (class : List ℕ) → HasAsMany class args → IsClass class tys →
-      Arguments args tys claims → Each (IsPart known) claims → Clause nums refs known (node.Make class args) types.Pntr
+      Arguments args tys claims → Each (IsPart known) claims → Clause P nums refs known (node.Make class args) types.Pntr
   make_is class many (name, others, text_is, tys_are) are h =
       let of = many.class in
       let same = same_types told of.name name of.fields others of.named (as_many of.fields others are many.are tys_are) (sym of.text_is ∙ text_is) in
@@ -235,15 +235,15 @@ module _ (told : Told) (nums refs : ℕ) where
 
   lib_is : {known : Standing} {args : Nodes} {tys : TyViews} {ty : TyView} {claims : List Claim} (code : ℕ) (line : Line) (name : List ℕ) →
       lookup procedures name ≡ Some (library (plain code tys ty)) → Arguments args tys claims → Each (IsPart known) claims →
-      Clause nums refs known (node.Lib code args line) ty
+      Clause P nums refs known (node.Lib code args line) ty
   lib_is {known = known} {args = args} {tys = tys} {ty = ty} code line name found are h =
       let told = library_says code tys ty name found in
       clause_of.library {of = told.of} (record { by_number = told.by_number; gives = told.gives_it; result = result_is code tys ty name found })
-      (subst (λ (ts : TyViews). Args nums refs known args (fields_by ts)) told.takes
+      (subst (λ (ts : TyViews). Args P nums refs known args (fields_by ts)) told.takes
       (args_are (fields_by tys) are (fields_are tys) (fields_valued tys (subst AllValued (sym told.takes) (parameters_valued told.of))) h))
 
   by_rule : {known : Standing} {t : Node} {claims : List Claim} {ty : TyView} (wholes : List (List Field)) → Rule t claims ty →
-      RunsIn (Some wholes) t → AllByRecursion GivesClaim claims → Each (IsPart known) claims → Clause nums refs known t ty
+      RunsIn (Some wholes) t → AllByRecursion (GivesClaim P valued_body) claims → Each (IsPart known) claims → Clause P nums refs known t ty
   by_rule wholes typed.int is given h = int
   by_rule wholes typed.flag is given h = flag
   by_rule wholes typed.text is given h = text
@@ -291,13 +291,13 @@ module _ (told : Told) (nums refs : ℕ) where
   }
 
   pub as_part : {env : Env} {free free' : Free} {t : Node} {ty : TyView} (wholes : List (List Field)) → IsTyped env free t ty free' →
-      RunsIn (Some wholes) t → BodiesAre Fits IsValued t → LocalsBelow env free → Clause nums refs (stand (Some wholes) env) t ty →
-      Part nums refs (stand (Some wholes) env) t ty
+      RunsIn (Some wholes) t → BodiesAre P IsValued t → LocalsBelow env free → Clause P nums refs (stand (Some wholes) env) t ty →
+      Part P nums refs (stand (Some wholes) env) t ty
   as_part {env = env} {free = free} wholes typing is b below h = that h (sounds_inside told wholes typing is (are_below env free below)) b
 
   let_is : {env with_name : Env} {free behind : Free} {place : Place} {of : TyView} (wholes : List (List Field)) (e : Node) →
       Declares env free place of with_name behind → IsPlace (Some wholes) place of → IsValued of → LocalsBelow with_name behind →
-      Within nums refs behind → Part nums refs (stand (Some wholes) env) e of → Clause nums refs (stand (Some wholes) env) (node.Let place of e) types.Void
+      Within nums refs behind → Part P nums refs (stand (Some wholes) env) e of → Clause P nums refs (stand (Some wholes) env) (node.Let place of e) types.Void
   let_is wholes e (typed.as_local {env = env} {free = free} {slot = slot} {ty = ty} at) is valued below within h =
       named slot ty e (slot_by_kind nums refs slot ty (behind_one ty free) (below slot ty (inl (refl, refl))) within.nums_are within.refs_are
       (kind_of ty valued)) h
@@ -306,7 +306,7 @@ module _ (told : Told) (nums refs : ℕ) where
 
   literal_is_let : {env with_name : Env} {free behind : Free} {place : Place} {of : TyView} (wholes : List (List Field)) (p : BodyNode) →
       Declares env free place of with_name behind → IsPlace (Some wholes) place of → IsRef of → LocalsBelow with_name behind →
-      Within nums refs behind → Clause nums refs (stand (Some wholes) env) (node.Let place of (node.Proc p)) types.Void
+      Within nums refs behind → Clause P nums refs (stand (Some wholes) env) (node.Let place of (node.Proc p)) types.Void
   literal_is_let wholes p (typed.as_local {free = free} {slot = slot} {ty = ty} at) is ref below within =
       let b : slot < (behind_one ty free).refs
       = subst (λ (stack : Bool). slot < limit stack (behind_one ty free)) (ref_is ref) (below slot ty (inl (refl, refl))) in
@@ -405,12 +405,12 @@ module _ (told : Told) (nums refs : ℕ) where
   loop_is : {env own : Env} {free behind between free' : Free} {first last : _} (wholes : List (List Field)) (slot : ℕ) (a b c : Node)
       (scope : Option (List ℕ)) (control : Place) (s : Node) (line : Line) → slot ≡ free.nums → Opens scope env.scopes first last →
       Declares (with_scopes first env) (behind_loop free) control types.Int own behind → own.scopes ≡ last →
-      RunsIn (Some wholes) (node.For slot a b c scope control s line) → BodiesAre Fits IsValued s →
+      RunsIn (Some wholes) (node.For slot a b c scope control s line) → BodiesAre P IsValued s →
       AreTyped env behind (a has types.Int ∷ b has types.Int ∷ c has types.Int ∷ []) between → IsTyped own between s types.Void free' →
       LocalsBelow env free → Grows behind between → LocalsBelow own behind → Within nums refs between →
       Each (IsPart (stand (Some wholes) env)) (a has types.Int ∷ b has types.Int ∷ c has types.Int ∷ []) →
-      ((inside : List (List Field)) → RunsIn (Some inside) s → Part nums refs (stand (Some inside) own) s types.Void) →
-      Clause nums refs (stand (Some wholes) env) (node.For slot a b c scope control s line) types.Void
+      ((inside : List (List Field)) → RunsIn (Some inside) s → Part P nums refs (stand (Some inside) own) s types.Void) →
+      Clause P nums refs (stand (Some wholes) env) (node.For slot a b c scope control s line) types.Void
   loop_is {env = env} {own = own} {free = free} {behind = behind} {between = between} {free' = free'} wholes slot a b c None (Plain control) s line
       slot_is typed.unscoped (typed.as_local at) ended r fit are t below h own_below within three of_s =
       let declares : Declares env (behind_loop free) (Plain control) types.Int own behind = typed.as_local at in
@@ -443,7 +443,7 @@ module _ (told : Told) (nums refs : ℕ) where
       = λ z is heap. declared_sound told (Some inside) declares r.3.1 further heap (Num z) is in
       let turns : (n depth : ℕ) → Turns (stand (Some wholes) env) (stand (Some wholes) env) (Some bytes) (Kept 0 place) (eval (context n depth) s)
       = λ n depth z is heap. sound_opened bytes its (λ new g. sound_then (controls z is new) (λ last u g2 done. sounds_in part n depth last)) in
-      subst (λ (p : ℕ). Clause nums refs (stand (Some wholes) env) (node.For slot a b c (Some bytes) (Kept 0 p) s line) types.Void) (sym first_place)
+      subst (λ (p : ℕ). Clause P nums refs (stand (Some wholes) env) (node.For slot a b c (Some bytes) (Kept 0 p) s line) types.Void) (sym first_place)
       (kept_loop its refl (subst (At (IsOfType types.Int) its.fields) first_place (innermost its.fields wholes place types.Int r.3.1))
       (is_loop slot a b c s (Kept 0 place) (with_scopes ([] ∷ env.scopes) env) env own free behind between free' slot_is refl declares are t below
       (omega by_arith) (record { nums = omega by_arith; refs = omega by_arith }) h own_below within)
@@ -455,11 +455,11 @@ module _ (told : Told) (nums refs : ℕ) where
 
   mutual
     pub clause : {env : Env} {free free' : Free} {t : Node} {ty : TyView} (wholes : List (List Field)) → IsTyped env free t ty free' →
-        RunsIn (Some wholes) t → BodiesAre Fits IsValued t → LocalsBelow env free → Within nums refs free' →
-        Clause nums refs (stand (Some wholes) env) t ty
+        RunsIn (Some wholes) t → BodiesAre P IsValued t → LocalsBelow env free → Within nums refs free' →
+        Clause P nums refs (stand (Some wholes) env) t ty
     clause wholes (typed.by_rule r are) is b below within =
-        let stands = parts_stand IsValued wholes r is b in
-        by_rule wholes r is (gives_each wholes are stands) (clauses wholes are stands below within)
+        let stands = parts_stand P valued_body IsValued wholes r is b in
+        by_rule wholes r is (gives_each P valued_body wholes are stands) (clauses wholes are stands below within)
     clause wholes (typed.name {env = env} {free = free} {place = Plain slot} {ty = ty} at) is b below within =
         got slot ty (slot_in env free slot ty below b within at)
     clause wholes (typed.name {env = env} {place = Kept up position} {ty = ty} at) is b below within =
@@ -487,7 +487,7 @@ module _ (told : Told) (nums refs : ℕ) where
         let at_between = within_before between free' (tree_grows (track t own_below)) within in
         let runs = loop_runs wholes slot a b c scope control s line is in
         let three = clauses wholes are ((runs.0, fit.0), ((runs.1, fit.1), ((runs.2, fit.2), tt))) in_loop at_between in
-        let of_s : (inside : List (List Field)) → RunsIn (Some inside) s → Part nums refs (stand (Some inside) own) s types.Void
+        let of_s : (inside : List (List Field)) → RunsIn (Some inside) s → Part P nums refs (stand (Some inside) own) s types.Void
         = λ inside r. as_part inside t r fit.3 own_below (clause inside t r fit.3 own_below within) in
         loop_is wholes slot a b c scope control s line slot_is opens declares ended is fit.3 are t below h d.below at_between three of_s
     clause wholes (typed.scan {env = env} {free = free} {free' = free'} {string = strings} {a = a} {f = f} {q = q} {s = s} {line = line} q_is s_is are) is b
@@ -501,7 +501,7 @@ module _ (told : Told) (nums refs : ℕ) where
     clause wholes (typed.literal is_body) is b below within = literal
 
     clauses : {env : Env} {free free' : Free} {claims : List Claim} (wholes : List (List Field)) → AreTyped env free claims free' →
-        Each (Stands IsValued wholes) claims → LocalsBelow env free → Within nums refs free' → Each (IsPart (stand (Some wholes) env)) claims
+        Each (Stands P valued_body IsValued wholes) claims → LocalsBelow env free → Within nums refs free' → Each (IsPart (stand (Some wholes) env)) claims
     clauses wholes typed.no_more stands below within = tt
     clauses wholes (typed.one_more {env = env} {free = free} {between = between} {free' = free'} first others) stands below within =
         let g = tree_grows (track first below) in
@@ -512,8 +512,8 @@ module _ (told : Told) (nums refs : ℕ) where
         )
 
     clause_items : {env last : Env} {free free' : Free} {before ty : TyView} {items : Nodes} (wholes : List (List Field)) →
-        AreItems env free before items ty last free' → AllRunIn (Some wholes) items → AllBodiesAre Fits IsValued items → LocalsBelow env free →
-        Within nums refs free' → Items nums refs (stand (Some wholes) env) before items ty
+        AreItems env free before items ty last free' → AllRunIn (Some wholes) items → AllBodiesAre P IsValued items → LocalsBelow env free →
+        Within nums refs free' → Items P nums refs (stand (Some wholes) env) before items ty
     clause_items wholes typed.at_end is b below within = at_end
     clause_items wholes (typed.a_clause {env = env} {free = free} {between = between} {free' = free'} first others) is b below within =
         let g = tree_grows (track first below) in

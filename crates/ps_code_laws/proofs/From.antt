@@ -6,7 +6,6 @@ use Rattle.ps_stepping.specs.ps_heap.Objects.{Heap}
 use Rattle.ps_stepping.specs.ps_meaning.Meaning.{Frame, State, Outcome, Value_is, Ends, Meaning, after, ◌>>=◌}
 use Rattle.ps_soundness.specs.Shapes.{IsOf, Grows}
 use Rattle.ps_soundness.proofs.Combining.{Standing}
-use Rattle.ps_code_laws.specs.Literals.{Fits}
 use Rattle.ps_code_laws.specs.Meets.{nums_left, refs_left}
 use Rattle.ps_code_laws.proofs.Literals.{IsLiteral}
 use Rattle.ps_code_laws.proofs.Doing.{Origin, IsSince, since_more, after_it, Behind, since_left, Leads, leads_left, Way, place, Comes, Room, Does, less_room}
@@ -19,7 +18,7 @@ On Is (Ends e s) = Unit {0}
 module _ (w : Way) where
   -- as `Does`, from locals of which this is so
   pub record From (n : Origin) (pre : Frame → Type 0) (bn : List ℤ) (br : List Value) (m : Meaning) (ty : TyView) (need p k : ℕ) : Type 0 where
-    pub by : (nums : List ℤ) (refs : List Value) (f : Frame) (s : State) → pre f → Room w need nums refs → IsSince n f s →
+    pub by : (nums : List ℤ) (refs : List Value) (f : Frame) (s : State) → pre f → Room w need nums refs → IsSince w.Body n f s →
         Comes w k nums refs ty (m f s) →
         w.Holds (place w p (bn ++ nums) (br ++ refs) f s.store) s.events
 
@@ -30,9 +29,9 @@ module _ (w : Way) where
 
   comes_from : (n : Origin) (last : Standing) (need q k : ℕ) (nums : List ℤ) (refs : List Value) (tya ty : TyView) (mid : Value → Frame → Type 0)
       (b : Value → Meaning) →
-      ((new : Heap) (v : Value) → Grows n.heap new → IsOf new tya v → IsLiteral Fits v →
+      ((new : Heap) (v : Value) → Grows n.heap new → IsOf new tya v → IsLiteral w.Body v →
       From (after_it n new last) (mid v) (nums_left tya v) (refs_left tya v) (b v) ty need q k) →
-      Room w need nums refs → (o : Outcome) → On mid o → Behind n last tya o → Comes w k nums refs ty (after o b) → Comes w q nums refs tya o
+      Room w need nums refs → (o : Outcome) → On mid o → Behind w.Body n last tya o → Comes w k nums refs ty (after o b) → Comes w q nums refs tya o
   unfolding after
   comes_from n last need q k nums refs tya ty mid b db room (Value_is v f s) is left reach =
       (db s.store.held.objects v left.grows left.value left.literal).by nums refs f s is room (since_left n last tya v f s left) reach
@@ -41,9 +40,9 @@ module _ (w : Way) where
   -- one part, and then another that takes its value, of which each procedure fits
   pub then_from_held : {n : Origin} {pre : Frame → Type 0} {bn : List ℤ} {br : List Value} {a : Meaning} {tya ty : TyView} {last : Standing}
       (b : Value → Meaning)
-      (mid : Value → Frame → Type 0) (na need p q k : ℕ) → na ≤ need → Leads n last tya a → ((f : Frame) (s : State) → pre f → On mid (a f s)) →
+      (mid : Value → Frame → Type 0) (na need p q k : ℕ) → na ≤ need → Leads w.Body n last tya a → ((f : Frame) (s : State) → pre f → On mid (a f s)) →
       From n pre bn br a tya na p q →
-      ((new : Heap) (v : Value) → Grows n.heap new → IsOf new tya v → IsLiteral Fits v →
+      ((new : Heap) (v : Value) → Grows n.heap new → IsOf new tya v → IsLiteral w.Body v →
       From (after_it n new last) (mid v) (nums_left tya v) (refs_left tya v) (b v) ty need q k) →
       From n pre bn br (a >>= b) ty need p k
   unfolding ◌>>=◌
@@ -55,7 +54,7 @@ module _ (w : Way) where
   -- one part, and then another that takes its value
   pub then_from : {n : Origin} {pre : Frame → Type 0} {bn : List ℤ} {br : List Value} {a : Meaning} {tya ty : TyView} {last : Standing}
       (b : Value → Meaning)
-      (mid : Value → Frame → Type 0) (na need p q k : ℕ) → na ≤ need → Leads n last tya a → ((f : Frame) (s : State) → pre f → On mid (a f s)) →
+      (mid : Value → Frame → Type 0) (na need p q k : ℕ) → na ≤ need → Leads w.Body n last tya a → ((f : Frame) (s : State) → pre f → On mid (a f s)) →
       From n pre bn br a tya na p q →
       ((new : Heap) (v : Value) → Grows n.heap new → IsOf new tya v →
       From (after_it n new last) (mid v) (nums_left tya v) (refs_left tya v) (b v) ty need q k) →

@@ -30,6 +30,7 @@ use Rattle.ps_code_laws.specs.Meets.{nums_left, refs_left}
 use Rattle.ps_code_laws.proofs.Compiling.{word_compiled, compiled_attempt}
 use Rattle.ps_code_laws.proofs.LibraryCompiling.{compiled_answer, heap_call_compiled}
 use Rattle.ps_code_laws.proofs.Clauses.{fields_by}
+use Rattle.ps_code_laws.proofs.Standing.{AtBy}
 use Rattle.ps_code_laws.proofs.Doing.{Origin, IsSince, IsQuietly, Way, place, Comes, Room, Does, step, halt_there, if_lt, does_meant, push_goes}
 use Rattle.ps_code_laws.proofs.Operands.{Stand}
 use Rattle.ps_code_laws.proofs.Attempts.{quiet_give, quiet_attempt, quiet_made_text, attempt_steps, text_steps, object_pops}
@@ -93,7 +94,7 @@ module _ (w : Way) where
       ≡ Goes (compiled_events a.events) (place w k (nums_left ty a.value ++ nums) (refs_left ty a.value ++ refs) f (on_held a.held store))
 
   answer_goes : (k : ℕ) (nums : List ℤ) (refs : List Value) (ty : TyView) (f : Frame) (s : State) (line : Line) (i : Instr) (before : Config)
-      (gives : Answer → Config → Step) (a : Attempt Answer) → before.store.held.counted ≡ s.store.held.counted → IsAt (code_in before.unit) before.at i →
+      (gives : Answer → Config → Step) (a : Attempt Answer) → before.store.held.counted ≡ s.store.held.counted → AtBy w.Allows before.unit before.at i →
       act i before ≡ attempted line (compiled_attempt compiled_answer a) (λ answer. gives answer (place w k nums refs f s.store)) →
       Given k nums refs ty f s.store gives → Comes w k nums refs ty (attempt line a put_answer f s) → w.Holds before s.events
   unfolding attempt put_answer stop
@@ -102,7 +103,7 @@ module _ (w : Way) where
 
   -- a call on the heap with these arguments, whose words stand on the stacks
   does_heap_call : {n : Origin} {bn : List ℤ} {br : List Value} {ty : TyView} (p code : ℕ) (line : Line) (of : HeapProcedure) (vs : List Value)
-      (gives : Answer → Config → Step) → library_procedure code ≡ Some (OnHeap of) → IsAt (code_in w.unit) p (instr.Lib code line) →
+      (gives : Answer → Config → Step) → library_procedure code ≡ Some (OnHeap of) → AtBy w.Allows w.unit p (instr.Lib code line) →
       ((nums : List ℤ) (refs : List Value) (f : Frame) (s : State) →
       call_on_heap of line (place w (p + 9) (bn ++ nums) (br ++ refs) f s.store)
       ≡ answered_by of line gives (compiled_all vs) (place w (p + 9) nums refs f s.store)) →

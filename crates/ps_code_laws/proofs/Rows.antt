@@ -19,7 +19,7 @@ use Rattle.ps_stepping.specs.ps_meaning.Runs.{Given}
 use Rattle.ps_gen.specs.Units.{HasUnit}
 use Rattle.ps_code_laws.specs.Compiled.{WeighsUnits}
 use Rattle.ps_code_laws.specs.Meets.{IsFittingHeap}
-use Rattle.ps_code_laws.proofs.Bodies.{RunsAsMeant, program_runs}
+use Rattle.ps_code_laws.proofs.Bodies.{RunsAsMeant, all_true, program_runs}
 
 abbrev line : Line
 line = record { 0 = 1 }
@@ -101,8 +101,8 @@ has_unit = (
   ),
 )
 
-it_runs : Told → (weigh : Routine → ℕ) (given : Given) → WeighsUnits weigh → IsFittingHeap given.heap → RunsAsMeant weigh given program
-it_runs told weigh given weighs heap = program_runs told program weigh given weighs heap is_typed it_has_a_run ((tt, tt), tt) refl (has_unit, tt)
+it_runs : Told → (weigh : Routine → ℕ) (given : Given) → WeighsUnits weigh → IsFittingHeap (λ i. true) given.heap → RunsAsMeant (λ i. true) weigh given program
+it_runs told weigh given weighs heap = program_runs told (λ i. true) program weigh given weighs heap is_typed it_has_a_run ((tt, tt), tt) refl (has_unit, tt) (all_true (program ∷ []))
 
 -- let v = @1 of string ["ab"]; write v(1) ++ "c"
 abbrev strings : Node
@@ -134,9 +134,9 @@ strings_are_typed = (
 strings_have_a_run : BodyRuns [] of_strings
 strings_have_a_run = (tt, ((tt, (tt, refl, (refl, tt))), ((((tt, refl), refl), tt), tt)))
 
-strings_run : Told → (weigh : Routine → ℕ) (given : Given) → WeighsUnits weigh → IsFittingHeap given.heap → HasUnit of_strings →
-    RunsAsMeant weigh given of_strings
-strings_run told weigh given weighs heap has = program_runs told of_strings weigh given weighs heap strings_are_typed strings_have_a_run ((tt, tt), tt) refl (has, tt)
+strings_run : Told → (weigh : Routine → ℕ) (given : Given) → WeighsUnits weigh → IsFittingHeap (λ i. true) given.heap → HasUnit of_strings →
+    RunsAsMeant (λ i. true) weigh given of_strings
+strings_run told weigh given weighs heap has = program_runs told (λ i. true) of_strings weigh given weighs heap strings_are_typed strings_have_a_run ((tt, tt), tt) refl (has, tt) (all_true (of_strings ∷ []))
 
 -- let make = proc(int k -> proc( -> int)); proc( -> int); k
 -- for i = 1 to 2 do write make(i)()
@@ -209,7 +209,7 @@ procedures_have_a_run = (
   ),
 )
 
-procedures_run : Told → (weigh : Routine → ℕ) (given : Given) → WeighsUnits weigh → IsFittingHeap given.heap →
-    AllByRecursion HasUnit (of_procedures ∷ make ∷ reads_k ∷ []) → RunsAsMeant weigh given of_procedures
+procedures_run : Told → (weigh : Routine → ℕ) (given : Given) → WeighsUnits weigh → IsFittingHeap (λ i. true) given.heap →
+    AllByRecursion HasUnit (of_procedures ∷ make ∷ reads_k ∷ []) → RunsAsMeant (λ i. true) weigh given of_procedures
 procedures_run told weigh given weighs heap have =
-    program_runs told of_procedures weigh given weighs heap procedures_are_typed procedures_have_a_run ((tt, tt), (((tt, tt), (tt, tt)), ((tt, tt), tt))) refl have
+    program_runs told (λ i. true) of_procedures weigh given weighs heap procedures_are_typed procedures_have_a_run ((tt, tt), (((tt, tt), (tt, tt)), ((tt, tt), tt))) refl have (all_true (of_procedures ∷ make ∷ reads_k ∷ []))

@@ -3,6 +3,7 @@
 use Rattle.std.proofs.Common.{◌≡◌, ℕ, zero, suc, ◌+◌, ◌<◌, ◌≤◌, ◌^◌, ℤ, pos, ◌+ℤ◌, Bool, true, false, List, [], ◌∷◌, ◌++◌, length, Option, Some, None, refl, sym, ap, ◌∙◌, subst, arith, lt-ltb, eq-eqb}
 use Rattle.std.specs.Prelude.{nat_eq, nat_lt, ◌&&◌, if◌then◌else◌}
 use Rattle.std.proofs.lemmas.Bool.{eqb-false}
+use Rattle.ps_gen.specs.ps_program.Node.{BodyNode}
 use Rattle.ps_gen.specs.ps_base.TyView.{TyView}
 use Rattle.ps_gen.specs.ps_base.TyView as types
 use Rattle.ps_gen.specs.ps_base.Instr.{width_of}
@@ -38,7 +39,6 @@ use Rattle.ps_soundness.proofs.Tables.{IsKeyOf, MayBeFound, next_key_typed}
 use Rattle.ps_soundness.proofs.Scans.{key_type, SparesAll, arguments_are, found_kept}
 use Rattle.ps_soundness.proofs.Combining.{Standing, Sound}
 use Rattle.ps_code_laws.specs.Compiled.{compiled, compiled_heap, compiled_held, compiled_store}
-use Rattle.ps_code_laws.specs.Literals.{Fits}
 use Rattle.ps_code_laws.specs.Meets.{nums_left, refs_left}
 use Rattle.ps_code_laws.proofs.HeldCompiling.{touches_weigh, touching_compiled}
 use Rattle.ps_code_laws.proofs.LibraryCompiling.{next_key_compiled}
@@ -147,7 +147,7 @@ is_counted false q s table procedure count more last f is = record {
       ∙ is.last_is;
 }
 
-literal_key : (key : Key) → IsLiteral Fits (shown_key key)
+literal_key : {P : BodyNode → Type 0} (key : Key) → IsLiteral P (shown_key key)
 literal_key (string_key bytes) = tt
 literal_key (int_key z) = tt
 
@@ -262,7 +262,7 @@ module _ (w : Way) where
   called_acts false q s p object (int_key z) procedure nums refs f store key is room = int_called q s p object z procedure nums refs f store is room
 
   module _ (n : Origin) (strings : Bool) (q s : ℕ) (line : Line) (turn need : ℕ) (h : Scans w n strings q s line turn need) (table procedure : Value)
-      (table_of : IsOf n.heap types.Pntr table) (procedure_of : IsOf n.heap (caller (key_type strings)) procedure) (literal : IsLiteral Fits procedure) where
+      (table_of : IsOf n.heap types.Pntr table) (procedure_of : IsOf n.heap (caller (key_type strings)) procedure) (literal : IsLiteral w.Body procedure) where
     abbrev scan : Scanning
     scan = record { line = line; strings = strings; refs = q; nums = s; table = table; call = call_meant (context_in w n.turns) line procedure }
 
@@ -276,15 +276,15 @@ module _ (w : Way) where
     At count last f = IsScanning strings q s table procedure count last f
 
     -- a local that has another value
-    since_set : {f : Frame} {t : State} (slot : ℕ) (ty : TyView) (v : Value) → IsLiteral Fits v →
-        Sound t.store.held.objects n.known n.known types.Void (set (Plain slot) ty v) → IsSince n f t → IsSince n (frame_with f ty slot v) t
+    since_set : {f : Frame} {t : State} (slot : ℕ) (ty : TyView) (v : Value) → IsLiteral w.Body v →
+        Sound t.store.held.objects n.known n.known types.Void (set (Plain slot) ty v) → IsSince w.Body n f t → IsSince w.Body n (frame_with f ty slot v) t
     unfolding set
     since_set {f = f} {t = t} slot ty v literal sound since =
         let typed = sound.runs f t (grows_not t.store.held.objects) since.typed since.are in
-        let held = holds_set Fits (Plain slot) ty v literal f t since.held.0 since.held.1 in
+        let held = holds_set w.Body (Plain slot) ty v literal f t since.held.0 since.held.1 in
         record { few = since.few; grows = since.grows; typed = since.typed; are = typed.are; held = (held.1, held.2); weighs = since.weighs }
 
-    since_found : (key : Key) (f : Frame) (t : State) → IsSince n f t → IsSince n (found_frame q s key f) t
+    since_found : (key : Key) (f : Frame) (t : State) → IsSince w.Body n f t → IsSince w.Body n (found_frame q s key f) t
     since_found (string_key bytes) f t since =
         let heap = t.store.held.objects in
         since_set (s + 2) types.Int (Num (pos 1)) tt (h.ints (s + 2) (omega arith) heap (Num (pos 1)))
@@ -306,7 +306,7 @@ module _ (w : Way) where
     -- what goes on after the procedure has answered true, with fewer turns
     abbrev GoesOn : ℕ → ℕ → (Key → Meaning) → Type 0
     GoesOn m count again = (key : Key) (nums : List ℤ) (refs : List Value) (g : Frame) (t : State) → t.store.turns < m → At count (Some key) g →
-        Room w need nums refs → IsSince n g t → Ended nums refs (again key g t) → w.Holds (place w turn nums refs g t.store) t.events
+        Room w need nums refs → IsSince w.Body n g t → Ended nums refs (again key g t) → w.Holds (place w turn nums refs g t.store) t.events
 
     more_acts : (count : ℕ) (more : Value) (nums : List ℤ) (refs : List Value) (g : Frame) (store : Store) → suc count < 2 ^ 31 →
         word_of (g.nums s) ≡ pos count →
@@ -322,7 +322,7 @@ module _ (w : Way) where
 
     -- by what the procedure answered
     answered_goes : (m count : ℕ) (again : Key → Meaning) (key : Key) (more : Value) (nums : List ℤ) (refs : List Value) (g : Frame) (t : State) →
-        suc count < 2 ^ 31 → GoesOn m (suc count) again → At count (Some key) g → t.store.turns ≤ m → Room w need nums refs → IsSince n g t → (b : Bool) →
+        suc count < 2 ^ 31 → GoesOn m (suc count) again → At count (Some key) g → t.store.turns ≤ m → Room w need nums refs → IsSince w.Body n g t → (b : Bool) →
         is_one (word_of more) ≡ b →
         Ended nums refs (choose b (take_turn >>= λ u. again key) (give (Num (pos (suc count)))) (counted_frame s (suc count) g) t) →
         w.Holds (place w (turn + 17 + 9) (word_of more ∷ nums) refs g t.store) t.events
@@ -362,7 +362,7 @@ module _ (w : Way) where
     unfolding after set ◌>>=◌
     come_back m count again key nums refs f old (Value_is more g t) low goes_on is few room grown restored left fell reach =
         let origin = after_it n old.store.held.objects n.known in
-        let since : IsSince n g t = since_more {n = n} (omega arith) (grows_then n.heap old.store.held.objects t.store.held.objects grown left.grows)
+        let since : IsSince w.Body n g t = since_more {n = n} (omega arith) (grows_then n.heap old.store.held.objects t.store.held.objects grown left.grows)
         (since_left origin n.known types.Bool more g t left) in
         answered_goes m count again key more nums refs g t low goes_on (subst (At count (Some key)) (sym restored) is) (omega (arith, fell, few)) room since
         (flag_of more) refl reach
@@ -371,7 +371,7 @@ module _ (w : Way) where
     -- the call with what was found
     call_goes : (m count : ℕ) (again : Key → Meaning) (found : Found) (last : Option Key) (nums : List ℤ) (refs : List Value) (f : Frame) (t : State) →
         suc count < 2 ^ 31 → GoesOn m (suc count) again → MayBeFound strings t.store.held.objects (Some found) → At count last f → t.store.turns ≤ m →
-        Room w need nums refs → IsSince n f t →
+        Room w need nums refs → IsSince w.Body n f t →
         Ended nums refs (after (call_meant (context_in w n.turns) line procedure (scan_arguments found) (found_frame q s found.key f) t)
         (behind_call count again found.key)) →
         w.Holds (place w (turn + 17) (called_nums strings found [] ++ nums) (called_refs strings found (compiled procedure ∷ []) ++ refs)
@@ -384,9 +384,9 @@ module _ (w : Way) where
         let c = context_in w n.turns in
         let tys = two (key_type strings) types.Pntr in
         let now : IsOf heap (caller (key_type strings)) procedure = of_kept n.heap heap since.grows (caller (key_type strings)) procedure procedure_of in
-        let literals : AreLiterals Fits args = (literal_key found.key, (tt, tt)) in
+        let literals : AreLiterals w.Body args = (literal_key found.key, (tt, tt)) in
         let since_g = since_found found.key f t since in
-        let since_origin : IsSince origin g t = record {
+        let since_origin : IsSince w.Body origin g t = record {
           few = since_g.few;
           grows = grows_not heap;
           typed = since_g.typed;
@@ -394,10 +394,10 @@ module _ (w : Way) where
           held = since_g.held;
           weighs = since_g.weighs;
         } in
-        let leads : Leads origin n.known types.Bool (call_meant c line procedure args) = record {
+        let leads : Leads w.Body origin n.known types.Bool (call_meant c line procedure args) = record {
           falls = falls_call c (calls_fall n.turns (length w.callers)) line procedure args;
           sound = h.answers heap procedure args now (arguments_are strings heap found may);
-          holds = holds_call Fits c (calls_hold Fits n.turns (length w.callers)) line procedure args literal literals;
+          holds = holds_call w.Body c (calls_hold w.Body n.turns (length w.callers)) line procedure args literal literals;
         } in
         (does_call w origin (turn + 17) need line tys types.Bool procedure args (let deep = h.deep in omega arith) h.entered now literal
         (arguments_of strings heap found may) literals
@@ -421,7 +421,7 @@ module _ (w : Way) where
     -- a key was found: the number of calls is tested
     tested_goes : (m count : ℕ) (again : Key → Meaning) (found : Found) (last : Option Key) (nums : List ℤ) (refs : List Value) (f : Frame) (t : State) →
         count < 2 ^ 31 → (suc count < 2 ^ 31 → GoesOn m (suc count) again) → MayBeFound strings t.store.held.objects (Some found) → At count last f →
-        t.store.turns ≤ m → Room w need nums refs → IsSince n f t →
+        t.store.turns ≤ m → Room w need nums refs → IsSince w.Body n f t →
         act (choice.scan strings q s last_at line) (place w turn nums refs f t.store)
         ≡ scan_found strings turn q s last_at line (Some found) (place w (turn + 17) nums refs f t.store) → (b : Bool) → nat_eq count most_scan_calls ≡ b →
         Ended nums refs (choose b (stop (Trapped Overflow line)) (scan_call scan count again found) f
@@ -447,7 +447,7 @@ module _ (w : Way) where
         let deep : MayCall nums refs =
         let refs_fit = h.refs_fit in let nums_fit = h.nums_fit in let on_nums = room.on_nums in let on_refs = room.on_refs in let two = h.deep in
         (omega arith, omega arith) in
-        let since_touched : IsSince n f touched = record {
+        let since_touched : IsSince w.Body n f touched = record {
           few = since.few;
           grows = since.grows;
           typed = since.typed;
@@ -466,7 +466,7 @@ module _ (w : Way) where
     -- by what the table has next
     found_goes : (m count : ℕ) (again : Key → Meaning) (last : Option Key) (nums : List ℤ) (refs : List Value) (f : Frame) (t : State)
         (next : Attempt (Option Found)) → count < 2 ^ 31 → (suc count < 2 ^ 31 → GoesOn m (suc count) again) →
-        OnYield (MayBeFound strings t.store.held.objects) next → At count last f → t.store.turns ≤ m → Room w need nums refs → IsSince n f t →
+        OnYield (MayBeFound strings t.store.held.objects) next → At count last f → t.store.turns ≤ m → Room w need nums refs → IsSince w.Body n f t →
         act (choice.scan strings q s last_at line) (place w turn nums refs f t.store)
         ≡ attempted line next (λ found. scan_found strings turn q s last_at line found (place w (turn + 17) nums refs f t.store)) →
         Ended nums refs (attempt line next (scan_next scan count again) f t) → w.Holds (place w turn nums refs f t.store) t.events
@@ -480,7 +480,7 @@ module _ (w : Way) where
         tested_goes m count again found last nums refs f t low goes_on may is few room since acts (nat_eq count most_scan_calls) refl reach
 
     -- the next key is looked for
-    next_acts : (count : ℕ) (last : Option Key) (nums : List ℤ) (refs : List Value) (f : Frame) (t : State) → At count last f → IsSince n f t →
+    next_acts : (count : ℕ) (last : Option Key) (nums : List ℤ) (refs : List Value) (f : Frame) (t : State) → At count last f → IsSince w.Body n f t →
         act (choice.scan strings q s last_at line) (place w turn nums refs f t.store)
         ≡ attempted line (next_key strings t.store.held.objects table last)
         (λ found. scan_found strings turn q s last_at line found (place w (turn + 17) nums refs f t.store))
@@ -500,7 +500,7 @@ module _ (w : Way) where
 
     -- the whole scan, from its instruction on, after so many calls
     pub scan_does : (m count : ℕ) (last : Option Key) (nums : List ℤ) (refs : List Value) (f : Frame) (t : State) → t.store.turns ≤ m → count < 2 ^ 31 →
-        At count last f → Room w need nums refs → IsSince n f t → Ended nums refs (scan_turns m scan last count f t) →
+        At count last f → Room w need nums refs → IsSince w.Body n f t → Ended nums refs (scan_turns m scan last count f t) →
         w.Holds (place w turn nums refs f t.store) t.events
     unfolding scan_turns with_heap
     scan_does zero count last nums refs f t few low is room since reach =
@@ -573,8 +573,8 @@ module _ (w : Way) where
   }
 
   pub does_scan : (n : Origin) (strings : Bool) (q s need na nf p pa pf : ℕ) (line : Line) (a f : Meaning) → IsScan n.known strings q s →
-      q + 2 < (frame_in w.unit).refs → s + 2 < (frame_in w.unit).nums → 2 ≤ need → na ≤ need → nf ≤ need → Leads n n.known types.Pntr a →
-      Leads n n.known (caller (key_type strings)) f → Does w n [] [] a types.Pntr na p pa → Stand w pa (instr.SetP q) →
+      q + 2 < (frame_in w.unit).refs → s + 2 < (frame_in w.unit).nums → 2 ≤ need → na ≤ need → nf ≤ need → Leads w.Body n n.known types.Pntr a →
+      Leads w.Body n n.known (caller (key_type strings)) f → Does w n [] [] a types.Pntr na p pa → Stand w pa (instr.SetP q) →
       Does w n [] [] f (caller (key_type strings)) nf (pa + 5) pf → Stand w pf (instr.SetP (q + 1)) →
       Stand w (pf + 5) (instr.Int (pos 0)) → Stand w (pf + 5 + 5) (instr.SetM s) → Stand w (pf + 5 + 5 + 5) (instr.Int (pos 0)) →
       Stand w (pf + 5 + 5 + 5 + 5) (instr.SetM (s + 1)) → Stand w (pf + 5 + 5 + 5 + 5 + 5) (instr.Int (pos 0)) →
@@ -590,7 +590,7 @@ module _ (w : Way) where
       = λ at heap le. record {
         falls = falls_set (Plain at) types.Int (Num (pos 0));
         sound = is.ints at le heap (Num (pos 0));
-        holds = holds_set Fits (Plain at) types.Int (Num (pos 0)) tt;
+        holds = holds_set w.Body (Plain at) types.Int (Num (pos 0)) tt;
       } in
       let chain : From w n (λ f. Unit {0}) [] [] (begin_scan strings q s a f (λ table procedure. scan_turns n.turns
       (record { line = line; strings = strings; refs = q; nums = s; table = table; call = call_meant (context_in w n.turns) line procedure }) None 0)) types.Int
@@ -600,7 +600,7 @@ module _ (w : Way) where
       (record {
         falls = falls_set (Plain q) types.Pntr table;
         sound = is.pntrs q (omega arith) h1 table;
-        holds = holds_set Fits (Plain q) types.Pntr table (pointer_literal h1 table table_of);
+        holds = holds_set w.Body (Plain q) types.Pntr table (pointer_literal h1 table table_of);
       })
       (λ f t so. table_put q table f t) (from_does w _ (does_set_ref w (after_it n h1 n.known) pa q table pntr (omega arith) at_table))
       (λ h2 u2 g2 v2. let k2 = grows_then n.heap h1 h2 g1 g2 in
@@ -610,7 +610,7 @@ module _ (w : Way) where
       (record {
         falls = falls_set (Plain (q + 1)) (caller (key_type strings)) procedure;
         sound = is.procedures (q + 1) (omega arith) h3 procedure;
-        holds = holds_set Fits (Plain (q + 1)) (caller (key_type strings)) procedure literal;
+        holds = holds_set w.Body (Plain (q + 1)) (caller (key_type strings)) procedure literal;
       })
       (λ f t so. procedure_put strings q table procedure f t so)
       (from_does w _ (does_set_ref w (after_it n h3 n.known) pf (q + 1) procedure proc (omega arith) at_procedure))
@@ -633,7 +633,7 @@ module _ (w : Way) where
       }))))))) in
       record { by = λ nums refs f t room since reach. chain.by nums refs f t tt room since reach }
     where
-      pointer_literal : (heap : Heap) (v : Value) → IsOf heap types.Pntr v → IsLiteral Fits v
+      pointer_literal : (heap : Heap) (v : Value) → IsOf heap types.Pntr v → IsLiteral w.Body v
       pointer_literal heap Nil k = tt
       pointer_literal heap (Pointer id) k = tt
       pointer_literal heap v k = absurd k

@@ -32,7 +32,7 @@ use Rattle.ps_code_laws.proofs.Doing.{Origin, IsSince, IsQuietly, Way, place, Do
 use Rattle.ps_code_laws.proofs.Operands.{Stand}
 use Rattle.ps_code_laws.proofs.Attempts.{quiet_attempt, text_there, attempt_steps, text_steps, number_held, reference_held, held_steps}
 
-pub there_of : {n : Origin} {up position : ℕ} {ty : TyView} (f : Frame) (s : State) → HasPlace n.known up position ty → IsSince n f s →
+pub there_of : {P : BodyNode → Type 0} {n : Origin} {up position : ℕ} {ty : TyView} (f : Frame) (s : State) → HasPlace n.known up position ty → IsSince P n f s →
     IsThere s.store.held.objects f.scope up position ty
 there_of {n = n} {up = up} {position = position} {ty = ty} f s (declared kept) since =
     declared_there s.store.held.objects f.scope up position ty (found s.store.held.objects kept.wholes n.known.scopes f.scope up position ty kept.at

@@ -1,5 +1,6 @@
 -- A clause in a scope of its own: the scope is made and entered, the clause's code runs, and the scope round it is the current one again.
 use Rattle.std.proofs.Common.{◌≡◌, ℕ, ◌+◌, ℤ, List, [], ◌∷◌, ◌++◌, map, Option, Some, sym, ap, ◌∙◌, subst, arith}
+use Rattle.ps_gen.specs.ps_program.Node.{BodyNode}
 use Rattle.ps_gen.specs.ps_base.TyView.{TyView}
 use Rattle.ps_gen.specs.ps_base.CodeUnit.{text}
 use Rattle.ps_gen.specs.ps_base.declared.instr.Instr.TheVariants as instr
@@ -27,7 +28,6 @@ use Rattle.ps_code_laws.proofs.Doing.{Origin, IsSince, after_it, Behind, Leads, 
 use Rattle.ps_code_laws.proofs.Operands.{Stand}
 use Rattle.ps_code_laws.proofs.From.{From, from_does}
 use Rattle.ps_code_laws.proofs.Holding.{holds_enter}
-use Rattle.ps_code_laws.specs.Literals.{Fits}
 use Rattle.ps_code_laws.proofs.ScopeForms.{does_enter}
 
 -- a scope keeps its text and its parent
@@ -57,8 +57,8 @@ abbrev InsideOn : ℕ → Option ℕ → Outcome → Type 0
 InsideOn id parent (Value_is v g t) = IsInside t.store.held.objects id parent
 InsideOn id parent (Ends e t) = Unit {0}
 
-inside_on : (n : Origin) (last : Standing) (ty : TyView) (old : Heap) (bytes : List ℕ) (parent : Option ℕ) (o : Outcome) →
-    Grows (with_new old (new_scope bytes parent)) n.heap → Behind n last ty o → InsideOn (new_number old) parent o
+inside_on : {P : BodyNode → Type 0} (n : Origin) (last : Standing) (ty : TyView) (old : Heap) (bytes : List ℕ) (parent : Option ℕ) (o : Outcome) →
+    Grows (with_new old (new_scope bytes parent)) n.heap → Behind P n last ty o → InsideOn (new_number old) parent o
 inside_on n last ty old bytes parent (Value_is v g t) from left =
     inside_kept old t.store.held.objects bytes parent (grows_then (with_new old (new_scope bytes parent)) n.heap t.store.held.objects from left.grows)
 inside_on n last ty old bytes parent (Ends e t) from left = tt
@@ -69,19 +69,19 @@ locals_in heap frame scope [] h = tt
 locals_in heap frame scope (local ∷ locals) h = (h.0, locals_in heap frame scope locals h.1)
 
 -- what is known where a new scope has been entered
-pub entered_since : (n : Origin) (bytes : List ℕ) (wholes : List (List Field)) (own : IsScopeText bytes) (f : Frame) (s : State) →
-    n.known.wholes ≡ Some wholes → IsSince n f s →
-    IsSince (after_it n (with_new s.store.held.objects (new_scope bytes f.scope)) (opened n.known own.fields wholes))
+pub entered_since : {P : BodyNode → Type 0} (n : Origin) (bytes : List ℕ) (wholes : List (List Field)) (own : IsScopeText bytes) (f : Frame) (s : State) →
+    n.known.wholes ≡ Some wholes → IsSince P n f s →
+    IsSince P (after_it n (with_new s.store.held.objects (new_scope bytes f.scope)) (opened n.known own.fields wholes))
     (record f { scope = Some (new_number s.store.held.objects) }) (record s { store = and_object (new_scope bytes f.scope) s.store })
 unfolding enter
-entered_since n bytes wholes own f s are since =
+entered_since {P = P} n bytes wholes own f s are since =
     let old = s.store.held.objects in
     let new = with_new old (new_scope bytes f.scope) in
     let around = subst (λ (of : Option (List (List Field))). AreAround old f.scope of n.known.scopes) are since.are.1 in
     let made = subst (λ (t : List ℕ). IsTypedHeap (with_new old (new_scope t f.scope))
     × AreScopes (with_new old (new_scope t f.scope)) (Some (new_number old)) (own.fields ∷ wholes) ([] ∷ n.known.scopes)) (sym own.text_is)
     (scope_made old f.scope own.fields wholes n.known.scopes own.named since.typed.0 around) in
-    let held = holds_enter Fits bytes f s since.held.0 since.held.1 in
+    let held = holds_enter P bytes f s since.held.0 since.held.1 in
     record {
       few = since.few;
       grows = grows_not new;

@@ -1,8 +1,9 @@
 -- What the machine is to do with a body that is called, inside any bodies that wait: what the body means.
-use Rattle.std.specs.Prelude.{◌≡◌, ℕ, ◌+◌, ◌<◌, ◌≤◌, ℤ, List, [], ◌∷◌, ◌++◌, length, Option}
+use Rattle.std.specs.Prelude.{◌≡◌, Bool, ℕ, ◌+◌, ◌<◌, ◌≤◌, ℤ, List, [], ◌∷◌, ◌++◌, length, Option}
 use Rattle.ps_gen.specs.ps_base.TyView.{TyView}
 use Rattle.ps_gen.specs.ps_base.TyView as types
 use Rattle.ps_gen.specs.ps_base.CodeUnit.{UnitView}
+use Rattle.ps_gen.specs.ps_base.declared.instr.Instr.{Instr}
 use Rattle.ps_gen.specs.ps_program.Node.{Param, BodyNode, body}
 use Rattle.ps_type_text.specs.Texts.{Field}
 use Rattle.ps_stepping.specs.ps_heap.Values.{Value, word_of}
@@ -19,7 +20,7 @@ use Rattle.ps_stepping.specs.Config.{frame_words, Caller, Config, frame_in}
 use Rattle.ps_stepping.specs.Machine.{resumed}
 use Rattle.ps_stepping.specs.Path.{Reaches, Finishes}
 use Rattle.ps_code_laws.specs.Compiled.{compiled, compiled_locals, compiled_store, compiled_events, WeighsUnits}
-use Rattle.ps_code_laws.specs.Literals.{ValuesAre, HeapIs, Fits}
+use Rattle.ps_code_laws.specs.Literals.{ValuesAre, HeapIs, Fits, FitsBy}
 
 -- what a value of a type leaves on each stack: an int or a bool a number, a clause of type void nothing, any other a reference, compiled
 abbrev pub nums_left : TyView → Value → List ℤ
@@ -82,10 +83,10 @@ HasRoom (caller ∷ callers) =
     ((frame_in caller.unit).nums + length caller.nums < frame_words) × ((frame_in caller.unit).refs + length caller.refs < frame_words)
 
 -- what a heap that is kept holds is typed, with the roots of its databases, and each procedure in it fits
-pub record IsFittingHeap (stored : StoredHeap) : Type 0 where
+pub record IsFittingHeap (may : Instr → Bool) (stored : StoredHeap) : Type 0 where
   pub typed : IsTypedHeap stored.objects
   pub roots : AreRoots stored.objects stored.directory
-  pub fit : HeapIs Fits stored.objects
+  pub fit : HeapIs (FitsBy may) stored.objects
 
 -- what a run holds is typed, each procedure in it fits, and code weighs what its unit does
 pub record IsFitting (held : Held) : Type 0 where

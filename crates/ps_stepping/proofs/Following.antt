@@ -6,7 +6,7 @@ use Rattle.ps_stepping.specs.Config.{Config}
 use Rattle.ps_stepping.specs.Machine.{Goes, Stops, Stuck, and_touched, Steps, Runs, goes, stops}
 use Rattle.ps_stepping.proofs.Determined.{one_step}
 
-same_goes : (events events' : List Event) (next next' : Config) (P : List Event → Config → Type 0) → Goes events next ≡ Goes events' next' →
+pub same_goes : (events events' : List Event) (next next' : Config) (P : List Event → Config → Type 0) → Goes events next ≡ Goes events' next' →
     P events next → P events' next'
 same_goes events events' next next' P e p =
     let one : events ≡ events' = cc in

@@ -1,6 +1,6 @@
 -- What the machine does with each instruction. It never leaves the code, a stack or the frame: where it would, it is stuck, and so it
 -- is where what it finds isn't what the instruction wants.
-use Rattle.std.specs.Prelude.{◌≡◌, ℕ, zero, suc, ◌+◌, ℤ, pos, ◌+ℤ◌, true, false, not, List, [], ◌∷◌, ◌++◌, nat_lt, Option, Some, None, if◌then◌else◌}
+use Rattle.std.specs.Prelude.{◌≡◌, Bool, ℕ, zero, suc, ◌+◌, ℤ, pos, ◌+ℤ◌, true, false, not, List, [], ◌∷◌, ◌++◌, nat_lt, Option, Some, None, if◌then◌else◌}
 use Rattle.std.specs.Fmt.{signed_decimal}
 use Rattle.ps_code.specs.ps_base.CodeUnit.{ConstantView, text, literal}
 use Rattle.ps_code.specs.ps_base.Instr.{width_of}
@@ -142,6 +142,13 @@ act i c = acts i c.at (behind i c)
 pub data Steps (c : Config) : Step → Type 0 where
   at_instruction : {i : Instr} → IsAt (code_in c.unit) c.at i → Steps c (act i c)
   at_nothing : ((i : Instr) → IsAt (code_in c.unit) c.at i → ⊥) → Steps c Stuck
+
+-- A run whose instructions are all such as may run, and that has had these events so far, has all of these in the end.
+pub data RunsBy (may : Instr → Bool) (total : List Event) : Config → List Event → Type 0 where
+  goes_by : {c next : Config} {so_far events : List Event} {i : Instr} → IsAt (code_in c.unit) c.at i → may i ≡ true → act i c ≡ Goes events next →
+      RunsBy may total next (so_far ++ events) → RunsBy may total c so_far
+  stops_by : {c : Config} {so_far : List Event} {e : End} {touched : ℕ} {i : Instr} → IsAt (code_in c.unit) c.at i → may i ≡ true →
+      act i c ≡ Stops e touched → total ≡ so_far ++ Finish e (and_touched touched c.store.held.counted) ∷ [] → RunsBy may total c so_far
 
 -- A run that has had these events so far has all of these in the end.
 pub data Runs (total : List Event) : Config → List Event → Type 0 where
