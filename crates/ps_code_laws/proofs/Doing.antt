@@ -147,7 +147,7 @@ since_left n last ty v f s left = record {
 }
 
 -- a part that takes turns alone, and yields a value of a type
-pub record Leads P (P : BodyNode → Type 0) (n : Origin) (last : Standing) (ty : TyView) (a : Meaning) : Type 0 where
+pub record Leads (P : BodyNode → Type 0) (n : Origin) (last : Standing) (ty : TyView) (a : Meaning) : Type 0 where
   pub falls : Falling a
   pub sound : Sound n.heap n.known last ty a
   pub holds : Holds P a
