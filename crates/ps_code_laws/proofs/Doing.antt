@@ -152,9 +152,9 @@ pub record Leads (P : BodyNode → Type 0) (n : Origin) (last : Standing) (ty : 
   pub sound : Sound n.heap n.known last ty a
   pub holds : Holds P a
 
-left_of : {P : BodyNode → Type 0} (n : Origin) (last : Standing) (ty : TyView) (old : Store) (o : Outcome) → old.turns ≤ n.turns → Grows n.heap old.held.objects →
+left_of : (P : BodyNode → Type 0) (n : Origin) (last : Standing) (ty : TyView) (old : Store) (o : Outcome) → old.turns ≤ n.turns → Grows n.heap old.held.objects →
     WeighsUnits old.held.weigh → Falls old o → combining.Comes old.held.objects last ty o → Left P o → Behind P n last ty o
-left_of n last ty old (Value_is v f s) le g weighs falls h k = record {
+left_of P n last ty old (Value_is v f s) le g weighs falls h k = record {
   few = let fewer = falls.0 in omega arith;
   grows = grows_then n.heap old.held.objects s.store.held.objects g h.grows;
   typed = h.typed;
@@ -164,12 +164,12 @@ left_of n last ty old (Value_is v f s) le g weighs falls h k = record {
   literal = k.0;
   weighs = subst WeighsUnits (sym falls.1) weighs;
 }
-left_of n last ty old (Ends e s) le g weighs falls h k = tt
+left_of P n last ty old (Ends e s) le g weighs falls h k = tt
 
 pub leads_left : {P : BodyNode → Type 0} {n : Origin} {last : Standing} {ty : TyView} {a : Meaning} {f : Frame} {s : State} → Leads P n last ty a → IsSince P n f s →
     Behind P n last ty (a f s)
-leads_left {n = n} {last = last} {ty = ty} {a = a} {f = f} {s = s} leads since =
-    left_of n last ty s.store (a f s) since.few since.grows since.weighs (leads.falls f s)
+leads_left {P = P} {n = n} {last = last} {ty = ty} {a = a} {f = f} {s = s} leads since =
+    left_of P n last ty s.store (a f s) since.few since.grows since.weighs (leads.falls f s)
     (leads.sound.runs f s since.grows since.typed since.are) (leads.holds f s since.held.0 since.held.1)
 
 pub leads_more : {P : BodyNode → Type 0} {n : Origin} {last : Standing} {ty : TyView} {a : Meaning} {m : ℕ} {heap : Heap} → m ≤ n.turns → Grows n.heap heap →

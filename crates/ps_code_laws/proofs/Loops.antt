@@ -78,8 +78,8 @@ three_on slot z limit step f (Ends e s) h k l m = tt
 abbrev pub turn_meant : Option (List ℕ) → Place → Meaning → ℤ → Meaning
 turn_meant scope control clause z = in_scope scope (set control types.Int (Num z) >>= λ u. clause)
 
-int_literal : {P : BodyNode → Type 0} (heap : Heap) (v : Value) → IsOf heap types.Int v → IsLiteral P v
-int_literal heap (Num z) is = tt
+int_literal : (P : BodyNode → Type 0) (heap : Heap) (v : Value) → IsOf heap types.Int v → IsLiteral P v
+int_literal P heap (Num z) is = tt
 int_literal heap _ is = absurd is
 
 module _ (w : Way) where
@@ -114,7 +114,7 @@ module _ (w : Way) where
     Turns m = (z : ℤ) (before : Config) (i : Instr) (nums : List ℤ) (refs : List Value) (f : Frame) (s : State) →
         before.store.held.counted ≡ s.store.held.counted → AtBy w.Allows before.unit before.at i →
         act i before ≡ turn_to (spent (compiled_store s.store)) turn (place w (before.at + width_of i) nums refs f s.store) →
-        IsSince (since m s.store.held.objects n.known) f s → m ≤ n.turns → Grows n.heap s.store.held.objects → is_int z ≡ true → At z f → Room w need nums refs →
+        IsSince w.Body (since m s.store.held.objects n.known) f s → m ≤ n.turns → Grows n.heap s.store.held.objects → is_int z ≡ true → At z f → Room w need nums refs →
         Comes w (q + 9) nums refs types.Void (for_turns m loop clause z f s) → w.Holds before s.events
 
     counted_is : (z : ℤ) (nums : List ℤ) (refs : List Value) (f : Frame) (store : Store) → At z f →
@@ -268,11 +268,11 @@ module _ (w : Way) where
       keeps_b keeps_c keeps_limit =
       let three = h.three in
       let sets : (at : ℕ) (heap : Heap) (v : Value) → slot ≤ at → IsOf heap types.Int v →
-      Leads (after_it n heap n.known) n.known types.Void (set (Plain at) types.Int v)
+      Leads w.Body (after_it n heap n.known) n.known types.Void (set (Plain at) types.Int v)
       = λ at heap v le is. record {
         falls = falls_set (Plain at) types.Int v;
         sound = h.typed.spares at le heap v;
-        holds = holds_set w.Body (Plain at) types.Int v (int_literal heap v is);
+        holds = holds_set w.Body (Plain at) types.Int v (int_literal w.Body heap v is);
       } in
       let chain : From w n (λ f. Unit {0}) [] [] (for_meant n.turns line slot scope control a b c clause) types.Void need p (q + 9)
       = then_from w _ (λ v g. Unit {0}) na need p pa (q + 9) le_a la (λ f s is. on_unit (a f s)) (from_does w _ da)
@@ -300,7 +300,7 @@ module _ (w : Way) where
   -- The turns of a loop whose control is a local.
   module _ (n : Origin) (own : Standing) (slot control ns need turn q : ℕ) (clause : Meaning) (three : slot + 2 < (frame_in w.unit).nums)
       (apart : slot + 2 < control) (below : control < (frame_in w.unit).nums) (few : ns ≤ need) (one : 1 ≤ need)
-      (controls : Controls n.known own (Plain control)) (leads : Leads (after_it n n.heap own) own types.Void clause)
+      (controls : Controls n.known own (Plain control)) (leads : Leads w.Body (after_it n n.heap own) own types.Void clause)
       (get_at : AtBy w.Allows w.unit turn (instr.GetM slot)) (set_at : AtBy w.Allows w.unit (turn + 5) (instr.SetM control))
       (does : Does w (after_it n n.heap own) [] [] clause types.Void ns (turn + 5 + 5) q) where
     -- the control has the number of the turn
@@ -361,7 +361,7 @@ module _ (w : Way) where
   module _ (n : Origin) (own : Standing) (slot ns need turn q k : ℕ) (clause : Meaning) (bytes : List ℕ) (wholes : List (List Field))
       (its : IsScopeText bytes) (are : n.known.wholes ≡ Some wholes) (at : IsNth (IsOfType types.Int) its.fields 0)
       (three : slot + 2 < (frame_in w.unit).nums) (few : ns ≤ need) (one : 1 ≤ need)
-      (controls : Controls (opened n.known its.fields wholes) own (Kept 0 0)) (leads : Leads (after_it n n.heap own) own types.Void clause)
+      (controls : Controls (opened n.known its.fields wholes) own (Kept 0 0)) (leads : Leads w.Body (after_it n n.heap own) own types.Void clause)
       (sound : (z : ℤ) → is_int z ≡ true → Sound n.heap n.known n.known types.Void (turn_meant (Some bytes) (Kept 0 0) clause z))
       (stays : Stays clause) (scope_at : AtBy w.Allows w.unit turn (instr.Scope k))
       (named : constant_at (constants_in w.unit) k ≡ Some (text bytes)) (get_at : AtBy w.Allows w.unit (turn + 5) (instr.GetM slot))
@@ -396,7 +396,7 @@ module _ (w : Way) where
     unfolding set change
     kept_post z limit step f s is = is
 
-    kept_leads : (new : Heap) (z : ℤ) → is_int z ≡ true → Leads (inside new) own types.Void (set (Kept 0 0) types.Int (Num z))
+    kept_leads : (new : Heap) (z : ℤ) → is_int z ≡ true → Leads w.Body (inside new) own types.Void (set (Kept 0 0) types.Int (Num z))
     kept_leads new z is = record {
       falls = falls_set (Kept 0 0) types.Int (Num z);
       sound = controls z is new;
@@ -404,7 +404,7 @@ module _ (w : Way) where
     }
 
     turn_leads : (new : Heap) → Grows n.heap new → (z : ℤ) → is_int z ≡ true →
-        Leads (inside new) own types.Void (set (Kept 0 0) types.Int (Num z) >>= λ u. clause)
+        Leads w.Body (inside new) own types.Void (set (Kept 0 0) types.Int (Num z) >>= λ u. clause)
     turn_leads new g z is = leads_then (kept_leads new z is) (λ last l. leads_more (omega arith) (grows_then n.heap new last g l) leads)
 
     kept_turn : (z limit step : ℤ) → is_int z ≡ true →

@@ -10,6 +10,7 @@ use Rattle.ps_typing_laws.specs.ps_typing.WellTyped.{Env, Free, behind_one, with
 use Rattle.ps_typing_laws.specs.ps_typing.WellTyped as typed
 use Rattle.ps_typing_laws.specs.Counted.{Each}
 use Rattle.ps_soundness.specs.Valued.{IsValued, AllValued}
+use Rattle.ps_soundness.specs.Shapes.{type_of_body}
 use Rattle.ps_soundness.specs.Running.{RunsIn, AllRunIn, BodyRuns}
 use Rattle.ps_soundness.proofs.Valued.{valued_by, AreValued, declared_valued}
 use Rattle.ps_soundness.proofs.Declaring.{literal_is}

@@ -147,9 +147,9 @@ is_counted false q s table procedure count more last f is = record {
       ∙ is.last_is;
 }
 
-literal_key : {P : BodyNode → Type 0} (key : Key) → IsLiteral P (shown_key key)
-literal_key (string_key bytes) = tt
-literal_key (int_key z) = tt
+literal_key : (P : BodyNode → Type 0) (key : Key) → IsLiteral P (shown_key key)
+literal_key P (string_key bytes) = tt
+literal_key P (int_key z) = tt
 
 arguments_of : (strings : Bool) (heap : Heap) (found : Found) → MayBeFound strings heap (Some found) →
     AreOf heap (fields_by (two (key_type strings) types.Pntr)) (scan_arguments found)
@@ -357,7 +357,7 @@ module _ (w : Way) where
 
     come_back : (m count : ℕ) (again : Key → Meaning) (key : Key) (nums : List ℤ) (refs : List Value) (f : Frame) (old : State) (o : Outcome) →
         suc count < 2 ^ 31 → GoesOn m (suc count) again → At count (Some key) f → old.store.turns ≤ m → Room w need nums refs →
-        Grows n.heap old.store.held.objects → On (λ u g. g ≡ f) o → Behind (after_it n old.store.held.objects n.known) n.known types.Bool o →
+        Grows n.heap old.store.held.objects → On (λ u g. g ≡ f) o → Behind w.Body (after_it n old.store.held.objects n.known) n.known types.Bool o →
         TurnsFell old o → Ended nums refs (after o (behind_call count again key)) → Comes w (turn + 17 + 9) nums refs types.Bool o
     unfolding after set ◌>>=◌
     come_back m count again key nums refs f old (Value_is more g t) low goes_on is few room grown restored left fell reach =
@@ -384,7 +384,7 @@ module _ (w : Way) where
         let c = context_in w n.turns in
         let tys = two (key_type strings) types.Pntr in
         let now : IsOf heap (caller (key_type strings)) procedure = of_kept n.heap heap since.grows (caller (key_type strings)) procedure procedure_of in
-        let literals : AreLiterals w.Body args = (literal_key found.key, (tt, tt)) in
+        let literals : AreLiterals w.Body args = (literal_key w.Body found.key, (tt, tt)) in
         let since_g = since_found found.key f t since in
         let since_origin : IsSince w.Body origin g t = record {
           few = since_g.few;
@@ -586,7 +586,7 @@ module _ (w : Way) where
   unfolding begin_scan
   does_scan n strings q s need na nf p pa pf line a f is refs_fit nums_fit deep le_a le_f la lf da at_table df at_procedure at1 at2 at3 at4 at5 at6 keeps scans =
       let end = pf + 5 + 5 + 5 + 5 + 5 + 5 + 5 + 17 + 9 + 9 + 5 in
-      let sets : (at : ℕ) (heap : Heap) → s ≤ at → Leads (after_it n heap n.known) n.known types.Void (set (Plain at) types.Int (Num (pos 0)))
+      let sets : (at : ℕ) (heap : Heap) → s ≤ at → Leads w.Body (after_it n heap n.known) n.known types.Void (set (Plain at) types.Int (Num (pos 0)))
       = λ at heap le. record {
         falls = falls_set (Plain at) types.Int (Num (pos 0));
         sound = is.ints at le heap (Num (pos 0));

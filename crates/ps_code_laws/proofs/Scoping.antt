@@ -57,11 +57,11 @@ abbrev InsideOn : ℕ → Option ℕ → Outcome → Type 0
 InsideOn id parent (Value_is v g t) = IsInside t.store.held.objects id parent
 InsideOn id parent (Ends e t) = Unit {0}
 
-inside_on : {P : BodyNode → Type 0} (n : Origin) (last : Standing) (ty : TyView) (old : Heap) (bytes : List ℕ) (parent : Option ℕ) (o : Outcome) →
+inside_on : (P : BodyNode → Type 0) (n : Origin) (last : Standing) (ty : TyView) (old : Heap) (bytes : List ℕ) (parent : Option ℕ) (o : Outcome) →
     Grows (with_new old (new_scope bytes parent)) n.heap → Behind P n last ty o → InsideOn (new_number old) parent o
-inside_on n last ty old bytes parent (Value_is v g t) from left =
+inside_on P n last ty old bytes parent (Value_is v g t) from left =
     inside_kept old t.store.held.objects bytes parent (grows_then (with_new old (new_scope bytes parent)) n.heap t.store.held.objects from left.grows)
-inside_on n last ty old bytes parent (Ends e t) from left = tt
+inside_on P n last ty old bytes parent (Ends e t) from left = tt
 
 locals_in : (heap : Heap) (frame : Frame) (scope : Option ℕ) (locals : List Local) → AreLocals heap frame locals →
     AreLocals heap (record frame { scope = scope }) locals
@@ -116,7 +116,7 @@ module _ (w : Way) where
       (wholes : List (List Field)) (own : IsScopeText bytes) → n.known.wholes ≡ Some wholes → Stand w p (instr.Scope k) →
       constant_at (constants_in w.unit) k ≡ Some (text bytes) → Stand w q instr.Leave → Stays m →
       ((f : Frame) (scope : Option ℕ) → pre f → pre (record f { scope = scope })) →
-      ((new : Heap) → Grows n.heap new → Leads (after_it n new (opened n.known own.fields wholes)) last ty m) →
+      ((new : Heap) → Grows n.heap new → Leads w.Body (after_it n new (opened n.known own.fields wholes)) last ty m) →
       ((new : Heap) → Grows n.heap new → From w (after_it n new (opened n.known own.fields wholes)) pre [] [] m ty need (p + 5) q) →
       From w n pre [] [] (scoped bytes m) ty need p (q + 1)
   unfolding scoped ◌>>=◌ after enter
@@ -131,14 +131,14 @@ module _ (w : Way) where
         (does_enter w n p k bytes at there).by nums refs f s (less_room w 0 need nums refs (omega arith) room) since
         ((d new grown).by nums refs inner held (into f (Some (new_number old)) is) room now
         (comes_left q nums refs ty f.scope (new_number old) (m inner held) (stays inner held)
-        (inside_on (after_it n new (opened n.known own.fields wholes)) last ty old bytes f.scope (m inner held) (grows_not new)
+        (inside_on w.Body (after_it n new (opened n.known own.fields wholes)) last ty old bytes f.scope (m inner held) (grows_not new)
         (leads_left (leads new grown) now)) leave reach));
   }
 
   pub does_scoped : {n : Origin} {m : Meaning} {ty : TyView} {need : ℕ} {last : Standing} (p q k : ℕ) (bytes : List ℕ) (wholes : List (List Field))
       (own : IsScopeText bytes) → n.known.wholes ≡ Some wholes → Stand w p (instr.Scope k) →
       constant_at (constants_in w.unit) k ≡ Some (text bytes) → Stand w q instr.Leave → Stays m →
-      ((new : Heap) → Grows n.heap new → Leads (after_it n new (opened n.known own.fields wholes)) last ty m) →
+      ((new : Heap) → Grows n.heap new → Leads w.Body (after_it n new (opened n.known own.fields wholes)) last ty m) →
       ((new : Heap) → Grows n.heap new → Does w (after_it n new (opened n.known own.fields wholes)) [] [] m ty need (p + 5) q) →
       Does w n [] [] (scoped bytes m) ty need p (q + 1)
   does_scoped {n = n} {m = m} {ty = ty} {need = need} {last = last} p q k bytes wholes own are at there leave stays leads d =
