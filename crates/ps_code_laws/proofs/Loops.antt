@@ -80,7 +80,7 @@ turn_meant scope control clause z = in_scope scope (set control types.Int (Num z
 
 int_literal : (P : BodyNode → Type 0) (heap : Heap) (v : Value) → IsOf heap types.Int v → IsLiteral P v
 int_literal P heap (Num z) is = tt
-int_literal heap _ is = absurd is
+int_literal P heap _ is = absurd is
 
 module _ (w : Way) where
   -- what a loop by `for` needs, and where it stands: its turns begin here, and the step to the next is here

@@ -18,58 +18,58 @@ use Rattle.ps_code_laws.specs.Literals.{BodiesAre, BodyIs, AllBodiesAre, ArmsBod
 use Rattle.ps_code_laws.proofs.Keeps.{each_left, each_right}
 use Rattle.ps_code_laws.proofs.Giving.{Stands, parts_stand, gives}
 
+-- names of any type
+abbrev pub AnyType : TyView → Type 0
+AnyType ty = Unit {0}
+
+-- each name in scope is of a type that has values
+abbrev pub IsEnvValued : Env → Type 0
+IsEnvValued env = AreValued env.locals × AreScopesValued env.scopes
+
+field_at : (fields : List Field) (position : ℕ) (ty : TyView) → At (IsOfType ty) fields position → AreFieldsValued fields → IsValued ty
+field_at [] position ty h are = absurd h
+field_at (field ∷ fields) position ty (inl h) are = subst IsValued h.1 are.0
+field_at (field ∷ fields) position ty (inr (before, e, h)) are = field_at fields before ty h are.1
+
+pub kept_valued : (scopes : List (List Field)) (up position : ℕ) (ty : TyView) → At (λ (scope : List Field). At (IsOfType ty) scope position) scopes up →
+    AreScopesValued scopes → IsValued ty
+kept_valued [] up position ty h are = absurd h
+kept_valued (scope ∷ scopes) up position ty (inl h) are = field_at scope position ty h.1 are.0
+kept_valued (scope ∷ scopes) up position ty (inr (before, e, h)) are = kept_valued scopes before position ty h are.1
+
+and_one : (fields : List Field) (field : Field) → AreFieldsValued fields → IsValued field.ty → AreFieldsValued (fields ++ field ∷ [])
+and_one [] field are is = (is, tt)
+and_one (first ∷ rest) field are is = (are.0, and_one rest field are.1 is)
+
+pub kept_more : (scopes : List (List Field)) (scope : List Field) (around : List (List Field)) (name : List ℕ) (ty : TyView) →
+    scopes ≡ scope ∷ around → IsValued ty → AreScopesValued scopes → AreScopesValued ((scope ++ record { ty = ty; name = name } ∷ []) ∷ around)
+kept_more scopes scope around name ty e is h =
+    let are : AreScopesValued (scope ∷ around) = subst AreScopesValued e h in
+    (and_one scope (record { ty = ty; name = name }) are.0 is, are.1)
+
+pub env_more : {env with_name : Env} {free behind : Free} {place : Place} {ty : TyView} → Declares env free place ty with_name behind →
+    IsValued ty → IsEnvValued env → IsEnvValued with_name
+env_more (typed.as_local {env = env} {free = free} {slot = slot} {ty = ty} e) is h =
+    let declares : Declares env free (Plain slot) ty (with_local slot ty env) (behind_one ty free) = typed.as_local e in
+    (declared_valued declares is h.0, h.1)
+env_more (typed.as_kept {env = env} {ty = ty} {scope = scope} {around = around} name scopes at) is h =
+    (h.0, kept_more env.scopes scope around name ty scopes is h.1)
+
+takes_valued : {env last : Env} {free behind : Free} {params : List Param} → Takes env free params last behind → AllValued (types_of_params params) →
+    IsEnvValued env → IsEnvValued last
+takes_valued typed.Takes.no_more h valued = valued
+takes_valued (typed.Takes.as_local {env = env} {free = free} {slot = slot} {ty = ty} e rest) h valued =
+    let declares : Declares env free (Plain slot) ty (with_local slot ty env) (behind_one ty free) = typed.Declares.as_local e in
+    takes_valued rest h.1 (env_more declares h.0 valued)
+takes_valued (typed.Takes.as_kept {env = env} {ty = ty} {scope = scope} {around = around} name scopes at rest) h valued =
+    takes_valued rest h.1 (valued.0, kept_more env.scopes scope around name ty scopes h.0 valued.1)
+
+opened_valued : {scope : Option (List ℕ)} (around : List (List Field)) {first last : _} → Opens scope around first last → AreScopesValued around →
+    AreScopesValued first
+opened_valued around typed.unscoped h = h
+opened_valued around typed.scoped h = (tt, h)
+
 module _ (P : BodyNode → Type 0) (valued_body : (of : BodyNode) → P of → IsValued (type_of_body of)) where
-  -- names of any type
-  abbrev pub AnyType : TyView → Type 0
-  AnyType ty = Unit {0}
-
-  -- each name in scope is of a type that has values
-  abbrev pub IsEnvValued : Env → Type 0
-  IsEnvValued env = AreValued env.locals × AreScopesValued env.scopes
-
-  field_at : (fields : List Field) (position : ℕ) (ty : TyView) → At (IsOfType ty) fields position → AreFieldsValued fields → IsValued ty
-  field_at [] position ty h are = absurd h
-  field_at (field ∷ fields) position ty (inl h) are = subst IsValued h.1 are.0
-  field_at (field ∷ fields) position ty (inr (before, e, h)) are = field_at fields before ty h are.1
-
-  pub kept_valued : (scopes : List (List Field)) (up position : ℕ) (ty : TyView) → At (λ (scope : List Field). At (IsOfType ty) scope position) scopes up →
-      AreScopesValued scopes → IsValued ty
-  kept_valued [] up position ty h are = absurd h
-  kept_valued (scope ∷ scopes) up position ty (inl h) are = field_at scope position ty h.1 are.0
-  kept_valued (scope ∷ scopes) up position ty (inr (before, e, h)) are = kept_valued scopes before position ty h are.1
-
-  and_one : (fields : List Field) (field : Field) → AreFieldsValued fields → IsValued field.ty → AreFieldsValued (fields ++ field ∷ [])
-  and_one [] field are is = (is, tt)
-  and_one (first ∷ rest) field are is = (are.0, and_one rest field are.1 is)
-
-  pub kept_more : (scopes : List (List Field)) (scope : List Field) (around : List (List Field)) (name : List ℕ) (ty : TyView) →
-      scopes ≡ scope ∷ around → IsValued ty → AreScopesValued scopes → AreScopesValued ((scope ++ record { ty = ty; name = name } ∷ []) ∷ around)
-  kept_more scopes scope around name ty e is h =
-      let are : AreScopesValued (scope ∷ around) = subst AreScopesValued e h in
-      (and_one scope (record { ty = ty; name = name }) are.0 is, are.1)
-
-  pub env_more : {env with_name : Env} {free behind : Free} {place : Place} {ty : TyView} → Declares env free place ty with_name behind →
-      IsValued ty → IsEnvValued env → IsEnvValued with_name
-  env_more (typed.as_local {env = env} {free = free} {slot = slot} {ty = ty} e) is h =
-      let declares : Declares env free (Plain slot) ty (with_local slot ty env) (behind_one ty free) = typed.as_local e in
-      (declared_valued declares is h.0, h.1)
-  env_more (typed.as_kept {env = env} {ty = ty} {scope = scope} {around = around} name scopes at) is h =
-      (h.0, kept_more env.scopes scope around name ty scopes is h.1)
-
-  takes_valued : {env last : Env} {free behind : Free} {params : List Param} → Takes env free params last behind → AllValued (types_of_params params) →
-      IsEnvValued env → IsEnvValued last
-  takes_valued typed.Takes.no_more h valued = valued
-  takes_valued (typed.Takes.as_local {env = env} {free = free} {slot = slot} {ty = ty} e rest) h valued =
-      let declares : Declares env free (Plain slot) ty (with_local slot ty env) (behind_one ty free) = typed.Declares.as_local e in
-      takes_valued rest h.1 (env_more declares h.0 valued)
-  takes_valued (typed.Takes.as_kept {env = env} {ty = ty} {scope = scope} {around = around} name scopes at rest) h valued =
-      takes_valued rest h.1 (valued.0, kept_more env.scopes scope around name ty scopes h.0 valued.1)
-
-  opened_valued : {scope : Option (List ℕ)} (around : List (List Field)) {first last : _} → Opens scope around first last → AreScopesValued around →
-      AreScopesValued first
-  opened_valued around typed.unscoped h = h
-  opened_valued around typed.scoped h = (tt, h)
-
   -- a clause whose bodies fit, and whose names are of types that have values
   abbrev Named : Claim → Type 0
   Named claim = BodiesAre P IsValued claim.clause
