@@ -1,5 +1,5 @@
 -- Programs of which the law speaks: they are well typed, they run, and they have units.
-use Rattle.std.proofs.Common.{ℕ, ◌^◌, ◌<◌, FitsSigned, w32, List, [], ◌∷◌, inl, refl, pos, false, Some, None, arith}
+use Rattle.std.proofs.Common.{ℕ, ◌^◌, ◌<◌, FitsSigned, w32, List, [], ◌∷◌, inl, refl, pos, true, false, Some, None, arith}
 use Rattle.std.specs.List.{AllByRecursion}
 use Rattle.std.specs.Prelude.{codes}
 use Rattle.std.proofs.lemmas.Int.{fits_signed_from_abs}
