@@ -6,6 +6,7 @@ pub mod Naming
 pub mod Holding
 pub mod Full
 pub mod Failing
+pub mod Plain
 pub mod Stepped
 pub mod Calling
 pub mod Reading
