@@ -53,12 +53,12 @@ and_step {c = c} {next = next} {events = events} (more {events = first} {behind 
     subst (λ (es : List Event). Reaches c es next) (sym (append_assoc first behind events)) (more step (and_step way steps))
 
 -- a step of the machine that goes on or stops is one of the definition
-goes_plainly : {c : Config} {s : Step} (events : List Event) (next : Config) → PlainSteps c s → s ≡ Goes events next → Steps c (Goes events next)
+pub goes_plainly : {c : Config} {s : Step} (events : List Event) (next : Config) → PlainSteps c s → s ≡ Goes events next → Steps c (Goes events next)
 goes_plainly {c = c} events next (at_plain at plain) is = subst (λ (s : Step). Steps c s) is (at_instruction at)
 goes_plainly events next (at_another at other) is = absurd (let both : Stuck ≡ Goes events next = is in cc)
 goes_plainly events next (at_none none) is = absurd (let both : Stuck ≡ Goes events next = is in cc)
 
-stops_plainly : {c : Config} {s : Step} (e : End) (touched : ℕ) → PlainSteps c s → s ≡ Stops e touched → Steps c (Stops e touched)
+pub stops_plainly : {c : Config} {s : Step} (e : End) (touched : ℕ) → PlainSteps c s → s ≡ Stops e touched → Steps c (Stops e touched)
 stops_plainly {c = c} e touched (at_plain at plain) is = subst (λ (s : Step). Steps c s) is (at_instruction at)
 stops_plainly e touched (at_another at other) is = absurd (let both : Stuck ≡ Stops e touched = is in cc)
 stops_plainly e touched (at_none none) is = absurd (let both : Stuck ≡ Stops e touched = is in cc)

@@ -16,8 +16,8 @@ use Rattle.ps_volumes.specs.ps_reports.Answering.{Answers, EndsIn}
 use Rattle.ps_volumes.specs.Attaching.{Keeps, KeepsVolume, IsWhyNone, line_of, status_of as status_of_cause}
 use Rattle.ps_volumes.specs.Making.{IsMakingDue}
 use Rattle.ps_meaning.specs.ps_heap.Ends.{status_of}
-use Rattle.ps_meaning.specs.Event.{Event, outputs}
-use Rattle.ps_meaning.specs.Runs.{run_events, run_end}
+use Rattle.ps_meaning.specs.ps_heap.Events.{Event, outputs}
+use Rattle.ps_meaning.specs.Runs.{over_nothing, run_events, run_end}
 use Rattle.ps_causes.specs.Source.{IsProgram, IsSourceFault}
 use Rattle.ps_causes.specs.Filling.{area_size, FillsArea}
 
@@ -45,7 +45,7 @@ HoldsInput holds (Some name) input = holds name input × (length input ≤ LONGE
 
 -- What a program outputs in a run with this input, and the status of its end: it reaches its end, or its area is full.
 pub data RunsTo (run : RunOf) (input : List ℕ) (program : BodyNode) : List ℕ → ℕ → Type 0 where
-  its_end : RunsTo run input program (outputs (run_events run.turns input program)) (status_of (run_end run.turns input program))
+  its_end : RunsTo run input program (outputs (run_events (over_nothing run.turns input) program)) (status_of (run_end (over_nothing run.turns input) program))
   area_full : {before : List Event} {top wanted : ℕ} → FillsArea run input program before top wanted →
       RunsTo run input program (outputs before ++ area_full_line top wanted (area_size run)) 11
 

@@ -29,6 +29,7 @@ use ps_base::code_unit::CodeUnit;
 use ps_causes::ps_reports::{Report, Status};
 use ps_causes::ps_volumes::{Unattached, attached};
 use ps_causes::ps_words::RunWords;
+use count_laws::heavier_code_counts_more;
 use ps_code_laws::program_runs_as_meant;
 use ps_port::{Host, tell};
 use ps_unit_weights::units_weigh_as_counted;
@@ -71,6 +72,7 @@ fn run_attached<H: Host>(
     ensures ran { (program : BodyNode) → IsRunnable prepared.unit program → EndsRun (H.outside host) (H.outside result.1) (run_in words.now) prepared.input.items program result.0 }
     ensures left { LeavesSame (H.outside host) (H.outside result.1) }
 {
+    heavier_code_counts_more();
     program_runs_as_meant();
     units_weigh_as_counted();
     let mut m = m;
