@@ -26,7 +26,7 @@ runs_by may total c so_far (machine.goes_by {next = next} {events = events} at o
     machine.goes (subst (λ (s : Step). Steps c s) e (machine.at_instruction at)) (runs_by may total next (so_far ++ events) run)
 runs_by may total c so_far (machine.stops_by {e = end} at ok e is) = machine.stops (subst (λ (s : Step). Steps c s) e (machine.at_instruction at)) is
 
-follow_by : (may : Instr → Bool) (total : List Event) (c next : Config) (so_far events : List Event) → machine.RunsBy may total c so_far →
+pub follow_by : (may : Instr → Bool) (total : List Event) (c next : Config) (so_far events : List Event) → machine.RunsBy may total c so_far →
     Steps c (Goes events next) → machine.RunsBy may total next (so_far ++ events)
 follow_by may total c next so_far events (machine.goes_by {next = next'} {events = events'} at ok e run) t =
     same_goes events' events next' next (λ es n. machine.RunsBy may total n (so_far ++ es))
@@ -34,7 +34,7 @@ follow_by may total c next so_far events (machine.goes_by {next = next'} {events
 follow_by may total c next so_far events (machine.stops_by {e = end} {touched = k} at ok e is) t =
     absurd (let both : Stops end k ≡ Goes events next = one_step c _ _ (subst (λ (s : Step). Steps c s) e (machine.at_instruction at)) t in cc)
 
-by_the_way : (may : Instr → Bool) (total : List Event) (c last : Config) (so_far events : List Event) → machine.RunsBy may total c so_far →
+pub by_the_way : (may : Instr → Bool) (total : List Event) (c last : Config) (so_far events : List Event) → machine.RunsBy may total c so_far →
     Reaches c events last → machine.RunsBy may total last (so_far ++ events)
 by_the_way may total c last so_far events run no_step = subst (λ (es : List Event). machine.RunsBy may total c es) (sym (append-nil so_far)) run
 by_the_way may total c last so_far events run (more {next = next} {events = first} {behind = behind} s way) =
