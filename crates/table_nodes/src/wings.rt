@@ -15,11 +15,7 @@ use heap_places::swizzle::fault::SwizzleFault;
 use heap_places::swizzle::swizzle::Swizzle;
 
 /// The sides of a node. They are fetched where they aren't in the area.
-pub fn open_sides<V: Vault>(
-    sw: &mut Swizzle,
-    vault: &mut V,
-    at: u32,
-) -> Result<Sides, SwizzleFault>
+pub fn open_sides<V: Vault>(sw: &mut Swizzle, vault: &mut V, at: u32) -> Result<Sides, SwizzleFault>
     requires alive { V.alive vault.old }
     requires node { IsNode sw.old at }
     ensures held { IfOk result (AreHeld sw.new) }

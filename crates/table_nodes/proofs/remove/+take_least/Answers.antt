@@ -42,7 +42,6 @@ returns-in-Err-open_right-clause-taken g t c ks (node u d v) b y p h lower =
     let s = stands_grown (rows_of ks old) (rows_of ks m0) (c.in-Ok.ensures.grows.rows ks) (node x b y) h.stands in
     fetch_back old.outside m0.outside c.in-Err-open_right.fault c.in-Ok.ensures.grows.contents (c.in-Err-open_right.ensures.wing ks x y s.1 s.2 ends.0 ends.1 (omega (arith, hh)) (omega (arith, hh)))
 
-
 pub returns-in-Err-take_least-clause-taken : goal.returns-in-Err-take_least-clause-taken
 returns-in-Err-take_least-clause-taken g t c ks leaf b y p h lower =
     let ends = c.in-Ok.ensures.ends ks leaf b y h.stands h.root_is in
@@ -61,7 +60,6 @@ returns-in-Err-take_least-clause-taken g t c ks (node u d v) b y p h lower =
     let right_is = linked_kept m0.heap m.heap c.in-Ok-open_right.ensures.grows.named c.in-Ok.sides.right (root_of y) ends.1 in
     let below = tree_left ks old m (Some c.args.at) (Some c.in-Some.below) grows x b y h (subst (λ s. IsLinked m.heap s (Some d.name)) c.in-Some.is left_now) in
     fetch_back old.outside m.outside c.in-Err-take_least.fault grows.contents (c.in-Err-take_least.ensures.taken ks u d v (place_touched old m grows p) below ready.1)
-
 
 pub returns-clause-taken : goal.returns-clause-taken
 returns-clause-taken g t c ks leaf b y p h lower =
@@ -87,7 +85,6 @@ returns-clause-taken g t c ks (node u d v) b y p h lower =
     let known = least_known ks old m m1 c.args.at (Some c.args.at) c.in-Ok.sides.right grows c.in-Ok-take_least.ensures.held u d v b y p h h.root_is right_is c.in-Ok-take_least.least w c.in-Ok-open_right.ready.wing ready.0 in
     least_above ks old m m1 c.args.at (Some c.args.at) c.in-Ok.sides.right grows c.in-Ok-take_least.ensures.held u d v b y p h h.root_is right_is c.in-Ok-take_least.least w
     m2 c.balance-root.result c.balance-root.ensures.held (c.balance-root.ensures.balanced ks _ b y sides known.0 known.1)
-
 
 pub returns-clause-held : goal.returns-clause-held
 returns-clause-held g t c = record {

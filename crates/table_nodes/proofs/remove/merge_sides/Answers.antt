@@ -31,7 +31,6 @@ returns-in-Err-clause-merged g c ks at (node u d v) a (node x b y) p h e f lower
     let ready = c.in-Err.ensures.wing ks r l h.stands.2 h.stands.1 f e (omega (arith, lower)) (omega (arith, lower)) in
     ready
 
-
 pub returns-in-Err-take_least-clause-merged : goal.returns-in-Err-take_least-clause-merged
 returns-in-Err-take_least-clause-merged g c ks at l a leaf p h e f lower = absurd (no_root c.args.sw.now c.args.right c.in-Some.above c.in-Some.is f)
 returns-in-Err-take_least-clause-merged g c ks at leaf a (node x b y) p h e f lower = absurd (no_root c.args.sw.now c.args.left c.in-Some-left.below c.in-Some-left.is e)
@@ -47,7 +46,6 @@ returns-in-Err-take_least-clause-merged g c ks at (node u d v) a (node x b y) p 
     let t = tree_grown ks old m at (Some at) grows l a r h.root_is h in
     let side = tree_right ks old m (Some at) (Some c.in-Some.above) grows l a r h (grows.named c.in-Some.above b.name above) in
     fetch_back old.outside m.outside c.in-Err-take_least.fault grows.contents (c.in-Err-take_least.ensures.taken ks x b y (place_touched old m grows p) side ready.1)
-
 
 pub returns-clause-merged : goal.returns-clause-merged
 returns-clause-merged g c ks at l a leaf p h e f lower = absurd (no_root c.args.sw.now c.args.right c.in-Some.above c.in-Some.is f)
@@ -71,7 +69,6 @@ returns-clause-merged g c ks at (node u d v) a (node x b y) p h e f lower =
     let known = merge_known ks m m1 at c.in-Some-left.below c.in-Ok-take_least.ensures.held u d v a x b y (place_touched old m grows p) t there c.in-Ok-take_least.least w c.in-Ok.ready.wing ready.0 in
     leaves_touched ks old m m2 grows (items (node l a r)) (merge l r) (Some c.balance-root.result)
     (merge_done ks m m1 at c.in-Some-left.below c.in-Ok-take_least.ensures.held u d v a x b y (place_touched old m grows p) t there c.in-Ok-take_least.least w m2 c.balance-root.result (c.balance-root.ensures.balanced ks _ _ _ sides known.0 known.1))
-
 
 pub returns-in_default-clause-spares : goal.returns-in_default-clause-spares
 returns-in_default-clause-spares g c = spares_none c.args.sw.now (g.V.Vault.outside c.args.vault.now)
