@@ -1,11 +1,11 @@
 -- What a turn looks at, as nodes keep their names.
-use Rattle.std.proofs.Common.{◌≡◌, ℕ, Option, Some, None, subst}
+use Rattle.std.proofs.Common.{◌≡◌, ℕ, Option, Some, None, IfSome, subst}
 use Rattle.heap_places.specs.obj_layout.declared.reference.Reference.{Reference}
 use Rattle.heap_places.specs.swizzle.Heap.{Heap}
 use Rattle.avl_trees.specs.Trees.{Tree, leaf, node}
 use Rattle.avl_trees.specs.Standing.{Item, root_of}
 use Rattle.table_nodes.specs.Nodes.{IsNamed, IsNode}
-use Rattle.table_nodes.specs.Wings.{AreEnds, AreHeld, IsLeftWing, IsRightWing}
+use Rattle.table_nodes.specs.Wings.{AreEnds, AreHeld, IsLeftWing, IsRightWing, IsWingHeld}
 use Rattle.table_nodes.specs.declared.sides.Sides.{Sides}
 use Rattle.table_nodes.specs.declared.wing.Wing.{Wing}
 use Rattle.table_nodes.proofs.StepLaws.{linked_kept, side_map}
@@ -42,3 +42,10 @@ the_ends heap sides ends t e k = subst (λ s. AreEnds heap s t) e k
 
 pub held_kept : (a b : Heap) → ((at : ℕ) → IsNode a at → IsNode b at) → (sides : Sides) → AreHeld a sides → AreHeld b sides
 held_kept a b f sides h = (side_map (IsNode a) (IsNode b) f sides.left h.0, side_map (IsNode a) (IsNode b) f sides.right h.1)
+
+ends_held : (a b : Heap) → ((at : ℕ) → IsNode a at → IsNode b at) → (sides : Option Sides) → IfSome sides (AreHeld a) → IfSome sides (AreHeld b)
+ends_held a b f None h = tt
+ends_held a b f (Some sides) h = held_kept a b f sides h
+
+pub wing_held_kept : (a b : Heap) → ((at : ℕ) → IsNode a at → IsNode b at) → (wing : Wing) → IsWingHeld a wing → IsWingHeld b wing
+wing_held_kept a b f wing h = (ends_held a b f wing.sides h.0, ends_held a b f wing.left h.1, ends_held a b f wing.right h.2)

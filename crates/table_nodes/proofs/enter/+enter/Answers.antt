@@ -10,7 +10,7 @@ use Rattle.table_nodes.specs.Sought.{kind_of, key_in}
 use Rattle.table_nodes.specs.Steps.{place}
 use Rattle.table_nodes.proofs.BringLaws.{keeps_lasts, brings_none, brings_more, brings_then, brings_written}
 use Rattle.table_nodes.proofs.SoughtLaws.{key_in_kept}
-use Rattle.table_nodes.proofs.StepLaws.{place_touched}
+use Rattle.table_nodes.proofs.StepLaws.{place_touched, side_map}
 use Rattle.table_nodes.proofs.Putting.{root_named, no_root, entered_as, tree_left, tree_right, put_leaf, put_left, put_right, put_here, fault_after, counted_leaf, counted_left, counted_right, counted_here}
 use Rattle.table_nodes.proofs.Sparing.{spares_made, spares_then, spares_touched}
 use Rattle.table_nodes.proofs.enter.+enter.Goals as goal
@@ -221,3 +221,9 @@ returns-in-Err-open_node-clause-brings g t c = brings_more _ _ 2 _ (omega (arith
 
 pub returns-in-Equal-clause-brings : goal.returns-in-Equal-clause-brings
 returns-in-Equal-clause-brings g t c = brings_written _ _ _ _ 2 0 _ (keeps_lasts _ _ (keeps-refl _)) c.put.ensures.spares.lasts c.put.ensures.none (omega (arith, c.requires.some)) c.open_node.ensures.brings (brings_none _ 0)
+
+pub with_left-requires-clause-other : goal.with_left-requires-clause-other
+with_left-requires-clause-other g t c = side_map (IsNode c.open_node.new.sw) (IsNode c.enter.new.sw) c.in-Ok-enter.ensures.held.nodes c.in-Ok-open_node.opened.right c.in-Ok-open_node.ensures.right
+
+pub with_right-requires-clause-other : goal.with_right-requires-clause-other
+with_right-requires-clause-other g t c = side_map (IsNode c.open_node.new.sw) (IsNode c.enter-in-Greater.new.sw) c.in-Ok-enter-2.ensures.held.nodes c.in-Ok-open_node.opened.left c.in-Ok-open_node.ensures.left

@@ -8,11 +8,12 @@ use Rattle.table_nodes.specs.Sought.{kind_of, key_in}
 use Rattle.table_nodes.specs.Steps.{place, rows_of}
 use Rattle.table_nodes.proofs.BringLaws.{brings_more, brings_none, brings_then, brings_touched, brings_written, keeps_lasts}
 use Rattle.table_nodes.proofs.NodeLaws.{fetch_back}
-use Rattle.table_nodes.proofs.SoughtLaws.{key_held_kept, key_in_kept}
+use Rattle.table_nodes.proofs.SoughtLaws.{key_in_kept}
 use Rattle.table_nodes.proofs.StepLaws.{place_touched, touches_then}
 use Rattle.table_nodes.proofs.Putting.{root_named, no_root, tree_left, tree_right}
 use Rattle.table_nodes.proofs.Removal.{removed_as, remove_leaf, opened_kept, left_sides, left_known, left_done, right_sides, right_known, right_done, here_done, here_fault, gone_leaf, gone_left, gone_right, gone_here}
 use Rattle.table_nodes.proofs.Sparing.{spares_none, spares_then, spares_touched}
+use Rattle.table_nodes.proofs.WingLaws.{wing_held_kept}
 use Rattle.table_nodes.proofs.remove.+remove.Goals as goal
 
 pub returns-in_default-clause-removed : goal.returns-in_default-clause-removed
@@ -72,11 +73,11 @@ returns-in-Ok-remove-clause-removed g t c (node x b y) p h lower =
     let same = key_in_kept old.heap m.heap c.args.key keeps c.requires.key in
     let side = tree_left ks old m c.args.root c.in-Ok.opened.left grows x b y h o.left in
     let m1 = place c.remove.new.sw (g.V.Vault.outside c.remove.new.vault) in
-    let m2 = place c.balance.new.sw (g.V.Vault.outside c.remove.new.vault) in
+    let m2 = place c.balance-root.new.sw (g.V.Vault.outside c.remove.new.vault) in
     let w = removed_as ks m m1 c.in-Ok.opened.left c.in-Ok-open_right.ready.bound (key_in m.heap c.args.key) key (Ok c.in-Ok-remove.left) same c.in-Ok-remove.ensures.removed x here side ready.1 in
     let sides = left_sides ks key old m m1 c.in-Some.at c.args.root c.in-Ok.opened grows p x b y h named o c.in-Ok-remove.left.root c.in-Ok-remove.ensures.held (omega (arith, e, lower, c.requires.bound)) c.in-Less.is w in
     let known = left_known ks key old m m1 c.in-Some.at c.args.root c.in-Ok.opened grows p x b y h named o c.in-Ok-open_right.ready.wing c.in-Ok-remove.ensures.held ready.0 in
-    left_done ks key old m m1 c.in-Some.at c.args.root c.in-Ok.opened grows p x b y h named o m2 c.in-Ok-remove.left.root c.balance.result c.in-Less.is w (c.balance.ensures.balanced ks _ _ _ sides known.0 known.1)
+    left_done ks key old m m1 c.in-Some.at c.args.root c.in-Ok.opened grows p x b y h named o m2 c.in-Ok-remove.left.root c.balance-root.result c.in-Less.is w (c.balance-root.ensures.balanced ks _ _ _ sides known.0 known.1)
 
 pub returns-in-Err-remove-clause-removed : goal.returns-in-Err-remove-clause-removed
 returns-in-Err-remove-clause-removed g t c leaf p h lower = absurd (no_root c.args.sw.now c.args.root c.in-Some.at c.in-Some.is h.root_is)
@@ -132,11 +133,11 @@ returns-in-Ok-remove-2-clause-removed g t c (node x b y) p h lower =
     let same = key_in_kept old.heap m.heap c.args.key keeps c.requires.key in
     let side = tree_right ks old m c.args.root c.in-Ok.opened.right grows x b y h o.right in
     let m1 = place c.remove-in-Greater.new.sw (g.V.Vault.outside c.remove-in-Greater.new.vault) in
-    let m2 = place c.balance-in-Ok-remove-2.new.sw (g.V.Vault.outside c.remove-in-Greater.new.vault) in
+    let m2 = place c.balance-root-in-Ok-remove-2.new.sw (g.V.Vault.outside c.remove-in-Greater.new.vault) in
     let w = removed_as ks m m1 c.in-Ok.opened.right c.in-Ok-open_left.ready.bound (key_in m.heap c.args.key) key (Ok c.in-Ok-remove-2.right) same c.in-Ok-remove-2.ensures.removed y here side ready.1 in
     let sides = right_sides ks key old m m1 c.in-Some.at c.args.root c.in-Ok.opened grows p x b y h named o c.in-Ok-remove-2.right.root c.in-Ok-remove-2.ensures.held (omega (arith, e, lower, c.requires.bound)) c.in-Greater.is w in
     let known = right_known ks key old m m1 c.in-Some.at c.args.root c.in-Ok.opened grows p x b y h named o c.in-Ok-open_left.ready.wing c.in-Ok-remove-2.ensures.held ready.0 in
-    right_done ks key old m m1 c.in-Some.at c.args.root c.in-Ok.opened grows p x b y h named o m2 c.in-Ok-remove-2.right.root c.balance-in-Ok-remove-2.result c.in-Greater.is w (c.balance-in-Ok-remove-2.ensures.balanced ks _ _ _ sides known.0 known.1)
+    right_done ks key old m m1 c.in-Some.at c.args.root c.in-Ok.opened grows p x b y h named o m2 c.in-Ok-remove-2.right.root c.balance-root-in-Ok-remove-2.result c.in-Greater.is w (c.balance-root-in-Ok-remove-2.ensures.balanced ks _ _ _ sides known.0 known.1)
 
 pub returns-in-Err-remove-2-clause-removed : goal.returns-in-Err-remove-2-clause-removed
 returns-in-Err-remove-2-clause-removed g t c leaf p h lower = absurd (no_root c.args.sw.now c.args.root c.in-Some.at c.in-Some.is h.root_is)
@@ -268,19 +269,19 @@ returns-in-Err-merge_sides-clause-still g t c = keeps-trans _ _ _ c.in-Ok.ensure
 
 pub returns-in-Ok-remove-clause-held : goal.returns-in-Ok-remove-clause-held
 returns-in-Ok-remove-clause-held g t c = record {
-  nodes = λ at h. c.balance.ensures.held.nodes at (c.in-Ok-remove.ensures.held.nodes at (c.in-Ok-open_right.ensures.grows.nodes at (c.in-Ok.ensures.grows.nodes at h)));
-  named = λ at n h. c.balance.ensures.held.named at n (c.in-Ok-remove.ensures.held.named at n (c.in-Ok-open_right.ensures.grows.named at n (c.in-Ok.ensures.grows.named at n h)));
+  nodes = λ at h. c.balance-root.ensures.held.nodes at (c.in-Ok-remove.ensures.held.nodes at (c.in-Ok-open_right.ensures.grows.nodes at (c.in-Ok.ensures.grows.nodes at h)));
+  named = λ at n h. c.balance-root.ensures.held.named at n (c.in-Ok-remove.ensures.held.named at n (c.in-Ok-open_right.ensures.grows.named at n (c.in-Ok.ensures.grows.named at n h)));
 }
 
 pub returns-in-Ok-remove-clause-spares : goal.returns-in-Ok-remove-clause-spares
-returns-in-Ok-remove-clause-spares g t c = spares_then _ _ _ _ _ _ (spares_then _ _ _ _ _ _ (spares_touched _ _ _ _ c.in-Ok.ensures.keeps c.in-Ok.ensures.grows) (spares_touched _ _ _ _ c.in-Ok-open_right.ensures.keeps c.in-Ok-open_right.ensures.grows)) (spares_then _ _ _ _ _ _ c.in-Ok-remove.ensures.spares c.balance.ensures.spares)
+returns-in-Ok-remove-clause-spares g t c = spares_then _ _ _ _ _ _ (spares_then _ _ _ _ _ _ (spares_touched _ _ _ _ c.in-Ok.ensures.keeps c.in-Ok.ensures.grows) (spares_touched _ _ _ _ c.in-Ok-open_right.ensures.keeps c.in-Ok-open_right.ensures.grows)) (spares_then _ _ _ _ _ _ c.in-Ok-remove.ensures.spares c.balance-root.ensures.spares)
 
 pub returns-in-Err-open_right-clause-brings : goal.returns-in-Err-open_right-clause-brings
 returns-in-Err-open_right-clause-brings g t c = brings_touched _ _ _ 2 4 _ c.in-Err-open_right.ensures.still (omega (arith, c.if-height-eq0.false, c.if-height-bound.false)) c.open_node.ensures.brings c.in-Err-open_right.ensures.brings
 
 pub returns-in-Ok-remove-clause-brings : goal.returns-in-Ok-remove-clause-brings
 returns-in-Ok-remove-clause-brings g t c =
-    brings_written _ _ _ _ (2 + (3 * c.height-height.result + 1 - 3 * c.in-Ok-open_right.ready.bound)) (3 * c.in-Ok-open_right.ready.bound) _ c.in-Ok-remove.ensures.spares.lasts c.balance.ensures.spares.lasts c.balance.ensures.none (omega (arith, c.if-height-bound.false, c.in-Ok-open_right.ensures.bound))
+    brings_written _ _ _ _ (2 + (3 * c.height-height.result + 1 - 3 * c.in-Ok-open_right.ready.bound)) (3 * c.in-Ok-open_right.ready.bound) _ c.in-Ok-remove.ensures.spares.lasts c.balance-root.ensures.spares.lasts c.balance-root.ensures.none (omega (arith, c.if-height-bound.false, c.in-Ok-open_right.ensures.bound))
     (brings_touched _ _ _ 2 (3 * c.height-height.result + 1 - 3 * c.in-Ok-open_right.ready.bound) (2 + (3 * c.height-height.result + 1 - 3 * c.in-Ok-open_right.ready.bound)) c.in-Ok-open_right.ensures.keeps (omega arith) c.open_node.ensures.brings c.in-Ok-open_right.ensures.brings) c.remove.ensures.brings
 
 pub returns-in-Err-remove-clause-brings : goal.returns-in-Err-remove-clause-brings
@@ -294,24 +295,21 @@ returns-in-Err-open_right-clause-still g t c = keeps-trans _ _ _ c.in-Ok.ensures
 pub returns-in-Err-remove-clause-still : goal.returns-in-Err-remove-clause-still
 returns-in-Err-remove-clause-still g t c = keeps-trans _ _ _ (keeps-trans _ _ _ c.in-Ok.ensures.keeps c.in-Ok-open_right.ensures.keeps) c.in-Err-remove.ensures.still
 
-pub remove-requires-clause-key : goal.remove-requires-clause-key
-remove-requires-clause-key g t c = key_held_kept _ _ c.args.key (keeps-trans _ _ _ c.in-Ok.ensures.keeps c.in-Ok-open_right.ensures.keeps) c.requires.key
-
 pub returns-in-Ok-remove-2-clause-held : goal.returns-in-Ok-remove-2-clause-held
 returns-in-Ok-remove-2-clause-held g t c = record {
-  nodes = λ at h. c.balance-in-Ok-remove-2.ensures.held.nodes at (c.in-Ok-remove-2.ensures.held.nodes at (c.in-Ok-open_left.ensures.grows.nodes at (c.in-Ok.ensures.grows.nodes at h)));
-  named = λ at n h. c.balance-in-Ok-remove-2.ensures.held.named at n (c.in-Ok-remove-2.ensures.held.named at n (c.in-Ok-open_left.ensures.grows.named at n (c.in-Ok.ensures.grows.named at n h)));
+  nodes = λ at h. c.balance-root-in-Ok-remove-2.ensures.held.nodes at (c.in-Ok-remove-2.ensures.held.nodes at (c.in-Ok-open_left.ensures.grows.nodes at (c.in-Ok.ensures.grows.nodes at h)));
+  named = λ at n h. c.balance-root-in-Ok-remove-2.ensures.held.named at n (c.in-Ok-remove-2.ensures.held.named at n (c.in-Ok-open_left.ensures.grows.named at n (c.in-Ok.ensures.grows.named at n h)));
 }
 
 pub returns-in-Ok-remove-2-clause-spares : goal.returns-in-Ok-remove-2-clause-spares
-returns-in-Ok-remove-2-clause-spares g t c = spares_then _ _ _ _ _ _ (spares_then _ _ _ _ _ _ (spares_touched _ _ _ _ c.in-Ok.ensures.keeps c.in-Ok.ensures.grows) (spares_touched _ _ _ _ c.in-Ok-open_left.ensures.keeps c.in-Ok-open_left.ensures.grows)) (spares_then _ _ _ _ _ _ c.in-Ok-remove-2.ensures.spares c.balance-in-Ok-remove-2.ensures.spares)
+returns-in-Ok-remove-2-clause-spares g t c = spares_then _ _ _ _ _ _ (spares_then _ _ _ _ _ _ (spares_touched _ _ _ _ c.in-Ok.ensures.keeps c.in-Ok.ensures.grows) (spares_touched _ _ _ _ c.in-Ok-open_left.ensures.keeps c.in-Ok-open_left.ensures.grows)) (spares_then _ _ _ _ _ _ c.in-Ok-remove-2.ensures.spares c.balance-root-in-Ok-remove-2.ensures.spares)
 
 pub returns-in-Err-open_left-clause-brings : goal.returns-in-Err-open_left-clause-brings
 returns-in-Err-open_left-clause-brings g t c = brings_touched _ _ _ 2 4 _ c.in-Err-open_left.ensures.still (omega (arith, c.if-height-eq0.false, c.if-height-bound.false)) c.open_node.ensures.brings c.in-Err-open_left.ensures.brings
 
 pub returns-in-Ok-remove-2-clause-brings : goal.returns-in-Ok-remove-2-clause-brings
 returns-in-Ok-remove-2-clause-brings g t c =
-    brings_written _ _ _ _ (2 + (3 * c.height-height.result + 1 - 3 * c.in-Ok-open_left.ready.bound)) (3 * c.in-Ok-open_left.ready.bound) _ c.in-Ok-remove-2.ensures.spares.lasts c.balance-in-Ok-remove-2.ensures.spares.lasts c.balance-in-Ok-remove-2.ensures.none (omega (arith, c.if-height-bound.false, c.in-Ok-open_left.ensures.bound))
+    brings_written _ _ _ _ (2 + (3 * c.height-height.result + 1 - 3 * c.in-Ok-open_left.ready.bound)) (3 * c.in-Ok-open_left.ready.bound) _ c.in-Ok-remove-2.ensures.spares.lasts c.balance-root-in-Ok-remove-2.ensures.spares.lasts c.balance-root-in-Ok-remove-2.ensures.none (omega (arith, c.if-height-bound.false, c.in-Ok-open_left.ensures.bound))
     (brings_touched _ _ _ 2 (3 * c.height-height.result + 1 - 3 * c.in-Ok-open_left.ready.bound) (2 + (3 * c.height-height.result + 1 - 3 * c.in-Ok-open_left.ready.bound)) c.in-Ok-open_left.ensures.keeps (omega arith) c.open_node.ensures.brings c.in-Ok-open_left.ensures.brings) c.remove-in-Greater.ensures.brings
 
 pub returns-in-Err-remove-2-clause-brings : goal.returns-in-Err-remove-2-clause-brings
@@ -325,5 +323,8 @@ returns-in-Err-open_left-clause-still g t c = keeps-trans _ _ _ c.in-Ok.ensures.
 pub returns-in-Err-remove-2-clause-still : goal.returns-in-Err-remove-2-clause-still
 returns-in-Err-remove-2-clause-still g t c = keeps-trans _ _ _ (keeps-trans _ _ _ c.in-Ok.ensures.keeps c.in-Ok-open_left.ensures.keeps) c.in-Err-remove-2.ensures.still
 
-pub remove-requires-in-Greater-clause-key : goal.remove-requires-in-Greater-clause-key
-remove-requires-in-Greater-clause-key g t c = key_held_kept _ _ c.args.key (keeps-trans _ _ _ c.in-Ok.ensures.keeps c.in-Ok-open_left.ensures.keeps) c.requires.key
+pub balance-root-requires-clause-wing : goal.balance-root-requires-clause-wing
+balance-root-requires-clause-wing g t c = wing_held_kept c.open_right.new.sw c.remove.new.sw c.in-Ok-remove.ensures.held.nodes c.in-Ok-open_right.ready.wing c.in-Ok-open_right.ensures.held
+
+pub balance-root-requires-in-Ok-remove-2-clause-wing : goal.balance-root-requires-in-Ok-remove-2-clause-wing
+balance-root-requires-in-Ok-remove-2-clause-wing g t c = wing_held_kept c.open_left.new.sw c.remove-in-Greater.new.sw c.in-Ok-remove-2.ensures.held.nodes c.in-Ok-open_left.ready.wing c.in-Ok-open_left.ensures.held

@@ -3,14 +3,15 @@ use Rattle.avl_trees.specs.Trees.{leaf, node}
 use Rattle.avl_trees.specs.Standing.{row_of, root_of}
 use Rattle.avl_trees.proofs.Standing.{stands_grown}
 use Rattle.heap_places.proofs.of_swizzle.TouchLaws.{keeps-refl, keeps-trans}
-use Rattle.table_nodes.specs.Nodes.{IsLinked}
+use Rattle.table_nodes.specs.Nodes.{IsLinked, IsNode}
 use Rattle.table_nodes.specs.Steps.{place, rows_of}
 use Rattle.table_nodes.proofs.BringLaws.{brings_more, brings_none, brings_then, brings_touched, brings_written, keeps_lasts}
 use Rattle.table_nodes.proofs.NodeLaws.{fetch_back}
-use Rattle.table_nodes.proofs.StepLaws.{linked_kept, place_touched, touches_then}
+use Rattle.table_nodes.proofs.StepLaws.{linked_kept, place_touched, side_map, touches_then}
 use Rattle.table_nodes.proofs.Putting.{no_root, tree_left}
 use Rattle.table_nodes.proofs.Removal.{least_here, least_sides, least_known, least_above}
 use Rattle.table_nodes.proofs.Sparing.{spares_then, spares_touched}
+use Rattle.table_nodes.proofs.WingLaws.{wing_held_kept}
 use Rattle.table_nodes.proofs.remove.+take_least.Goals as goal
 
 pub returns-then-height-eq0-clause-taken : goal.returns-then-height-eq0-clause-taken
@@ -131,3 +132,12 @@ returns-in-Err-open_right-clause-still g t c = keeps-trans _ _ _ c.in-Ok.ensures
 
 pub returns-in-Err-take_least-clause-still : goal.returns-in-Err-take_least-clause-still
 returns-in-Err-take_least-clause-still g t c = keeps-trans _ _ _ (keeps-trans _ _ _ c.in-Ok.ensures.keeps c.in-Ok-open_right.ensures.keeps) c.in-Err-take_least.ensures.still
+
+pub balance-root-requires-clause-at : goal.balance-root-requires-clause-at
+balance-root-requires-clause-at g t c = c.in-Ok-take_least.ensures.held.nodes _ (c.in-Ok-open_right.ensures.grows.nodes _ (c.in-Ok.ensures.grows.nodes _ c.requires.node))
+
+pub balance-root-requires-clause-right : goal.balance-root-requires-clause-right
+balance-root-requires-clause-right g t c = side_map (IsNode c.open_sides.new.sw) (IsNode c.take_least.new.sw) (λ n h. c.in-Ok-take_least.ensures.held.nodes n (c.in-Ok-open_right.ensures.grows.nodes n h)) c.in-Ok.sides.right c.in-Ok.ensures.held.1
+
+pub balance-root-requires-clause-wing : goal.balance-root-requires-clause-wing
+balance-root-requires-clause-wing g t c = wing_held_kept c.open_right.new.sw c.take_least.new.sw c.in-Ok-take_least.ensures.held.nodes c.in-Ok-open_right.ready.wing c.in-Ok-open_right.ensures.held

@@ -9,6 +9,7 @@ use Rattle.table_nodes.proofs.StepLaws.{place_touched}
 use Rattle.table_nodes.proofs.Putting.{no_root, root_named, tree_right}
 use Rattle.table_nodes.proofs.Removal.{leaves_touched, tree_grown, merge_left, merge_right, merge_sides_of, merge_known, merge_done}
 use Rattle.table_nodes.proofs.Sparing.{spares_none, spares_then, spares_touched}
+use Rattle.table_nodes.proofs.WingLaws.{wing_held_kept}
 use Rattle.table_nodes.proofs.remove.merge_sides.Goals as goal
 
 pub returns-in_default-clause-merged : goal.returns-in_default-clause-merged
@@ -28,7 +29,9 @@ returns-in-Err-clause-merged g c ks at (node u d v) a (node x b y) p h e f lower
     let old = place c.args.sw.now (g.V.Vault.outside c.args.vault.now) in
     let l = node u d v in
     let r = node x b y in
-    let ready = c.in-Err.ensures.wing ks r l h.stands.2 h.stands.1 f e (omega (arith, lower)) (omega (arith, lower)) in
+    let above = root_named old.heap c.args.right c.in-Some.above b.name c.in-Some.is f in
+    let below = root_named old.heap c.args.left c.in-Some-left.below d.name c.in-Some-left.is e in
+    let ready = c.in-Err.ensures.wing ks r l h.stands.2 h.stands.1 above below (omega (arith, lower)) (omega (arith, lower)) in
     ready
 
 pub returns-in-Err-take_least-clause-merged : goal.returns-in-Err-take_least-clause-merged
@@ -38,11 +41,11 @@ returns-in-Err-take_least-clause-merged g c ks at (node u d v) a (node x b y) p 
     let old = place c.args.sw.now (g.V.Vault.outside c.args.vault.now) in
     let l = node u d v in
     let r = node x b y in
-    let ready = c.in-Ok.ensures.wing ks r l h.stands.2 h.stands.1 f e (omega (arith, lower)) (omega (arith, lower)) in
-    let m = place c.open_left.new.sw (g.V.Vault.outside c.open_left.new.vault) in
-    let grows = c.in-Ok.ensures.grows in
     let above = root_named old.heap c.args.right c.in-Some.above b.name c.in-Some.is f in
     let below = root_named old.heap c.args.left c.in-Some-left.below d.name c.in-Some-left.is e in
+    let ready = c.in-Ok.ensures.wing ks r l h.stands.2 h.stands.1 above below (omega (arith, lower)) (omega (arith, lower)) in
+    let m = place c.open_left.new.sw (g.V.Vault.outside c.open_left.new.vault) in
+    let grows = c.in-Ok.ensures.grows in
     let t = tree_grown ks old m at (Some at) grows l a r h.root_is h in
     let side = tree_right ks old m (Some at) (Some c.in-Some.above) grows l a r h (grows.named c.in-Some.above b.name above) in
     fetch_back old.outside m.outside c.in-Err-take_least.fault grows.contents (c.in-Err-take_least.ensures.taken ks x b y (place_touched old m grows p) side ready.1)
@@ -54,11 +57,11 @@ returns-clause-merged g c ks at (node u d v) a (node x b y) p h e f lower =
     let old = place c.args.sw.now (g.V.Vault.outside c.args.vault.now) in
     let l = node u d v in
     let r = node x b y in
-    let ready = c.in-Ok.ensures.wing ks r l h.stands.2 h.stands.1 f e (omega (arith, lower)) (omega (arith, lower)) in
-    let m = place c.open_left.new.sw (g.V.Vault.outside c.open_left.new.vault) in
-    let grows = c.in-Ok.ensures.grows in
     let above = root_named old.heap c.args.right c.in-Some.above b.name c.in-Some.is f in
     let below = root_named old.heap c.args.left c.in-Some-left.below d.name c.in-Some-left.is e in
+    let ready = c.in-Ok.ensures.wing ks r l h.stands.2 h.stands.1 above below (omega (arith, lower)) (omega (arith, lower)) in
+    let m = place c.open_left.new.sw (g.V.Vault.outside c.open_left.new.vault) in
+    let grows = c.in-Ok.ensures.grows in
     let t = tree_grown ks old m at (Some at) grows l a r h.root_is h in
     let side = tree_right ks old m (Some at) (Some c.in-Some.above) grows l a r h (grows.named c.in-Some.above b.name above) in
     let w = c.in-Ok-take_least.ensures.taken ks x b y (place_touched old m grows p) side ready.1 in
@@ -102,3 +105,6 @@ returns-clause-brings g c = brings_written _ _ _ _ (3 * c.args.bound + 1 - 3 * c
 
 pub returns-in-Err-take_least-clause-still : goal.returns-in-Err-take_least-clause-still
 returns-in-Err-take_least-clause-still g c = keeps-trans _ _ _ c.in-Ok.ensures.keeps c.in-Err-take_least.ensures.still
+
+pub balance-root-requires-clause-wing : goal.balance-root-requires-clause-wing
+balance-root-requires-clause-wing g c = wing_held_kept c.open_left.new.sw c.take_least.new.sw c.in-Ok-take_least.ensures.held.nodes c.in-Ok.ready.wing c.in-Ok.ensures.held

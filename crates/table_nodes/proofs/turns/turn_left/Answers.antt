@@ -33,3 +33,9 @@ returns-clause-turned g c ks l a (node x b y) s tall w =
 
 pub returns-clause-spares : goal.returns-clause-spares
 returns-clause-spares g c = spares_then _ _ _ _ _ _ c.set_sides-2.ensures.spares c.set_sides-3.ensures.spares
+
+pub returns-clause-held : goal.returns-clause-held
+returns-clause-held g c = record {
+  nodes = λ at h. c.set_sides-3.ensures.held.nodes at (c.set_sides-2.ensures.held.nodes at h);
+  named = λ at n h. c.set_sides-3.ensures.held.named at n (c.set_sides-2.ensures.held.named at n h);
+}
