@@ -43,3 +43,6 @@ returns-in-Ok-value-clause-brings g c = brings_touched _ _ _ 0 1 1 c.in-Ok-value
 
 pub returns-in-Err-value-clause-still : goal.returns-in-Err-value-clause-still
 returns-in-Err-value-clause-still g c = keeps-trans _ _ _ c.in-Ok.ensures.keeps c.in-Err-value.ensures.still
+
+pub returns-in-Ok-value-clause-keeps : goal.returns-in-Ok-value-clause-keeps
+returns-in-Ok-value-clause-keeps g c = keeps-trans _ _ _ c.in-Ok.ensures.keeps c.in-Ok-value.ensures.keeps
