@@ -1,4 +1,4 @@
-use Rattle.std.proofs.Common.{arith}
+use Rattle.std.proofs.Common.{arith, ℕ, Option, refl, subst}
 use Rattle.table_nodes.specs.heap_places.swizzle.Heap.{ref_at}
 use Rattle.table_nodes.specs.heap_places.swizzle.Joint.{name_of}
 use Rattle.table_nodes.specs.avl_trees.Standing.{root_of}
@@ -6,6 +6,9 @@ use Rattle.table_nodes.specs.Steps.{place}
 use Rattle.table_nodes.proofs.NodeLaws.{grows_touch, side_kind, side_row}
 use Rattle.table_nodes.proofs.StepLaws.{is_side}
 use Rattle.table_nodes.proofs.BringLaws.{brings_only, brings_same, keeps_same}
+use Rattle.table_nodes.specs.heap_places.swizzle.Touch.{Denotes}
+use Rattle.table_nodes.specs.Faults.{misfit, no_node}
+use Rattle.table_nodes.proofs.FaultLaws.{touch_failed}
 use Rattle.table_lib.proofs.words.root_node.Goals as goal
 
 pub returns-then-is_node-clause-grows : goal.returns-then-is_node-clause-grows
@@ -38,3 +41,9 @@ returns-in-Err-clause-brings g c = brings_same _ _ 1 c.in-Err.ensures.refused
 
 pub returns-in-Err-clause-still : goal.returns-in-Err-clause-still
 returns-in-Err-clause-still g c = keeps_same _ _ c.in-Err.ensures.refused
+
+pub returns-else-is_node-clause-fault : goal.returns-else-is_node-clause-fault
+returns-else-is_node-clause-fault g c = misfit c.in-Ok-Some.root _ _ (subst (λ (t : Option ℕ). Denotes c.touch_slot.new.self t (name_of c.args.sw.now (ref_at c.args.sw.now c.args.at 0))) c.in-Ok-Some.field-0-is c.in-Ok-Some.ensures.target).0 (no_node (λ n. absurd (cc (c.is_node.ensures.no n, c.if-is_node.false))) refl refl) c.damaged.ensures
+
+pub returns-in-Err-clause-fault : goal.returns-in-Err-clause-fault
+returns-in-Err-clause-fault g c = touch_failed (g.V.Vault.outside c.args.vault.now) c.args.sw.now c.touch_slot.new.self _ c.in-Err.fault c.in-Err.ensures.fault

@@ -1,8 +1,11 @@
-use Rattle.std.proofs.Common.{arith}
+use Rattle.std.proofs.Common.{arith, ℕ, Option, refl, subst}
 use Rattle.heap_places.specs.swizzle.Heap.{ref_at}
 use Rattle.heap_places.specs.swizzle.Joint.{name_of}
 use Rattle.table_nodes.proofs.NodeLaws.{seat_at, side_seen, linked_some, linked_none, grows_touch, side_kind, side_row}
 use Rattle.table_nodes.proofs.BringLaws.{brings_only, brings_same, keeps_same}
+use Rattle.heap_places.specs.swizzle.Touch.{Denotes}
+use Rattle.table_nodes.specs.Faults.{misfit, no_node}
+use Rattle.table_nodes.proofs.FaultLaws.{touch_failed}
 use Rattle.table_nodes.proofs.nodes.side.Goals as goal
 
 pub returns-then-is_node-clause-side : goal.returns-then-is_node-clause-side
@@ -49,3 +52,9 @@ returns-in-Err-clause-brings g c = brings_same _ _ 1 c.in-Err.ensures.refused
 
 pub returns-in-Err-clause-still : goal.returns-in-Err-clause-still
 returns-in-Err-clause-still g c = keeps_same _ _ c.in-Err.ensures.refused
+
+pub returns-else-is_node-clause-fault : goal.returns-else-is_node-clause-fault
+returns-else-is_node-clause-fault g c = misfit c.in-Ok-Some.to _ _ (subst (λ (t : Option ℕ). Denotes c.touch_slot.new.self t (name_of c.args.sw.now (ref_at c.args.sw.now c.args.at c.args.slot))) c.in-Ok-Some.field-0-is c.in-Ok-Some.ensures.target).0 (no_node (λ n. absurd (cc (c.is_node.ensures.no n, c.if-is_node.false))) refl refl) c.damaged.ensures
+
+pub returns-in-Err-clause-fault : goal.returns-in-Err-clause-fault
+returns-in-Err-clause-fault g c = touch_failed (g.V.Vault.outside c.args.vault.now) c.args.sw.now c.touch_slot.new.self _ c.in-Err.fault c.in-Err.ensures.fault

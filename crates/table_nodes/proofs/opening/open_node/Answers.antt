@@ -8,6 +8,7 @@ use Rattle.table_nodes.proofs.NodeLaws.{fetch_back}
 use Rattle.table_nodes.proofs.StepLaws.{is_side, linked_kept, touches_then}
 use Rattle.heap_places.proofs.of_swizzle.TouchLaws.{keeps-trans}
 use Rattle.table_nodes.proofs.BringLaws.{brings_more, brings_touched}
+use Rattle.table_nodes.proofs.FaultLaws.{node_fault_back}
 use Rattle.table_nodes.proofs.opening.open_node.Goals as goal
 
 pub returns-in-Err-clause-opens : goal.returns-in-Err-clause-opens
@@ -68,3 +69,10 @@ returns-in-Err-side-clause-still g c = keeps-trans _ _ _ c.in-Ok.ensures.keeps c
 
 pub returns-in-Err-side-2-clause-still : goal.returns-in-Err-side-2-clause-still
 returns-in-Err-side-2-clause-still g c = keeps-trans _ _ _ (keeps-trans _ _ _ c.in-Ok.ensures.keeps c.in-Ok-side.ensures.keeps) c.in-Err-side-2.ensures.still
+
+pub returns-in-Err-side-clause-fault : goal.returns-in-Err-side-clause-fault
+returns-in-Err-side-clause-fault g c = node_fault_back (g.V.Vault.outside c.args.vault.now) (g.V.Vault.outside c.order.new.vault) _ c.in-Err-side.fault c.in-Ok.ensures.grows.contents c.in-Err-side.ensures.fault
+
+pub returns-in-Err-side-2-clause-fault : goal.returns-in-Err-side-2-clause-fault
+returns-in-Err-side-2-clause-fault g c =
+    node_fault_back (g.V.Vault.outside c.args.vault.now) (g.V.Vault.outside c.order.new.vault) _ c.in-Err-side-2.fault c.in-Ok.ensures.grows.contents (node_fault_back (g.V.Vault.outside c.order.new.vault) (g.V.Vault.outside c.side.new.vault) _ c.in-Err-side-2.fault c.in-Ok-side.ensures.grows.contents c.in-Err-side-2.ensures.fault)
