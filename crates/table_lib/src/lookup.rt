@@ -13,13 +13,13 @@ ghost use Rattle.table_nodes.specs.Faults.{IsNodeFault};
 ghost use Rattle.table_lib.specs.Faults.{IsOpFault};
 
 use crate::bits::bits;
-use crate::words::{counted_root, kind_of_key, open_table};
+use crate::words::{counted_root, open_table};
 use std::sync::ledger::Ledger;
 use table_nodes::counted_steps::steps::Steps;
 use table_nodes::heap_places::heap_texts::fault::OpFault;
 use table_nodes::heap_places::obj_layout::vault::Vault;
 use table_nodes::heap_places::swizzle::swizzle::Swizzle;
-use table_nodes::keys::Key;
+use table_nodes::keys::{Key, kind_of_key};
 use table_nodes::search::lookup;
 
 /// The value of a key in a table, none where the table hasn't the key. Nil, WrongClass and KeyKind as `open_table` has them. Each node that is

@@ -16,6 +16,7 @@ use Rattle.table_nodes.specs.Keys.{Keys, KeyOf, order_by}
 use Rattle.table_nodes.specs.Nodes.{Seat, IsNode, IsNamed, IsLinked, IsSingle, IsFetchFault, OthersStay, rows_in}
 use Rattle.table_nodes.specs.Steps.{I, Place, IsPlace, StandsAt, rows_of}
 use Rattle.table_nodes.specs.Searching.{IsTree}
+use Rattle.table_nodes.specs.Ranges.{AreBetween}
 use Rattle.table_nodes.specs.Wings.{IsLeftWing, IsRightWing}
 use Rattle.table_nodes.specs.declared.enter.Entered.{Entered}
 use Rattle.table_nodes.specs.declared.opening.Opened.{Opened}
@@ -50,8 +51,8 @@ pub record IsOpened (ks : Keys) (heap : Heap) (key : KeyOf ks) (x : Tree (I ks))
   pub left : IsLinked heap opened.left (root_of x)
   pub right : IsLinked heap opened.right (root_of y)
 
-abbrev pub OpensAt : (ks : Keys) → Place → Heap → ℕ → KeyOf ks → Result Opened SwizzleFault → Type 0
-OpensAt ks old new at key result = (x : Tree (I ks)) (b : I ks) (y : Tree (I ks)) → Stands (rows_of ks old) (node x b y) → IsNamed old.heap at b.name
+abbrev pub OpensAt : (ks : Keys) → Place → Heap → ℕ → Option ℕ → Option ℕ → KeyOf ks → Result Opened SwizzleFault → Type 0
+OpensAt ks old new at low high key result = (x : Tree (I ks)) (b : I ks) (y : Tree (I ks)) → Stands (rows_of ks old) (node x b y) → IsNamed old.heap at b.name → AreBetween ks old low high (items (node x b y))
     → MatchResult result (IsOpened ks new key x b y) (IsFetchFault old.outside)
 
 -- The pair was put into the tree, where the key was new under a name that had no object.
@@ -72,8 +73,8 @@ IsNoRoom (Vault fault) = ⊥
 abbrev pub IsEnterFault : Outside Space → SwizzleFault → Type 0
 IsEnterFault outside fault = IsFetchFault outside fault ⊎ IsNoRoom fault
 
-abbrev pub EntersAt : (ks : Keys) → Place → Place → Option ℕ → ℕ → KeyOf ks → Reference → Result Entered SwizzleFault → Type 0
-EntersAt ks old new root bound key value result = (t : Tree (I ks)) → IsPlace old → IsTree ks old root t → height t < bound
+abbrev pub EntersAt : (ks : Keys) → Place → Place → Option ℕ → Option ℕ → Option ℕ → ℕ → KeyOf ks → Reference → Result Entered SwizzleFault → Type 0
+EntersAt ks old new root low high bound key value result = (t : Tree (I ks)) → IsPlace old → IsTree ks old root t → AreBetween ks old low high (items t) → height t < bound
     → MatchResult result (λ entered. Enters ks old new t key value entered) (IsEnterFault old.outside)
 
 -- the tree hasn't the key
@@ -82,5 +83,5 @@ is_missing None = true
 is_missing (Some a) = false
 
 -- It is told whether the key was new to the tree.
-abbrev pub IsCountedAt : (ks : Keys) → Place → Option ℕ → ℕ → KeyOf ks → Result Entered SwizzleFault → Type 0
-IsCountedAt ks old root bound key result = (t : Tree (I ks)) → IsTree ks old root t → height t < bound → IfOk result (λ entered. entered.made ≡ is_missing (lookup (seek (order_by ks) key) t))
+abbrev pub IsCountedAt : (ks : Keys) → Place → Option ℕ → Option ℕ → Option ℕ → ℕ → KeyOf ks → Result Entered SwizzleFault → Type 0
+IsCountedAt ks old root low high bound key result = (t : Tree (I ks)) → IsTree ks old root t → AreBetween ks old low high (items t) → height t < bound → IfOk result (λ entered. entered.made ≡ is_missing (lookup (seek (order_by ks) key) t))

@@ -20,6 +20,7 @@ pub data IsMisfit (heap : Heap) (at found wanted : ℕ) : Type 0 where
   no_int : IsNode heap at → found ≡ num_at heap at 1 → int_in found ≡ None → wanted ≡ 2 ^ 31 → IsMisfit heap at found wanted
   no_key : IsNode heap at → ref_at heap at 2 ≡ Nil → found ≡ 0 → wanted ≡ 1 → IsMisfit heap at found wanted
   no_text : (header_at heap at).kind ≢ TextKind → found ≡ kind_number (header_at heap at).kind → wanted ≡ 1 → IsMisfit heap at found wanted
+  out_of_order : IsNode heap at → found ≡ 0 → wanted ≡ 2 → IsMisfit heap at found wanted
   no_value : IsNode heap at → ref_at heap at 3 ≡ Nil → found ≡ 0 → wanted ≡ 1 → IsMisfit heap at found wanted
 
 pub data IsNodeFault (outside : Outside Space) (heap : Heap) (fault : SwizzleFault) : Type 0 where

@@ -5,12 +5,13 @@ use Rattle.std.specs.declared.cmp.Ordering.TheVariants.{Less}
 use Rattle.heap_places.specs.obj_layout.declared.reference.Reference.{Reference}
 use Rattle.heap_places.specs.swizzle.declared.fault.SwizzleFault.{SwizzleFault}
 use Rattle.heap_places.specs.swizzle.Heap.{Heap}
-use Rattle.avl_trees.specs.Trees.{Tree, node, height, next}
+use Rattle.avl_trees.specs.Trees.{Tree, node, height, items, next}
 use Rattle.avl_trees.specs.Standing.{Item, Stands, root_of, seek}
 use Rattle.table_nodes.specs.Keys.{Keys, KeyOf, order_by}
 use Rattle.table_nodes.specs.Nodes.{IsNamed, IsLinked, IsFetchFault}
 use Rattle.table_nodes.specs.Steps.{I, Place, rows_of}
 use Rattle.table_nodes.specs.Searching.{IsTree}
+use Rattle.table_nodes.specs.Ranges.{AreBetween}
 use Rattle.table_nodes.specs.declared.follow.Turn.{Turn}
 
 -- the name of an item's node
@@ -18,14 +19,20 @@ abbrev pub item_name : {K : Type 0} → Option (Item Reference K Reference) → 
 item_name None = None
 item_name (Some a) = Some a.name
 
--- At a node: where the key is below the node's, that is the last such one, and the search goes on at the left side; else at the right one.
-abbrev pub IsTurn : {K : Type 0} → Heap → ℕ → Option ℕ → Ordering → Tree (Item Reference K Reference) → Tree (Item Reference K Reference) → Turn → Type 0
-IsTurn heap at last order x y turn =
-    ((order ≡ Less) × (turn.last ≡ Some at) × IsLinked heap turn.side (root_of x)) ⊎ ((order ≢ Less) × (turn.last ≡ last) × IsLinked heap turn.side (root_of y))
+-- At a node: where the key is below the node's, that is the last such one, and the search goes on at the left side; else it is the last other one, and
+-- the search goes on at the right one.
+abbrev pub IsTurn : {K : Type 0} → Heap → ℕ → Option ℕ → Option ℕ → Ordering → Tree (Item Reference K Reference) → Tree (Item Reference K Reference) → Turn → Type 0
+IsTurn heap at last low order x y turn =
+    ((order ≡ Less) × (turn.last ≡ Some at) × (turn.low ≡ low) × IsLinked heap turn.side (root_of x)) ⊎ ((order ≢ Less) × (turn.last ≡ last) × (turn.low ≡ Some at) × IsLinked heap turn.side (root_of y))
 
-abbrev pub TurnsAt : (ks : Keys) → Place → Heap → ℕ → Option ℕ → KeyOf ks → Result Turn SwizzleFault → Type 0
-TurnsAt ks old new at last key result = (x : Tree (I ks)) (b : I ks) (y : Tree (I ks)) → Stands (rows_of ks old) (node x b y) → IsNamed old.heap at b.name
-    → MatchResult result (IsTurn new at last (order_by ks key b.entry.key) x y) (IsFetchFault old.outside)
+abbrev pub TurnsAt : (ks : Keys) → Place → Heap → ℕ → Option ℕ → Option ℕ → KeyOf ks → Result Turn SwizzleFault → Type 0
+TurnsAt ks old new at last low key result = (x : Tree (I ks)) (b : I ks) (y : Tree (I ks)) → Stands (rows_of ks old) (node x b y) → IsNamed old.heap at b.name → AreBetween ks old low last (items (node x b y))
+    → MatchResult result (IsTurn new at last low (order_by ks key b.entry.key) x y) (IsFetchFault old.outside)
+
+-- At a node whose key is below that of the last one the left side is answered.
+abbrev pub BeginsAt : (ks : Keys) → Place → Heap → ℕ → Option ℕ → Result (Option ℕ) SwizzleFault → Type 0
+BeginsAt ks old new at last result = (x : Tree (I ks)) (b : I ks) (y : Tree (I ks)) → Stands (rows_of ks old) (node x b y) → IsNamed old.heap at b.name → AreBetween ks old None last (items (node x b y))
+    → MatchResult result (λ side. IsLinked new side (root_of x)) (IsFetchFault old.outside)
 
 -- The node of the least key above a key is answered, none where there is none, or a reference's object couldn't be fetched.
 abbrev pub Follows : (ks : Keys) → Place → Heap → Option ℕ → ℕ → KeyOf ks → Result (Option ℕ) SwizzleFault → Type 0
@@ -33,6 +40,6 @@ Follows ks old new root bound key result = (t : Tree (I ks)) → IsTree ks old r
     → MatchResult result (λ found. IsLinked new found (item_name (next (seek (order_by ks) key) t None))) (IsFetchFault old.outside)
 
 -- The node of the least key is answered, none where the tree is empty, or a reference's object couldn't be fetched.
-abbrev pub Begins : Place → Heap → Option ℕ → ℕ → Result (Option ℕ) SwizzleFault → Type 0
-Begins old new root bound result = (ks : Keys) (t : Tree (I ks)) → IsTree ks old root t → height t < bound
+abbrev pub Begins : (ks : Keys) → Place → Heap → Option ℕ → ℕ → Result (Option ℕ) SwizzleFault → Type 0
+Begins ks old new root bound result = (t : Tree (I ks)) → IsTree ks old root t → height t < bound
     → MatchResult result (λ found. IsLinked new found (item_name (next (λ a. Less) t None))) (IsFetchFault old.outside)

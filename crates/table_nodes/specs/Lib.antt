@@ -12,5 +12,6 @@ pub mod Turning
 pub mod Wings
 pub mod Bringing
 pub mod Faults
+pub mod Ranges
 pub use Rattle.heap_places.specs as heap_places
 pub use Rattle.avl_trees.specs as avl_trees

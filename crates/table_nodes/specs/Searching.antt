@@ -16,6 +16,8 @@ use Rattle.avl_trees.specs.Standing.{Item, Stands, IsRising, root_of, seek}
 use Rattle.table_nodes.specs.Keys.{Keys, KeyOf, order_by}
 use Rattle.table_nodes.specs.Nodes.{Seat, IsNode, IsNamed, IsLinked, IsFetchFault, rows_in}
 use Rattle.table_nodes.specs.Steps.{I, Place, rows_of}
+use Rattle.table_nodes.specs.Ranges.{AreBetween}
+use Rattle.table_nodes.specs.declared.search.Way.{Way}
 use Rattle.table_nodes.specs.declared.search.Step.{Step}
 use Rattle.table_nodes.specs.declared.search.Step.TheVariants.{Found, Down}
 
@@ -47,20 +49,27 @@ abbrev pub ReadsValue : Heap → Heap → Outside Space → ℕ → Result ℕ S
 ReadsValue old new outside at result = (ks : Keys) (n : Reference) (row : Seat ks) → IsNamed old at n → rows_in ks old outside n row → row.entry.value ≢ Nil
     → MatchResult result (λ value. name_at new value ≡ row.entry.value) (IsFetchFault outside)
 
+-- on the way down, on the left of a node, or on its right
+abbrev pub IsLeftWay : {K : Type 0} → Heap → ℕ → Option ℕ → Tree (Item Reference K Reference) → Way → Type 0
+IsLeftWay heap at low x way = IsLinked heap way.side (root_of x) × (way.low ≡ low) × (way.high ≡ Some at)
+
+abbrev pub IsRightWay : {K : Type 0} → Heap → ℕ → Option ℕ → Tree (Item Reference K Reference) → Way → Type 0
+IsRightWay heap at high y way = IsLinked heap way.side (root_of y) × (way.low ≡ Some at) × (way.high ≡ high)
+
 -- at a node, the key was found, or it is sought on this side
-abbrev pub IsStep : (ks : Keys) → Heap → KeyOf ks → Tree (I ks) → I ks → Tree (I ks) → Step → Type 0
-IsStep ks heap key x b y Found = order_by ks key b.entry.key ≡ Equal
-IsStep ks heap key x b y (Down side) =
-    ((order_by ks key b.entry.key ≡ Less) × IsLinked heap side (root_of x)) ⊎ ((order_by ks key b.entry.key ≡ Greater) × IsLinked heap side (root_of y))
+abbrev pub IsStep : (ks : Keys) → Heap → ℕ → Option ℕ → Option ℕ → KeyOf ks → Tree (I ks) → I ks → Tree (I ks) → Step → Type 0
+IsStep ks heap at low high key x b y Found = order_by ks key b.entry.key ≡ Equal
+IsStep ks heap at low high key x b y (Down way) =
+    ((order_by ks key b.entry.key ≡ Less) × IsLeftWay heap at low x way) ⊎ ((order_by ks key b.entry.key ≡ Greater) × IsRightWay heap at high y way)
 
-abbrev pub StepsAt : (ks : Keys) → Place → Heap → ℕ → KeyOf ks → Result Step SwizzleFault → Type 0
-StepsAt ks old new at key result = (x : Tree (I ks)) (b : I ks) (y : Tree (I ks)) → Stands (rows_of ks old) (node x b y) → IsNamed old.heap at b.name
-    → MatchResult result (IsStep ks new key x b y) (IsFetchFault old.outside)
+abbrev pub StepsAt : (ks : Keys) → Place → Heap → ℕ → Option ℕ → Option ℕ → KeyOf ks → Result Step SwizzleFault → Type 0
+StepsAt ks old new at low high key result = (x : Tree (I ks)) (b : I ks) (y : Tree (I ks)) → Stands (rows_of ks old) (node x b y) → IsNamed old.heap at b.name → AreBetween ks old low high (items (node x b y))
+    → MatchResult result (IsStep ks new at low high key x b y) (IsFetchFault old.outside)
 
--- a side where a key is sought is a node of the area
+-- a side where a key is sought, and the nodes between whose keys it lies, are nodes of the area
 abbrev pub IsDown : Heap → Step → Type 0
 IsDown heap Found = Unit {0}
-IsDown heap (Down side) = IfSome side (IsNode heap)
+IsDown heap (Down way) = IfSome way.side (IsNode heap) × IfSome way.low (IsNode heap) × IfSome way.high (IsNode heap)
 
 -- The value of a key in a tree that is lower than the bound is answered, none where the tree hasn't the key, or a reference's object couldn't be fetched.
 abbrev pub Finds : (ks : Keys) → Place → Heap → Option ℕ → ℕ → KeyOf ks → Result (Option ℕ) SwizzleFault → Type 0
@@ -79,4 +88,4 @@ Charges ks old root bound key before after result = (t : Tree (I ks)) → IsTree
 -- how many nodes come at a step, at most
 abbrev pub came_by : Step → ℕ
 came_by Found = 0
-came_by (Down side) = 1
+came_by (Down way) = 1

@@ -121,7 +121,8 @@ fn with_right<V: Vault>(
 }
 
 /// Enters a key with a value into the tree of a root: a new node where the tree hasn't the key, else the value of its node is replaced. It goes
-/// down by calls, each for a lower height than the one before, so at most `bound` deep. All that can fail comes before the first write.
+/// down by calls, each for a lower height than the one before, so at most `bound` deep, and with the nearest nodes above on the left and on the
+/// right, between which the keys lie. All that can fail comes before the first write.
 pub fn enter<V: Vault>(
     sw: &mut Swizzle,
     vault: &mut V,
@@ -129,6 +130,8 @@ pub fn enter<V: Vault>(
     bound: u64,
     key: Key,
     value: u32,
+    low: Option<u32>,
+    high: Option<u32>,
 ) -> Result<Entered, SwizzleFault>
     requires alive { V.alive vault.old }
     requires root { IfSome root (IsNode sw.old) }
@@ -136,8 +139,10 @@ pub fn enter<V: Vault>(
     requires bound { bound ≤ 200 }
     requires key { IsKeyHeld sw.old key }
     requires value { IsHeld sw.old value }
-    ensures entered { EntersAt (kind_of key) (place sw.old (V.outside vault.old)) (place sw.new (V.outside vault.new)) root bound (key_in sw.old key) (name_at sw.old value) result }
-    ensures counted { IsCountedAt (kind_of key) (place sw.old (V.outside vault.old)) root bound (key_in sw.old key) result }
+    requires low { IfSome low (IsNode sw.old) }
+    requires high { IfSome high (IsNode sw.old) }
+    ensures entered { EntersAt (kind_of key) (place sw.old (V.outside vault.old)) (place sw.new (V.outside vault.new)) root low high bound (key_in sw.old key) (name_at sw.old value) result }
+    ensures counted { IsCountedAt (kind_of key) (place sw.old (V.outside vault.old)) root low high bound (key_in sw.old key) result }
     ensures root { IfOk result (λ entered. IsNode sw.new entered.root) }
     ensures known { IfOk result (λ entered. IsWingHeld sw.new entered.wing) }
     ensures held { OnOk result (Holds sw.old sw.new) }
@@ -169,12 +174,12 @@ pub fn enter<V: Vault>(
     if height == 0 || height >= bound {
         return Err(damaged(sw, at, height, bound));
     }
-    let opened = match open_node(sw, vault, at, key) {
+    let opened = match open_node(sw, vault, at, key, low, high) {
         Ok(opened) => opened,
         Err(fault) => return Err(fault),
     };
     match opened.order {
-        Ordering::Less => match enter(sw, vault, opened.left, height, key, value) {
+        Ordering::Less => match enter(sw, vault, opened.left, height, key, value, low, Some(at)) {
             Ok(left) => Ok(with_left(sw, &*vault, at, left, opened.right)),
             Err(fault) => Err(fault),
         },
@@ -186,7 +191,7 @@ pub fn enter<V: Vault>(
                 wing: unknown(),
             })
         }
-        Ordering::Greater => match enter(sw, vault, opened.right, height, key, value) {
+        Ordering::Greater => match enter(sw, vault, opened.right, height, key, value, Some(at), high) {
             Ok(right) => Ok(with_right(sw, &*vault, at, opened.left, right)),
             Err(fault) => Err(fault),
         },

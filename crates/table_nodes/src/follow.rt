@@ -2,12 +2,12 @@ ghost use Rattle.std.specs.Prelude.{◌≡◌, ◌+◌, ◌-◌, ◌≤◌, OnOk
 ghost use Rattle.heap_places.specs.swizzle.Touch.{Keeps};
 ghost use Rattle.table_nodes.specs.Bringing.{Brings};
 ghost use Rattle.table_nodes.specs.Nodes.{IsNode, Grows};
-ghost use Rattle.table_nodes.specs.Following.{Begins, Follows, TurnsAt};
-ghost use Rattle.table_nodes.specs.Sought.{IsKeyHeld, kind_of, key_in};
+ghost use Rattle.table_nodes.specs.Following.{Begins, BeginsAt, Follows, TurnsAt};
+ghost use Rattle.table_nodes.specs.Sought.{IsKeyHeld, keys_of, kind_of, key_in};
 ghost use Rattle.table_nodes.specs.Steps.{place};
 ghost use Rattle.table_nodes.specs.Faults.{IsNodeFault};
 
-use crate::keys::{Key, order};
+use crate::keys::{Key, KeyKind, check_rise, order_between};
 use crate::nodes::{height, side};
 use heap_places::obj_layout::vault::Vault;
 use heap_places::places::damaged;
@@ -15,10 +15,11 @@ use heap_places::swizzle::fault::SwizzleFault;
 use heap_places::swizzle::swizzle::Swizzle;
 use std::cmp::Ordering;
 
-/// The last node above the sought key, and the side where the search goes on.
+/// The last nodes above and not above the sought key, and the side where the search goes on.
 #[derive(Clone, Copy)]
 pub struct Turn {
     pub last: Option<u32>,
+    pub low: Option<u32>,
     pub side: Option<u32>,
 }
 
@@ -29,12 +30,15 @@ fn go_on<V: Vault>(
     at: u32,
     key: Key,
     last: Option<u32>,
+    low: Option<u32>,
 ) -> Result<Turn, SwizzleFault>
     requires alive { V.alive vault.old }
     requires node { IsNode sw.old at }
     requires key { IsKeyHeld sw.old key }
     requires last { IfSome last (IsNode sw.old) }
-    ensures turns { TurnsAt (kind_of key) (place sw.old (V.outside vault.old)) sw.new at last (key_in sw.old key) result }
+    requires low { IfSome low (IsNode sw.old) }
+    ensures turns { TurnsAt (kind_of key) (place sw.old (V.outside vault.old)) sw.new at last low (key_in sw.old key) result }
+    ensures low { IfOk result (λ turn. IfSome turn.low (IsNode sw.new)) }
     ensures last { IfOk result (λ turn. IfSome turn.last (IsNode sw.new)) }
     ensures side { IfOk result (λ turn. IfSome turn.side (IsNode sw.new)) }
     ensures grows { OnOk result (Grows sw.old sw.new (V.outside vault.old) (V.outside vault.new)) }
@@ -44,7 +48,7 @@ fn go_on<V: Vault>(
     ensures fault { IfErr result (IsNodeFault (V.outside vault.old) sw.new) }
     ensures alive { OnOk result (V.alive vault.new) }
 {
-    let order = match order(sw, vault, at, key) {
+    let order = match order_between(sw, vault, at, key, low, last) {
         Ok(order) => order,
         Err(fault) => return Err(fault),
     };
@@ -52,18 +56,24 @@ fn go_on<V: Vault>(
         return match side(sw, vault, at, 0) {
             Ok(side) => Ok(Turn {
                 last: Some(at),
+                low,
                 side,
             }),
             Err(fault) => Err(fault),
         };
     }
     match side(sw, vault, at, 1) {
-        Ok(side) => Ok(Turn { last, side }),
+        Ok(side) => Ok(Turn {
+            last,
+            low: Some(at),
+            side,
+        }),
         Err(fault) => Err(fault),
     }
 }
 
-/// The node of the least key above a key in the tree of a root. Heights fall on the way down, from below the bound, else a node is damaged.
+/// The node of the least key above a key in the tree of a root. Heights fall on the way down, from below the bound, and the key of each node lies
+/// between those of the nodes above it, else a node is damaged.
 pub fn next<V: Vault>(
     sw: &mut Swizzle,
     vault: &mut V,
@@ -88,14 +98,16 @@ pub fn next<V: Vault>(
     let mut at = root;
     let mut bound = bound;
     let mut last = None;
+    let mut low = None;
     while let Some(node) = at {
         let height = height(sw, &*vault, at);
         if height == 0 || height >= bound {
             return Err(damaged(sw, node, height, bound));
         }
-        match go_on(sw, vault, node, key, last) {
+        match go_on(sw, vault, node, key, last, low) {
             Ok(turn) => {
                 last = turn.last;
+                low = turn.low;
                 at = turn.side;
             }
             Err(fault) => return Err(fault),
@@ -105,17 +117,44 @@ pub fn next<V: Vault>(
     Ok(last)
 }
 
-/// The node of the least key in the tree of a root. Heights fall on the way down, from below the bound, else a node is damaged.
+// The left side of a node, whose key is to be below that of the node above it.
+fn go_first<V: Vault>(
+    sw: &mut Swizzle,
+    vault: &mut V,
+    at: u32,
+    last: Option<u32>,
+    keys: KeyKind,
+) -> Result<Option<u32>, SwizzleFault>
+    requires alive { V.alive vault.old }
+    requires node { IsNode sw.old at }
+    requires last { IfSome last (IsNode sw.old) }
+    ensures begins { BeginsAt (keys_of keys) (place sw.old (V.outside vault.old)) sw.new at last result }
+    ensures side { IfOk result (λ side. IfSome side (IsNode sw.new)) }
+    ensures grows { OnOk result (Grows sw.old sw.new (V.outside vault.old) (V.outside vault.new)) }
+    ensures keeps { OnOk result (Keeps sw.old sw.new) }
+    ensures still { OnErr result (Keeps sw.old sw.new) }
+    ensures brings { Brings sw.old sw.new 1 }
+    ensures fault { IfErr result (IsNodeFault (V.outside vault.old) sw.new) }
+    ensures alive { OnOk result (V.alive vault.new) }
+{
+    match check_rise(sw, vault, at, Some(at), last, keys) {
+        Ok(()) => side(sw, vault, at, 0),
+        Err(fault) => Err(fault),
+    }
+}
+
+/// The node of the least key in the tree of a root. Heights and keys fall on the way down, heights from below the bound, else a node is damaged.
 pub fn first<V: Vault>(
     sw: &mut Swizzle,
     vault: &mut V,
     root: Option<u32>,
     bound: u64,
+    keys: KeyKind,
 ) -> Result<Option<u32>, SwizzleFault>
     requires alive { V.alive vault.old }
     requires root { IfSome root (IsNode sw.old) }
     requires bound { 1 ≤ bound }
-    ensures begins { Begins (place sw.old (V.outside vault.old)) sw.new root bound result }
+    ensures begins { Begins (keys_of keys) (place sw.old (V.outside vault.old)) sw.new root bound result }
     ensures node { IfOk result (λ found. IfSome found (IsNode sw.new)) }
     ensures grows { OnOk result (Grows sw.old sw.new (V.outside vault.old) (V.outside vault.new)) }
     ensures keeps { OnOk result (Keeps sw.old sw.new) }
@@ -133,7 +172,7 @@ pub fn first<V: Vault>(
         if height == 0 || height >= bound {
             return Err(damaged(sw, node, height, bound));
         }
-        match side(sw, vault, node, 0) {
+        match go_first(sw, vault, node, last, keys) {
             Ok(side) => {
                 last = Some(node);
                 at = side;

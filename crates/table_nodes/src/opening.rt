@@ -7,7 +7,7 @@ ghost use Rattle.table_nodes.specs.Sought.{IsKeyHeld, kind_of, key_in};
 ghost use Rattle.table_nodes.specs.Steps.{place};
 ghost use Rattle.table_nodes.specs.Faults.{IsNodeFault};
 
-use crate::keys::{Key, order};
+use crate::keys::{Key, order_between};
 use crate::nodes::side;
 use heap_places::obj_layout::vault::Vault;
 use heap_places::swizzle::fault::SwizzleFault;
@@ -22,17 +22,21 @@ pub struct Opened {
     pub right: Option<u32>,
 }
 
-/// How a key stands to a node, and the node's sides, in the area.
+/// How a key stands to a node, whose key is to lie between those of two nodes above it, and the node's sides, in the area.
 pub fn open_node<V: Vault>(
     sw: &mut Swizzle,
     vault: &mut V,
     at: u32,
     key: Key,
+    low: Option<u32>,
+    high: Option<u32>,
 ) -> Result<Opened, SwizzleFault>
     requires alive { V.alive vault.old }
     requires node { IsNode sw.old at }
     requires key { IsKeyHeld sw.old key }
-    ensures opens { OpensAt (kind_of key) (place sw.old (V.outside vault.old)) sw.new at (key_in sw.old key) result }
+    requires low { IfSome low (IsNode sw.old) }
+    requires high { IfSome high (IsNode sw.old) }
+    ensures opens { OpensAt (kind_of key) (place sw.old (V.outside vault.old)) sw.new at low high (key_in sw.old key) result }
     ensures left { IfOk result (λ opened. IfSome opened.left (IsNode sw.new)) }
     ensures right { IfOk result (λ opened. IfSome opened.right (IsNode sw.new)) }
     ensures grows { OnOk result (Grows sw.old sw.new (V.outside vault.old) (V.outside vault.new)) }
@@ -42,7 +46,7 @@ pub fn open_node<V: Vault>(
     ensures fault { IfErr result (IsNodeFault (V.outside vault.old) sw.new) }
     ensures alive { OnOk result (V.alive vault.new) }
 {
-    let order = match order(sw, vault, at, key) {
+    let order = match order_between(sw, vault, at, key, low, high) {
         Ok(order) => order,
         Err(fault) => return Err(fault),
     };

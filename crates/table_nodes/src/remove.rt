@@ -133,13 +133,17 @@ pub fn remove<V: Vault>(
     root: Option<u32>,
     bound: u64,
     key: Key,
+    low: Option<u32>,
+    high: Option<u32>,
 ) -> Result<Removed, SwizzleFault>
     requires alive { V.alive vault.old }
     requires root { IfSome root (IsNode sw.old) }
     requires bound { bound ≤ 200 }
     requires key { IsKeyHeld sw.old key }
-    ensures removed { Removes (kind_of key) (place sw.old (V.outside vault.old)) (place sw.new (V.outside vault.new)) root bound (key_in sw.old key) result }
-    ensures counted { IsGoneAt (kind_of key) (place sw.old (V.outside vault.old)) root bound (key_in sw.old key) result }
+    requires low { IfSome low (IsNode sw.old) }
+    requires high { IfSome high (IsNode sw.old) }
+    ensures removed { Removes (kind_of key) (place sw.old (V.outside vault.old)) (place sw.new (V.outside vault.new)) root low high bound (key_in sw.old key) result }
+    ensures counted { IsGoneAt (kind_of key) (place sw.old (V.outside vault.old)) root low high bound (key_in sw.old key) result }
     ensures root { IfOk result (λ removed. IfSome removed.root (IsNode sw.new)) }
     ensures held { OnOk result (Holds sw.old sw.new) }
     ensures spares { OnOk result (Spares sw.old sw.new (V.outside vault.old) (V.outside vault.new)) }
@@ -159,7 +163,7 @@ pub fn remove<V: Vault>(
     if height == 0 || height >= bound {
         return Err(damaged(sw, at, height, bound));
     }
-    let opened = match open_node(sw, vault, at, key) {
+    let opened = match open_node(sw, vault, at, key, low, high) {
         Ok(opened) => opened,
         Err(fault) => return Err(fault),
     };
@@ -169,7 +173,7 @@ pub fn remove<V: Vault>(
                 Ok(ready) => ready,
                 Err(fault) => return Err(fault),
             };
-            match remove(sw, vault, opened.left, ready.bound, key) {
+            match remove(sw, vault, opened.left, ready.bound, key, low, Some(at)) {
                 Ok(left) => {
                     let root = balance(sw, &*vault, at, left.root, opened.right, ready.wing);
                     Ok(Removed {
@@ -189,7 +193,7 @@ pub fn remove<V: Vault>(
                 Ok(ready) => ready,
                 Err(fault) => return Err(fault),
             };
-            match remove(sw, vault, opened.right, ready.bound, key) {
+            match remove(sw, vault, opened.right, ready.bound, key, Some(at), high) {
                 Ok(right) => {
                     let root = balance(sw, &*vault, at, opened.left, right.root, ready.wing);
                     Ok(Removed {

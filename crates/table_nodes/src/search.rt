@@ -8,7 +8,7 @@ ghost use Rattle.table_nodes.specs.Sought.{IsKeyHeld, kind_of, key_in};
 ghost use Rattle.table_nodes.specs.Steps.{place};
 ghost use Rattle.table_nodes.specs.Faults.{IsNodeFault};
 
-use crate::keys::{Key, order};
+use crate::keys::{Key, order_between};
 use crate::nodes::{height, side, value};
 use counted_steps::steps::Steps;
 use heap_places::obj_layout::vault::Vault;
@@ -18,19 +18,36 @@ use heap_places::swizzle::swizzle::Swizzle;
 use std::cmp::Ordering;
 use std::sync::ledger::Ledger;
 
-/// What is found at a node: the key that is sought, or the side where it is sought further.
+/// Where a key is sought further: a side of a node, and the nearest nodes above it on its left and on its right, if there are such.
+#[derive(Clone, Copy)]
+pub struct Way {
+    pub side: Option<u32>,
+    pub low: Option<u32>,
+    pub high: Option<u32>,
+}
+
+/// What is found at a node: the key that is sought, or the way to where it is sought further.
 #[derive(Clone, Copy)]
 pub enum Step {
     Found,
-    Down(Option<u32>),
+    Down(Way),
 }
 
 // How the search for a key goes on at a node.
-fn look<V: Vault>(sw: &mut Swizzle, vault: &mut V, at: u32, key: Key) -> Result<Step, SwizzleFault>
+fn look<V: Vault>(
+    sw: &mut Swizzle,
+    vault: &mut V,
+    at: u32,
+    key: Key,
+    low: Option<u32>,
+    high: Option<u32>,
+) -> Result<Step, SwizzleFault>
     requires alive { V.alive vault.old }
     requires node { IsNode sw.old at }
     requires key { IsKeyHeld sw.old key }
-    ensures steps { StepsAt (kind_of key) (place sw.old (V.outside vault.old)) sw.new at (key_in sw.old key) result }
+    requires low { IfSome low (IsNode sw.old) }
+    requires high { IfSome high (IsNode sw.old) }
+    ensures steps { StepsAt (kind_of key) (place sw.old (V.outside vault.old)) sw.new at low high (key_in sw.old key) result }
     ensures down { IfOk result (IsDown sw.new) }
     ensures grows { OnOk result (Grows sw.old sw.new (V.outside vault.old) (V.outside vault.new)) }
     ensures keeps { OnOk result (Keeps sw.old sw.new) }
@@ -39,25 +56,33 @@ fn look<V: Vault>(sw: &mut Swizzle, vault: &mut V, at: u32, key: Key) -> Result<
     ensures fault { IfErr result (IsNodeFault (V.outside vault.old) sw.new) }
     ensures alive { OnOk result (V.alive vault.new) }
 {
-    let order = match order(sw, vault, at, key) {
+    let order = match order_between(sw, vault, at, key, low, high) {
         Ok(order) => order,
         Err(fault) => return Err(fault),
     };
     match order {
         Ordering::Equal => Ok(Step::Found),
         Ordering::Less => match side(sw, vault, at, 0) {
-            Ok(side) => Ok(Step::Down(side)),
+            Ok(side) => Ok(Step::Down(Way {
+                side,
+                low,
+                high: Some(at),
+            })),
             Err(fault) => Err(fault),
         },
         Ordering::Greater => match side(sw, vault, at, 1) {
-            Ok(side) => Ok(Step::Down(side)),
+            Ok(side) => Ok(Step::Down(Way {
+                side,
+                low: Some(at),
+                high,
+            })),
             Err(fault) => Err(fault),
         },
     }
 }
 
-/// The value of a key in the tree of a root, where the tree has the key. Heights fall on the way down, from below the bound, else a node is
-/// damaged; each node that is looked at is a step.
+/// The value of a key in the tree of a root, where the tree has the key. Heights fall on the way down, from below the bound, and the key of each node
+/// lies between those of the nodes above it, else a node is damaged; each node that is looked at is a step.
 pub fn lookup<V: Vault, L: Ledger>(
     sw: &mut Swizzle,
     vault: &mut V,
@@ -84,20 +109,26 @@ pub fn lookup<V: Vault, L: Ledger>(
     sw.sound();
     let mut at = root;
     let mut bound = bound;
+    let mut low = None;
+    let mut high = None;
     while let Some(node) = at {
         steps.tick();
         let height = height(sw, &*vault, at);
         if height == 0 || height >= bound {
             return Err(damaged(sw, node, height, bound));
         }
-        match look(sw, vault, node, key) {
+        match look(sw, vault, node, key, low, high) {
             Ok(Step::Found) => {
                 return match value(sw, vault, node) {
                     Ok(value) => Ok(Some(value)),
                     Err(fault) => Err(fault),
                 };
             }
-            Ok(Step::Down(side)) => at = side,
+            Ok(Step::Down(way)) => {
+                at = way.side;
+                low = way.low;
+                high = way.high;
+            }
             Err(fault) => return Err(fault),
         }
         bound = height;

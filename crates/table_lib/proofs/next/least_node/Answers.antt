@@ -4,7 +4,7 @@ use Rattle.table_nodes.specs.heap_places.heap_texts.declared.fault.OpFault.TheVa
 use Rattle.table_nodes.specs.Steps.{place}
 use Rattle.table_nodes.proofs.NodeLaws.{fetch_back}
 use Rattle.table_nodes.proofs.StepLaws.{touches_then}
-use Rattle.table_lib.specs.Operations.{keys_of}
+use Rattle.table_nodes.specs.Sought.{keys_of}
 use Rattle.table_lib.proofs.NextLaws.{node_found, least_parts}
 use Rattle.table_lib.proofs.RootLaws.{pairs_of, tree_of, tree_low}
 use Rattle.table_lib.proofs.UseLaws.{uses_refused, uses_unused, uses_used}
