@@ -191,7 +191,16 @@ pub fn enter<V: Vault>(
                 wing: unknown(),
             })
         }
-        Ordering::Greater => match enter(sw, vault, opened.right, height, key, value, Some(at), high) {
+        Ordering::Greater => match enter(
+            sw,
+            vault,
+            opened.right,
+            height,
+            key,
+            value,
+            Some(at),
+            high,
+        ) {
             Ok(right) => Ok(with_right(sw, &*vault, at, opened.left, right)),
             Err(fault) => Err(fault),
         },

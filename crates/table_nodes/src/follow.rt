@@ -138,7 +138,10 @@ fn go_first<V: Vault>(
     ensures alive { OnOk result (V.alive vault.new) }
 {
     match check_rise(sw, vault, at, Some(at), last, keys) {
-        Ok(()) => side(sw, vault, at, 0),
+        Ok(()) => match side(sw, vault, at, 0) {
+            Ok(side) => Ok(side),
+            Err(fault) => Err(fault),
+        },
         Err(fault) => Err(fault),
     }
 }

@@ -237,8 +237,13 @@ pub fn check_rise<V: Vault>(
         return Ok(());
     };
     match rises(sw, vault, low, high, keys) {
-        Ok(true) => Ok(()),
-        Ok(false) => Err(damaged(sw, at, 0, IN_ORDER)),
+        Ok(yes) => {
+            if yes {
+                Ok(())
+            } else {
+                Err(damaged(sw, at, 0, IN_ORDER))
+            }
+        }
         Err(fault) => Err(fault),
     }
 }

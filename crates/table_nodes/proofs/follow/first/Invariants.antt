@@ -1,9 +1,9 @@
 -- The least key of the tree is that of the part that is left, which is lower than the bound, or else that of the last node.
-use Rattle.std.proofs.Common.{◌-◌, ◌≤◌, ◌<◌, IfSome}
+use Rattle.std.proofs.Common.{◌-◌, ◌≤◌, ◌<◌, None, IfSome}
 use Rattle.std.specs.declared.cmp.Ordering.TheVariants.{Less}
 use Rattle.heap_places.specs.swizzle.Touch.{Keeps}
 use Rattle.avl_trees.specs.Trees.{Tree, height}
-use Rattle.table_nodes.specs.Keys.{Keys}
+use Rattle.table_nodes.specs.Sought.{keys_of}
 use Rattle.table_nodes.specs.Bringing.{Brings}
 use Rattle.table_nodes.specs.Nodes.{IsNode, Grows}
 use Rattle.table_nodes.specs.Searching.{IsTree}
@@ -13,6 +13,7 @@ use Rattle.table_nodes.proofs.follow.first.Given as goal
 
 abbrev pub invariant-loop-at : goal.invariant-loop-at
 invariant-loop-at g l =
+    let ks = keys_of l.keys in
     let old = place l.initial.sw (g.V.Vault.outside l.initial.vault) in
     let now = place l.sw (g.V.Vault.outside l.vault) in
     record {
@@ -24,7 +25,7 @@ invariant-loop-at g l =
       within : l.bound ≤ l.initial.bound;
       brings : Brings l.initial.sw l.sw (l.initial.bound - l.bound);
       alive : g.V.Vault.alive l.vault;
-      begins : (ks : Keys) (t : Tree (I ks)) → IsTree ks old l.fn.root t → height t < l.initial.bound → Following ks (λ a. Less) now l.at l.last l.bound t;
+      begins : (t : Tree (I ks)) → IsTree ks old l.fn.root t → height t < l.initial.bound → Following ks (λ a. Less) now l.at l.last None l.bound t;
     }
 
 abbrev pub decreases-loop-at : goal.decreases-loop-at

@@ -21,6 +21,7 @@ invariant-loop-at g l =
     record {
       node : IfSome l.at (IsNode l.sw);
       last : IfSome l.last (IsNode l.sw);
+      low : IfSome l.low (IsNode l.sw);
       key : IsKeyHeld l.sw l.key;
       same : key_in l.sw l.key ≡ wanted;
       keeps : Keeps l.initial.sw l.sw;
@@ -29,7 +30,7 @@ invariant-loop-at g l =
       within : l.bound ≤ l.initial.bound;
       brings : Brings l.initial.sw l.sw (l.initial.bound - l.bound);
       alive : g.V.Vault.alive l.vault;
-      follows : (t : Tree (I ks)) → IsTree ks old l.fn.root t → height t < l.initial.bound → Following ks (seek (order_by ks) wanted) now l.at l.last l.bound t;
+      follows : (t : Tree (I ks)) → IsTree ks old l.fn.root t → height t < l.initial.bound → Following ks (seek (order_by ks) wanted) now l.at l.last l.low l.bound t;
     }
 
 abbrev pub decreases-loop-at : goal.decreases-loop-at

@@ -18,12 +18,12 @@ use Rattle.table_nodes.proofs.FaultLaws.{node_fault_back, height_failed, the_nod
 use Rattle.table_nodes.proofs.remove.+remove.Goals as goal
 
 pub returns-in_default-clause-removed : goal.returns-in_default-clause-removed
-returns-in_default-clause-removed g t c tree p h lower =
+returns-in_default-clause-removed g t c tree p h bw lower =
     remove_leaf (kind_of c.args.key) (key_in c.args.sw.now c.args.key) (place c.args.sw.now (g.V.Vault.outside c.args.vault.now)) c.args.root c.in_default.is tree p h
 
 pub returns-then-height-eq0-clause-removed : goal.returns-then-height-eq0-clause-removed
-returns-then-height-eq0-clause-removed g t c leaf p h lower = absurd (no_root c.args.sw.now c.args.root c.in-Some.at c.in-Some.is h.root_is)
-returns-then-height-eq0-clause-removed g t c (node x b y) p h lower =
+returns-then-height-eq0-clause-removed g t c leaf p h bw lower = absurd (no_root c.args.sw.now c.args.root c.in-Some.at c.in-Some.is h.root_is)
+returns-then-height-eq0-clause-removed g t c (node x b y) p h bw lower =
     let ks = kind_of c.args.key in
     let key = key_in c.args.sw.now c.args.key in
     let old = place c.args.sw.now (g.V.Vault.outside c.args.vault.now) in
@@ -32,38 +32,38 @@ returns-then-height-eq0-clause-removed g t c (node x b y) p h lower =
     absurd (grind (arith, e, lower, c.then-height-eq0.either))
 
 pub returns-in-Err-clause-removed : goal.returns-in-Err-clause-removed
-returns-in-Err-clause-removed g t c leaf p h lower = absurd (no_root c.args.sw.now c.args.root c.in-Some.at c.in-Some.is h.root_is)
-returns-in-Err-clause-removed g t c (node x b y) p h lower =
+returns-in-Err-clause-removed g t c leaf p h bw lower = absurd (no_root c.args.sw.now c.args.root c.in-Some.at c.in-Some.is h.root_is)
+returns-in-Err-clause-removed g t c (node x b y) p h bw lower =
     let ks = kind_of c.args.key in
     let key = key_in c.args.sw.now c.args.key in
     let old = place c.args.sw.now (g.V.Vault.outside c.args.vault.now) in
     let named = root_named old.heap c.args.root c.in-Some.at b.name c.in-Some.is h.root_is in
     let e = c.height-height.ensures.some ks c.in-Some.at b.name (row_of x b y) refl named h.stands.0 in
-    c.in-Err.ensures.opens x b y h.stands named
+    c.in-Err.ensures.opens x b y h.stands named bw
 
 pub returns-in-Err-open_right-clause-removed : goal.returns-in-Err-open_right-clause-removed
-returns-in-Err-open_right-clause-removed g t c leaf p h lower = absurd (no_root c.args.sw.now c.args.root c.in-Some.at c.in-Some.is h.root_is)
-returns-in-Err-open_right-clause-removed g t c (node x b y) p h lower =
+returns-in-Err-open_right-clause-removed g t c leaf p h bw lower = absurd (no_root c.args.sw.now c.args.root c.in-Some.at c.in-Some.is h.root_is)
+returns-in-Err-open_right-clause-removed g t c (node x b y) p h bw lower =
     let ks = kind_of c.args.key in
     let key = key_in c.args.sw.now c.args.key in
     let old = place c.args.sw.now (g.V.Vault.outside c.args.vault.now) in
     let named = root_named old.heap c.args.root c.in-Some.at b.name c.in-Some.is h.root_is in
     let e = c.height-height.ensures.some ks c.in-Some.at b.name (row_of x b y) refl named h.stands.0 in
     let m0 = place c.open_node.new.sw (g.V.Vault.outside c.open_node.new.vault) in
-    let o0 = c.in-Ok.ensures.opens x b y h.stands named in
+    let o0 = c.in-Ok.ensures.opens x b y h.stands named bw in
     let s = stands_grown (rows_of ks old) (rows_of ks m0) (c.in-Ok.ensures.grows.rows ks) (node x b y) h.stands in
     fetch_back old.outside m0.outside c.in-Err-open_right.fault c.in-Ok.ensures.grows.contents (c.in-Err-open_right.ensures.wing ks x y s.1 s.2 o0.left o0.right (omega (arith, e)) (omega (arith, e)))
 
 pub returns-in-Ok-remove-clause-removed : goal.returns-in-Ok-remove-clause-removed
-returns-in-Ok-remove-clause-removed g t c leaf p h lower = absurd (no_root c.args.sw.now c.args.root c.in-Some.at c.in-Some.is h.root_is)
-returns-in-Ok-remove-clause-removed g t c (node x b y) p h lower =
+returns-in-Ok-remove-clause-removed g t c leaf p h bw lower = absurd (no_root c.args.sw.now c.args.root c.in-Some.at c.in-Some.is h.root_is)
+returns-in-Ok-remove-clause-removed g t c (node x b y) p h bw lower =
     let ks = kind_of c.args.key in
     let key = key_in c.args.sw.now c.args.key in
     let old = place c.args.sw.now (g.V.Vault.outside c.args.vault.now) in
     let named = root_named old.heap c.args.root c.in-Some.at b.name c.in-Some.is h.root_is in
     let e = c.height-height.ensures.some ks c.in-Some.at b.name (row_of x b y) refl named h.stands.0 in
     let m0 = place c.open_node.new.sw (g.V.Vault.outside c.open_node.new.vault) in
-    let o0 = c.in-Ok.ensures.opens x b y h.stands named in
+    let o0 = c.in-Ok.ensures.opens x b y h.stands named bw in
     let s = stands_grown (rows_of ks old) (rows_of ks m0) (c.in-Ok.ensures.grows.rows ks) (node x b y) h.stands in
     let m = place c.open_right.new.sw (g.V.Vault.outside c.open_right.new.vault) in
     let grows = touches_then old m0 m c.in-Ok.ensures.grows c.in-Ok-open_right.ensures.grows in
@@ -75,21 +75,21 @@ returns-in-Ok-remove-clause-removed g t c (node x b y) p h lower =
     let side = tree_left ks old m c.args.root c.in-Ok.opened.left grows x b y h o.left in
     let m1 = place c.remove.new.sw (g.V.Vault.outside c.remove.new.vault) in
     let m2 = place c.balance-root.new.sw (g.V.Vault.outside c.remove.new.vault) in
-    let w = removed_as ks m m1 c.in-Ok.opened.left c.in-Ok-open_right.ready.bound (key_in m.heap c.args.key) key (Ok c.in-Ok-remove.left) same c.in-Ok-remove.ensures.removed x here side ready.1 in
+    let w = removed_as ks m m1 c.in-Ok.opened.left c.args.low (Some c.in-Some.at) c.in-Ok-open_right.ready.bound (key_in m.heap c.args.key) key (Ok c.in-Ok-remove.left) same c.in-Ok-remove.ensures.removed x here side (left_between ks old m grows c.in-Some.at c.args.low c.args.high x b y bw h.rising h.stands named) ready.1 in
     let sides = left_sides ks key old m m1 c.in-Some.at c.args.root c.in-Ok.opened grows p x b y h named o c.in-Ok-remove.left.root c.in-Ok-remove.ensures.held (omega (arith, e, lower, c.requires.bound)) c.in-Less.is w in
     let known = left_known ks key old m m1 c.in-Some.at c.args.root c.in-Ok.opened grows p x b y h named o c.in-Ok-open_right.ready.wing c.in-Ok-remove.ensures.held ready.0 in
     left_done ks key old m m1 c.in-Some.at c.args.root c.in-Ok.opened grows p x b y h named o m2 c.in-Ok-remove.left.root c.balance-root.result c.in-Less.is w (c.balance-root.ensures.balanced ks _ _ _ sides known.0 known.1)
 
 pub returns-in-Err-remove-clause-removed : goal.returns-in-Err-remove-clause-removed
-returns-in-Err-remove-clause-removed g t c leaf p h lower = absurd (no_root c.args.sw.now c.args.root c.in-Some.at c.in-Some.is h.root_is)
-returns-in-Err-remove-clause-removed g t c (node x b y) p h lower =
+returns-in-Err-remove-clause-removed g t c leaf p h bw lower = absurd (no_root c.args.sw.now c.args.root c.in-Some.at c.in-Some.is h.root_is)
+returns-in-Err-remove-clause-removed g t c (node x b y) p h bw lower =
     let ks = kind_of c.args.key in
     let key = key_in c.args.sw.now c.args.key in
     let old = place c.args.sw.now (g.V.Vault.outside c.args.vault.now) in
     let named = root_named old.heap c.args.root c.in-Some.at b.name c.in-Some.is h.root_is in
     let e = c.height-height.ensures.some ks c.in-Some.at b.name (row_of x b y) refl named h.stands.0 in
     let m0 = place c.open_node.new.sw (g.V.Vault.outside c.open_node.new.vault) in
-    let o0 = c.in-Ok.ensures.opens x b y h.stands named in
+    let o0 = c.in-Ok.ensures.opens x b y h.stands named bw in
     let s = stands_grown (rows_of ks old) (rows_of ks m0) (c.in-Ok.ensures.grows.rows ks) (node x b y) h.stands in
     let m = place c.open_right.new.sw (g.V.Vault.outside c.open_right.new.vault) in
     let grows = touches_then old m0 m c.in-Ok.ensures.grows c.in-Ok-open_right.ensures.grows in
@@ -99,31 +99,31 @@ returns-in-Err-remove-clause-removed g t c (node x b y) p h lower =
     let keeps = keeps-trans old.heap m0.heap m.heap c.in-Ok.ensures.keeps c.in-Ok-open_right.ensures.keeps in
     let same = key_in_kept old.heap m.heap c.args.key keeps c.requires.key in
     let side = tree_left ks old m c.args.root c.in-Ok.opened.left grows x b y h o.left in
-    fetch_back old.outside m.outside c.in-Err-remove.fault grows.contents (c.in-Err-remove.ensures.removed x here side ready.1)
+    fetch_back old.outside m.outside c.in-Err-remove.fault grows.contents (c.in-Err-remove.ensures.removed x here side (left_between ks old m grows c.in-Some.at c.args.low c.args.high x b y bw h.rising h.stands named) ready.1)
 
 pub returns-in-Err-open_left-clause-removed : goal.returns-in-Err-open_left-clause-removed
-returns-in-Err-open_left-clause-removed g t c leaf p h lower = absurd (no_root c.args.sw.now c.args.root c.in-Some.at c.in-Some.is h.root_is)
-returns-in-Err-open_left-clause-removed g t c (node x b y) p h lower =
+returns-in-Err-open_left-clause-removed g t c leaf p h bw lower = absurd (no_root c.args.sw.now c.args.root c.in-Some.at c.in-Some.is h.root_is)
+returns-in-Err-open_left-clause-removed g t c (node x b y) p h bw lower =
     let ks = kind_of c.args.key in
     let key = key_in c.args.sw.now c.args.key in
     let old = place c.args.sw.now (g.V.Vault.outside c.args.vault.now) in
     let named = root_named old.heap c.args.root c.in-Some.at b.name c.in-Some.is h.root_is in
     let e = c.height-height.ensures.some ks c.in-Some.at b.name (row_of x b y) refl named h.stands.0 in
     let m0 = place c.open_node.new.sw (g.V.Vault.outside c.open_node.new.vault) in
-    let o0 = c.in-Ok.ensures.opens x b y h.stands named in
+    let o0 = c.in-Ok.ensures.opens x b y h.stands named bw in
     let s = stands_grown (rows_of ks old) (rows_of ks m0) (c.in-Ok.ensures.grows.rows ks) (node x b y) h.stands in
     fetch_back old.outside m0.outside c.in-Err-open_left.fault c.in-Ok.ensures.grows.contents (c.in-Err-open_left.ensures.wing ks y x s.2 s.1 o0.right o0.left (omega (arith, e)) (omega (arith, e)))
 
 pub returns-in-Ok-remove-2-clause-removed : goal.returns-in-Ok-remove-2-clause-removed
-returns-in-Ok-remove-2-clause-removed g t c leaf p h lower = absurd (no_root c.args.sw.now c.args.root c.in-Some.at c.in-Some.is h.root_is)
-returns-in-Ok-remove-2-clause-removed g t c (node x b y) p h lower =
+returns-in-Ok-remove-2-clause-removed g t c leaf p h bw lower = absurd (no_root c.args.sw.now c.args.root c.in-Some.at c.in-Some.is h.root_is)
+returns-in-Ok-remove-2-clause-removed g t c (node x b y) p h bw lower =
     let ks = kind_of c.args.key in
     let key = key_in c.args.sw.now c.args.key in
     let old = place c.args.sw.now (g.V.Vault.outside c.args.vault.now) in
     let named = root_named old.heap c.args.root c.in-Some.at b.name c.in-Some.is h.root_is in
     let e = c.height-height.ensures.some ks c.in-Some.at b.name (row_of x b y) refl named h.stands.0 in
     let m0 = place c.open_node.new.sw (g.V.Vault.outside c.open_node.new.vault) in
-    let o0 = c.in-Ok.ensures.opens x b y h.stands named in
+    let o0 = c.in-Ok.ensures.opens x b y h.stands named bw in
     let s = stands_grown (rows_of ks old) (rows_of ks m0) (c.in-Ok.ensures.grows.rows ks) (node x b y) h.stands in
     let m = place c.open_left.new.sw (g.V.Vault.outside c.open_left.new.vault) in
     let grows = touches_then old m0 m c.in-Ok.ensures.grows c.in-Ok-open_left.ensures.grows in
@@ -135,21 +135,21 @@ returns-in-Ok-remove-2-clause-removed g t c (node x b y) p h lower =
     let side = tree_right ks old m c.args.root c.in-Ok.opened.right grows x b y h o.right in
     let m1 = place c.remove-in-Greater.new.sw (g.V.Vault.outside c.remove-in-Greater.new.vault) in
     let m2 = place c.balance-root-in-Ok-remove-2.new.sw (g.V.Vault.outside c.remove-in-Greater.new.vault) in
-    let w = removed_as ks m m1 c.in-Ok.opened.right c.in-Ok-open_left.ready.bound (key_in m.heap c.args.key) key (Ok c.in-Ok-remove-2.right) same c.in-Ok-remove-2.ensures.removed y here side ready.1 in
+    let w = removed_as ks m m1 c.in-Ok.opened.right (Some c.in-Some.at) c.args.high c.in-Ok-open_left.ready.bound (key_in m.heap c.args.key) key (Ok c.in-Ok-remove-2.right) same c.in-Ok-remove-2.ensures.removed y here side (right_between ks old m grows c.in-Some.at c.args.low c.args.high x b y bw h.rising h.stands named) ready.1 in
     let sides = right_sides ks key old m m1 c.in-Some.at c.args.root c.in-Ok.opened grows p x b y h named o c.in-Ok-remove-2.right.root c.in-Ok-remove-2.ensures.held (omega (arith, e, lower, c.requires.bound)) c.in-Greater.is w in
     let known = right_known ks key old m m1 c.in-Some.at c.args.root c.in-Ok.opened grows p x b y h named o c.in-Ok-open_left.ready.wing c.in-Ok-remove-2.ensures.held ready.0 in
     right_done ks key old m m1 c.in-Some.at c.args.root c.in-Ok.opened grows p x b y h named o m2 c.in-Ok-remove-2.right.root c.balance-root-in-Ok-remove-2.result c.in-Greater.is w (c.balance-root-in-Ok-remove-2.ensures.balanced ks _ _ _ sides known.0 known.1)
 
 pub returns-in-Err-remove-2-clause-removed : goal.returns-in-Err-remove-2-clause-removed
-returns-in-Err-remove-2-clause-removed g t c leaf p h lower = absurd (no_root c.args.sw.now c.args.root c.in-Some.at c.in-Some.is h.root_is)
-returns-in-Err-remove-2-clause-removed g t c (node x b y) p h lower =
+returns-in-Err-remove-2-clause-removed g t c leaf p h bw lower = absurd (no_root c.args.sw.now c.args.root c.in-Some.at c.in-Some.is h.root_is)
+returns-in-Err-remove-2-clause-removed g t c (node x b y) p h bw lower =
     let ks = kind_of c.args.key in
     let key = key_in c.args.sw.now c.args.key in
     let old = place c.args.sw.now (g.V.Vault.outside c.args.vault.now) in
     let named = root_named old.heap c.args.root c.in-Some.at b.name c.in-Some.is h.root_is in
     let e = c.height-height.ensures.some ks c.in-Some.at b.name (row_of x b y) refl named h.stands.0 in
     let m0 = place c.open_node.new.sw (g.V.Vault.outside c.open_node.new.vault) in
-    let o0 = c.in-Ok.ensures.opens x b y h.stands named in
+    let o0 = c.in-Ok.ensures.opens x b y h.stands named bw in
     let s = stands_grown (rows_of ks old) (rows_of ks m0) (c.in-Ok.ensures.grows.rows ks) (node x b y) h.stands in
     let m = place c.open_left.new.sw (g.V.Vault.outside c.open_left.new.vault) in
     let grows = touches_then old m0 m c.in-Ok.ensures.grows c.in-Ok-open_left.ensures.grows in
@@ -159,48 +159,48 @@ returns-in-Err-remove-2-clause-removed g t c (node x b y) p h lower =
     let keeps = keeps-trans old.heap m0.heap m.heap c.in-Ok.ensures.keeps c.in-Ok-open_left.ensures.keeps in
     let same = key_in_kept old.heap m.heap c.args.key keeps c.requires.key in
     let side = tree_right ks old m c.args.root c.in-Ok.opened.right grows x b y h o.right in
-    fetch_back old.outside m.outside c.in-Err-remove-2.fault grows.contents (c.in-Err-remove-2.ensures.removed y here side ready.1)
+    fetch_back old.outside m.outside c.in-Err-remove-2.fault grows.contents (c.in-Err-remove-2.ensures.removed y here side (right_between ks old m grows c.in-Some.at c.args.low c.args.high x b y bw h.rising h.stands named) ready.1)
 
 pub returns-in-Ok-merge_sides-clause-removed : goal.returns-in-Ok-merge_sides-clause-removed
-returns-in-Ok-merge_sides-clause-removed g t c leaf p h lower = absurd (no_root c.args.sw.now c.args.root c.in-Some.at c.in-Some.is h.root_is)
-returns-in-Ok-merge_sides-clause-removed g t c (node x b y) p h lower =
+returns-in-Ok-merge_sides-clause-removed g t c leaf p h bw lower = absurd (no_root c.args.sw.now c.args.root c.in-Some.at c.in-Some.is h.root_is)
+returns-in-Ok-merge_sides-clause-removed g t c (node x b y) p h bw lower =
     let ks = kind_of c.args.key in
     let key = key_in c.args.sw.now c.args.key in
     let old = place c.args.sw.now (g.V.Vault.outside c.args.vault.now) in
     let named = root_named old.heap c.args.root c.in-Some.at b.name c.in-Some.is h.root_is in
     let e = c.height-height.ensures.some ks c.in-Some.at b.name (row_of x b y) refl named h.stands.0 in
     let m = place c.open_node.new.sw (g.V.Vault.outside c.open_node.new.vault) in
-    let o = c.in-Ok.ensures.opens x b y h.stands named in
+    let o = c.in-Ok.ensures.opens x b y h.stands named bw in
     let m1 = place c.merge_sides.new.sw (g.V.Vault.outside c.merge_sides.new.vault) in
     here_done ks key old m m1 c.in-Some.at c.args.root c.in-Ok.opened c.in-Ok.ensures.grows p x b y h named o c.in-Ok-merge_sides.root c.height-height.result e c.in-Equal.is c.in-Ok-merge_sides.ensures.merged
 
 pub returns-in-Err-merge_sides-clause-removed : goal.returns-in-Err-merge_sides-clause-removed
-returns-in-Err-merge_sides-clause-removed g t c leaf p h lower = absurd (no_root c.args.sw.now c.args.root c.in-Some.at c.in-Some.is h.root_is)
-returns-in-Err-merge_sides-clause-removed g t c (node x b y) p h lower =
+returns-in-Err-merge_sides-clause-removed g t c leaf p h bw lower = absurd (no_root c.args.sw.now c.args.root c.in-Some.at c.in-Some.is h.root_is)
+returns-in-Err-merge_sides-clause-removed g t c (node x b y) p h bw lower =
     let ks = kind_of c.args.key in
     let key = key_in c.args.sw.now c.args.key in
     let old = place c.args.sw.now (g.V.Vault.outside c.args.vault.now) in
     let named = root_named old.heap c.args.root c.in-Some.at b.name c.in-Some.is h.root_is in
     let e = c.height-height.ensures.some ks c.in-Some.at b.name (row_of x b y) refl named h.stands.0 in
     let m = place c.open_node.new.sw (g.V.Vault.outside c.open_node.new.vault) in
-    let o = c.in-Ok.ensures.opens x b y h.stands named in
+    let o = c.in-Ok.ensures.opens x b y h.stands named bw in
     let m1 = place c.merge_sides.new.sw (g.V.Vault.outside c.merge_sides.new.vault) in
     here_fault ks key old m m1 c.in-Some.at c.args.root c.in-Ok.opened c.in-Ok.ensures.grows p x b y h named o c.in-Err-merge_sides.fault c.height-height.result e c.in-Err-merge_sides.ensures.merged
 
 pub returns-in_default-clause-counted : goal.returns-in_default-clause-counted
-returns-in_default-clause-counted g t c tree h lower =
+returns-in_default-clause-counted g t c tree h bw lower =
     gone_leaf (kind_of c.args.key) (key_in c.args.sw.now c.args.key) (place c.args.sw.now (g.V.Vault.outside c.args.vault.now)) c.args.root c.in_default.is tree h
 
 pub returns-in-Ok-remove-clause-counted : goal.returns-in-Ok-remove-clause-counted
-returns-in-Ok-remove-clause-counted g t c leaf h lower = absurd (no_root c.args.sw.now c.args.root c.in-Some.at c.in-Some.is h.root_is)
-returns-in-Ok-remove-clause-counted g t c (node x b y) h lower =
+returns-in-Ok-remove-clause-counted g t c leaf h bw lower = absurd (no_root c.args.sw.now c.args.root c.in-Some.at c.in-Some.is h.root_is)
+returns-in-Ok-remove-clause-counted g t c (node x b y) h bw lower =
     let ks = kind_of c.args.key in
     let key = key_in c.args.sw.now c.args.key in
     let old = place c.args.sw.now (g.V.Vault.outside c.args.vault.now) in
     let named = root_named old.heap c.args.root c.in-Some.at b.name c.in-Some.is h.root_is in
     let e = c.height-height.ensures.some ks c.in-Some.at b.name (row_of x b y) refl named h.stands.0 in
     let m0 = place c.open_node.new.sw (g.V.Vault.outside c.open_node.new.vault) in
-    let o0 = c.in-Ok.ensures.opens x b y h.stands named in
+    let o0 = c.in-Ok.ensures.opens x b y h.stands named bw in
     let s = stands_grown (rows_of ks old) (rows_of ks m0) (c.in-Ok.ensures.grows.rows ks) (node x b y) h.stands in
     let m = place c.open_right.new.sw (g.V.Vault.outside c.open_right.new.vault) in
     let grows = touches_then old m0 m c.in-Ok.ensures.grows c.in-Ok-open_right.ensures.grows in
@@ -208,18 +208,18 @@ returns-in-Ok-remove-clause-counted g t c (node x b y) h lower =
     let ready = c.in-Ok-open_right.ensures.wing ks x y s.1 s.2 o0.left o0.right (omega (arith, e)) (omega (arith, e)) in
     let keeps = keeps-trans old.heap m0.heap m.heap c.in-Ok.ensures.keeps c.in-Ok-open_right.ensures.keeps in
     let same = key_in_kept old.heap m.heap c.args.key keeps c.requires.key in
-    gone_left ks key old m c.args.root c.in-Ok.opened.left c.in-Ok-open_right.ready.bound grows x b y h ready.1 (key_in m.heap c.args.key) same c.in-Ok-remove.left c.in-Ok-remove.ensures.counted o.left (sym o.order ∙ c.in-Less.is)
+    gone_left ks key old m c.args.root c.in-Ok.opened.left c.args.low (Some c.in-Some.at) c.in-Ok-open_right.ready.bound grows x b y h ready.1 (key_in m.heap c.args.key) same c.in-Ok-remove.left c.in-Ok-remove.ensures.counted o.left (left_between ks old m grows c.in-Some.at c.args.low c.args.high x b y bw h.rising h.stands named) (sym o.order ∙ c.in-Less.is)
 
 pub returns-in-Ok-remove-2-clause-counted : goal.returns-in-Ok-remove-2-clause-counted
-returns-in-Ok-remove-2-clause-counted g t c leaf h lower = absurd (no_root c.args.sw.now c.args.root c.in-Some.at c.in-Some.is h.root_is)
-returns-in-Ok-remove-2-clause-counted g t c (node x b y) h lower =
+returns-in-Ok-remove-2-clause-counted g t c leaf h bw lower = absurd (no_root c.args.sw.now c.args.root c.in-Some.at c.in-Some.is h.root_is)
+returns-in-Ok-remove-2-clause-counted g t c (node x b y) h bw lower =
     let ks = kind_of c.args.key in
     let key = key_in c.args.sw.now c.args.key in
     let old = place c.args.sw.now (g.V.Vault.outside c.args.vault.now) in
     let named = root_named old.heap c.args.root c.in-Some.at b.name c.in-Some.is h.root_is in
     let e = c.height-height.ensures.some ks c.in-Some.at b.name (row_of x b y) refl named h.stands.0 in
     let m0 = place c.open_node.new.sw (g.V.Vault.outside c.open_node.new.vault) in
-    let o0 = c.in-Ok.ensures.opens x b y h.stands named in
+    let o0 = c.in-Ok.ensures.opens x b y h.stands named bw in
     let s = stands_grown (rows_of ks old) (rows_of ks m0) (c.in-Ok.ensures.grows.rows ks) (node x b y) h.stands in
     let m = place c.open_left.new.sw (g.V.Vault.outside c.open_left.new.vault) in
     let grows = touches_then old m0 m c.in-Ok.ensures.grows c.in-Ok-open_left.ensures.grows in
@@ -227,18 +227,18 @@ returns-in-Ok-remove-2-clause-counted g t c (node x b y) h lower =
     let ready = c.in-Ok-open_left.ensures.wing ks y x s.2 s.1 o0.right o0.left (omega (arith, e)) (omega (arith, e)) in
     let keeps = keeps-trans old.heap m0.heap m.heap c.in-Ok.ensures.keeps c.in-Ok-open_left.ensures.keeps in
     let same = key_in_kept old.heap m.heap c.args.key keeps c.requires.key in
-    gone_right ks key old m c.args.root c.in-Ok.opened.right c.in-Ok-open_left.ready.bound grows x b y h ready.1 (key_in m.heap c.args.key) same c.in-Ok-remove-2.right c.in-Ok-remove-2.ensures.counted o.right (sym o.order ∙ c.in-Greater.is)
+    gone_right ks key old m c.args.root c.in-Ok.opened.right (Some c.in-Some.at) c.args.high c.in-Ok-open_left.ready.bound grows x b y h ready.1 (key_in m.heap c.args.key) same c.in-Ok-remove-2.right c.in-Ok-remove-2.ensures.counted o.right (right_between ks old m grows c.in-Some.at c.args.low c.args.high x b y bw h.rising h.stands named) (sym o.order ∙ c.in-Greater.is)
 
 pub returns-in-Ok-merge_sides-clause-counted : goal.returns-in-Ok-merge_sides-clause-counted
-returns-in-Ok-merge_sides-clause-counted g t c leaf h lower = absurd (no_root c.args.sw.now c.args.root c.in-Some.at c.in-Some.is h.root_is)
-returns-in-Ok-merge_sides-clause-counted g t c (node x b y) h lower =
+returns-in-Ok-merge_sides-clause-counted g t c leaf h bw lower = absurd (no_root c.args.sw.now c.args.root c.in-Some.at c.in-Some.is h.root_is)
+returns-in-Ok-merge_sides-clause-counted g t c (node x b y) h bw lower =
     let ks = kind_of c.args.key in
     let key = key_in c.args.sw.now c.args.key in
     let old = place c.args.sw.now (g.V.Vault.outside c.args.vault.now) in
     let named = root_named old.heap c.args.root c.in-Some.at b.name c.in-Some.is h.root_is in
     let e = c.height-height.ensures.some ks c.in-Some.at b.name (row_of x b y) refl named h.stands.0 in
     let m = place c.open_node.new.sw (g.V.Vault.outside c.open_node.new.vault) in
-    let o = c.in-Ok.ensures.opens x b y h.stands named in
+    let o = c.in-Ok.ensures.opens x b y h.stands named bw in
     gone_here ks key x b y (sym o.order ∙ c.in-Equal.is)
 
 pub returns-in_default-clause-spares : goal.returns-in_default-clause-spares
@@ -349,3 +349,15 @@ returns-in-Err-remove-clause-fault g t c =
 pub returns-in-Err-remove-2-clause-fault : goal.returns-in-Err-remove-2-clause-fault
 returns-in-Err-remove-2-clause-fault g t c =
     node_fault_back (g.V.Vault.outside c.args.vault.now) (g.V.Vault.outside c.open_node.new.vault) _ c.in-Err-remove-2.fault c.in-Ok.ensures.grows.contents (node_fault_back (g.V.Vault.outside c.open_node.new.vault) (g.V.Vault.outside c.open_left.new.vault) _ c.in-Err-remove-2.fault c.in-Ok-open_left.ensures.grows.contents c.in-Err-remove-2.ensures.fault)
+
+pub remove-requires-clause-low : goal.remove-requires-clause-low
+remove-requires-clause-low g t c = side_map (IsNode c.args.sw.now) (IsNode c.open_right.new.sw) (λ n h. c.in-Ok-open_right.ensures.grows.nodes n (c.in-Ok.ensures.grows.nodes n h)) c.args.low c.requires.low
+
+pub remove-requires-clause-high : goal.remove-requires-clause-high
+remove-requires-clause-high g t c = c.in-Ok-open_right.ensures.grows.nodes _ (c.in-Ok.ensures.grows.nodes _ (the_node c.args.sw.now c.args.root c.in-Some.at c.in-Some.is c.requires.root))
+
+pub remove-requires-in-Greater-clause-low : goal.remove-requires-in-Greater-clause-low
+remove-requires-in-Greater-clause-low g t c = c.in-Ok-open_left.ensures.grows.nodes _ (c.in-Ok.ensures.grows.nodes _ (the_node c.args.sw.now c.args.root c.in-Some.at c.in-Some.is c.requires.root))
+
+pub remove-requires-in-Greater-clause-high : goal.remove-requires-in-Greater-clause-high
+remove-requires-in-Greater-clause-high g t c = side_map (IsNode c.args.sw.now) (IsNode c.open_left.new.sw) (λ n h. c.in-Ok-open_left.ensures.grows.nodes n (c.in-Ok.ensures.grows.nodes n h)) c.args.high c.requires.high

@@ -18,6 +18,8 @@ invariant-loop-at g l =
     let now = place l.sw (g.V.Vault.outside l.vault) in
     record {
       node : IfSome l.at (IsNode l.sw);
+      low : IfSome l.low (IsNode l.sw);
+      high : IfSome l.high (IsNode l.sw);
       some : 1 ≤ l.bound;
       cost : l.steps + l.bound ≤ l.initial.steps + l.initial.bound;
       key : IsKeyHeld l.sw l.key;
@@ -27,7 +29,7 @@ invariant-loop-at g l =
       more : l.initial.steps ≤ l.steps;
       brings : Brings l.initial.sw l.sw (l.steps - l.initial.steps);
       alive : g.V.Vault.alive l.vault;
-      sought : (t : Tree (I ks)) → IsTree ks old l.fn.root t → height t < l.initial.bound → Sought ks wanted now l.at l.bound l.initial.steps l.steps t;
+      sought : (t : Tree (I ks)) → IsTree ks old l.fn.root t → height t < l.initial.bound → Sought ks wanted now l.at l.low l.high l.bound l.initial.steps l.steps t;
     }
 
 abbrev pub decreases-loop-at : goal.decreases-loop-at
