@@ -15,6 +15,7 @@ use Rattle.avl_trees.proofs.Removing.{apart_left, apart_right, taken_here, taken
 use Rattle.table_nodes.specs.Keys.{Keys, KeyOf, order_by}
 use Rattle.table_nodes.specs.Nodes.{IsNamed, IsLinked, IsFetchFault}
 use Rattle.table_nodes.specs.Steps.{I, Place, IsPlace, StayBeside, rows_of, AreSides, StandsAt, Holds, Touches}
+use Rattle.table_nodes.specs.Ranges.{AreBetween}
 use Rattle.table_nodes.specs.Searching.{IsTree}
 use Rattle.table_nodes.specs.Entering.{IsOpened, is_missing}
 use Rattle.table_nodes.specs.Wings.{IsLeftWing, IsRightWing}
@@ -234,8 +235,8 @@ module _ (ks : Keys) (key : KeyOf ks) where
     here_fault fault bound high merges = fetch_back old.outside m.outside fault grows.contents (merges ks at l a r here (tree_grown ks old m at root grows l a r name h) o.left o.right (omega (arith, high)))
 
 -- what was taken out, by the key of before
-pub removed_as : (ks : Keys) (old new : Place) (root : Option ℕ) (bound : ℕ) (key wanted : KeyOf ks) (result : Result Removed SwizzleFault) → key ≡ wanted → Removes ks old new root bound key result → Removes ks old new root bound wanted result
-removed_as ks old new root bound key wanted result e w = subst (λ k. Removes ks old new root bound k result) e w
+pub removed_as : (ks : Keys) (old new : Place) (root low high : Option ℕ) (bound : ℕ) (key wanted : KeyOf ks) (result : Result Removed SwizzleFault) → key ≡ wanted → Removes ks old new root low high bound key result → Removes ks old new root low high bound wanted result
+removed_as ks old new root low high bound key wanted result e w = subst (λ k. Removes ks old new root low high bound k result) e w
 
 -- Whether the tree had the key.
 pub gone_leaf : (ks : Keys) (key : KeyOf ks) (p : Place) (root : Option ℕ) → root ≡ None → (t : Tree (I ks)) → IsTree ks p root t → false ≢ is_missing (lookup (seek (order_by ks) key) t)
@@ -243,15 +244,15 @@ unfolding lookup
 gone_leaf ks key p root e leaf h = λ f. cc
 gone_leaf ks key p root e (node x b y) h = absurd (subst (λ s. IsLinked p.heap s (Some b.name)) e h.root_is)
 
-module _ (ks : Keys) (key : KeyOf ks) (old m : Place) (root side : Option ℕ) (bound : ℕ) (grows : Touches old m) (x : Tree (I ks)) (b : I ks) (y : Tree (I ks)) (h : IsTree ks old root (node x b y)) where
-  pub gone_left : height x < bound → (wanted : KeyOf ks) → wanted ≡ key → (removed : Removed) → IsGoneAt ks m side bound wanted (Ok removed) → IsLinked m.heap side (root_of x) → order_by ks key b.entry.key ≡ Less → removed.gone ≢ is_missing (lookup (seek (order_by ks) key) (node x b y))
-  gone_left low wanted same removed gone linked less =
-      let below = subst (λ k. removed.gone ≢ is_missing (lookup (seek (order_by ks) k) x)) same (gone x (tree_left ks old m root side grows x b y h linked) low) in
+module _ (ks : Keys) (key : KeyOf ks) (old m : Place) (root side low high : Option ℕ) (bound : ℕ) (grows : Touches old m) (x : Tree (I ks)) (b : I ks) (y : Tree (I ks)) (h : IsTree ks old root (node x b y)) where
+  pub gone_left : height x < bound → (wanted : KeyOf ks) → wanted ≡ key → (removed : Removed) → IsGoneAt ks m side low high bound wanted (Ok removed) → IsLinked m.heap side (root_of x) → AreBetween ks m low high (items x) → order_by ks key b.entry.key ≡ Less → removed.gone ≢ is_missing (lookup (seek (order_by ks) key) (node x b y))
+  gone_left fits wanted same removed gone linked between less =
+      let below = subst (λ k. removed.gone ≢ is_missing (lookup (seek (order_by ks) k) x)) same (gone x (tree_left ks old m root side grows x b y h linked) between fits) in
       λ e. below (e ∙ ap is_missing (lookup_left ks key x b y less))
 
-  pub gone_right : height y < bound → (wanted : KeyOf ks) → wanted ≡ key → (removed : Removed) → IsGoneAt ks m side bound wanted (Ok removed) → IsLinked m.heap side (root_of y) → order_by ks key b.entry.key ≡ Greater → removed.gone ≢ is_missing (lookup (seek (order_by ks) key) (node x b y))
-  gone_right low wanted same removed gone linked more =
-      let below = subst (λ k. removed.gone ≢ is_missing (lookup (seek (order_by ks) k) y)) same (gone y (tree_right ks old m root side grows x b y h linked) low) in
+  pub gone_right : height y < bound → (wanted : KeyOf ks) → wanted ≡ key → (removed : Removed) → IsGoneAt ks m side low high bound wanted (Ok removed) → IsLinked m.heap side (root_of y) → AreBetween ks m low high (items y) → order_by ks key b.entry.key ≡ Greater → removed.gone ≢ is_missing (lookup (seek (order_by ks) key) (node x b y))
+  gone_right fits wanted same removed gone linked between more =
+      let below = subst (λ k. removed.gone ≢ is_missing (lookup (seek (order_by ks) k) y)) same (gone y (tree_right ks old m root side grows x b y h linked) between fits) in
       λ e. below (e ∙ ap is_missing (lookup_right ks key x b y more))
 
 pub gone_here : (ks : Keys) (key : KeyOf ks) (x : Tree (I ks)) (b : I ks) (y : Tree (I ks)) → order_by ks key b.entry.key ≡ Equal → true ≢ is_missing (lookup (seek (order_by ks) key) (node x b y))

@@ -1,6 +1,7 @@
 use Rattle.std.proofs.Common.{◌∙◌, ap, arith, Some, subst, sym}
 use Rattle.heap_places.proofs.of_swizzle.TouchLaws.{keeps-trans}
 use Rattle.table_nodes.specs.Keys.{order_by}
+use Rattle.table_nodes.specs.Nodes.{IsNode}
 use Rattle.table_nodes.specs.Ranges.{IsRise}
 use Rattle.table_nodes.specs.Sought.{kind_of, key_in}
 use Rattle.table_nodes.specs.Steps.{place}
@@ -8,7 +9,7 @@ use Rattle.table_nodes.proofs.BringLaws.{brings_touched}
 use Rattle.table_nodes.proofs.FaultLaws.{node_fault_back}
 use Rattle.table_nodes.proofs.NodeLaws.{fetch_back}
 use Rattle.table_nodes.proofs.RangeLaws.{at_kept, between_kept, rise_high, rise_low}
-use Rattle.table_nodes.proofs.StepLaws.{touches_then}
+use Rattle.table_nodes.proofs.StepLaws.{side_map, touches_then}
 use Rattle.table_nodes.proofs.keys.order_between.Goals as goal
 
 pub returns-in-Err-clause-ordered : goal.returns-in-Err-clause-ordered
@@ -80,3 +81,21 @@ returns-in-Err-check_rise-2-clause-brings g c = brings_touched _ _ _ 0 1 1 c.in-
 
 pub returns-in-Err-check_rise-2-clause-fault : goal.returns-in-Err-check_rise-2-clause-fault
 returns-in-Err-check_rise-2-clause-fault g c = node_fault_back (g.V.Vault.outside c.args.vault.now) (g.V.Vault.outside c.order.new.vault) _ c.in-Err-check_rise-2.fault c.in-Ok.ensures.grows.contents c.in-Err-check_rise-2.ensures.fault
+
+pub check_rise-requires-clause-node : goal.check_rise-requires-clause-node
+check_rise-requires-clause-node g c = c.in-Ok.ensures.grows.nodes c.args.at c.requires.node
+
+pub check_rise-requires-clause-low : goal.check_rise-requires-clause-low
+check_rise-requires-clause-low g c = c.in-Ok.ensures.grows.nodes c.args.at c.requires.node
+
+pub check_rise-requires-clause-high : goal.check_rise-requires-clause-high
+check_rise-requires-clause-high g c = side_map (IsNode c.args.sw.now) (IsNode c.order.new.sw) c.in-Ok.ensures.grows.nodes c.args.high c.requires.high
+
+pub check_rise-requires-in-Greater-clause-node : goal.check_rise-requires-in-Greater-clause-node
+check_rise-requires-in-Greater-clause-node g c = c.in-Ok.ensures.grows.nodes c.args.at c.requires.node
+
+pub check_rise-requires-in-Greater-clause-high : goal.check_rise-requires-in-Greater-clause-high
+check_rise-requires-in-Greater-clause-high g c = c.in-Ok.ensures.grows.nodes c.args.at c.requires.node
+
+pub check_rise-requires-in-Greater-clause-low : goal.check_rise-requires-in-Greater-clause-low
+check_rise-requires-in-Greater-clause-low g c = side_map (IsNode c.args.sw.now) (IsNode c.order.new.sw) c.in-Ok.ensures.grows.nodes c.args.low c.requires.low

@@ -8,13 +8,14 @@ use Rattle.table_nodes.specs.Sought.{kind_of, key_in}
 use Rattle.table_nodes.specs.Steps.{place, rows_of}
 use Rattle.table_nodes.proofs.BringLaws.{brings_more, brings_none, brings_then, brings_touched, brings_written, keeps_lasts}
 use Rattle.table_nodes.proofs.NodeLaws.{fetch_back}
-use Rattle.table_nodes.proofs.SoughtLaws.{key_in_kept}
-use Rattle.table_nodes.proofs.StepLaws.{place_touched, touches_then}
+use Rattle.table_nodes.proofs.SoughtLaws.{key_held_kept, key_in_kept}
+use Rattle.table_nodes.proofs.StepLaws.{place_touched, side_map, touches_then}
 use Rattle.table_nodes.proofs.Putting.{root_named, no_root, tree_left, tree_right}
 use Rattle.table_nodes.proofs.Removal.{removed_as, remove_leaf, opened_kept, left_sides, left_known, left_done, right_sides, right_known, right_done, here_done, here_fault, gone_leaf, gone_left, gone_right, gone_here}
 use Rattle.table_nodes.proofs.Sparing.{spares_none, spares_then, spares_touched}
 use Rattle.table_nodes.proofs.WingLaws.{wing_held_kept}
 use Rattle.table_nodes.proofs.FaultLaws.{node_fault_back, height_failed, the_node}
+use Rattle.table_nodes.proofs.RangeLaws.{left_between, right_between}
 use Rattle.table_nodes.proofs.remove.+remove.Goals as goal
 
 pub returns-in_default-clause-removed : goal.returns-in_default-clause-removed
