@@ -245,15 +245,3 @@ returns-in-Err-enter-clause-fault g t c = change_fault_back (g.V.Vault.outside c
 
 pub returns-in-Err-enter-2-clause-fault : goal.returns-in-Err-enter-2-clause-fault
 returns-in-Err-enter-2-clause-fault g t c = change_fault_back (g.V.Vault.outside c.args.vault.now) (g.V.Vault.outside c.open_node.new.vault) _ c.in-Err-enter-2.fault c.in-Ok-open_node.ensures.grows.contents c.in-Err-enter-2.ensures.fault
-
-pub enter-requires-clause-low : goal.enter-requires-clause-low
-enter-requires-clause-low g t c = side_map (IsNode c.args.sw.now) (IsNode c.open_node.new.sw) (λ n h. c.in-Ok-open_node.ensures.grows.nodes n h) c.args.low c.requires.low
-
-pub enter-requires-clause-high : goal.enter-requires-clause-high
-enter-requires-clause-high g t c = c.in-Ok-open_node.ensures.grows.nodes _ (the_node c.args.sw.now c.args.root c.in-Some.at c.in-Some.is c.requires.root)
-
-pub enter-requires-in-Greater-clause-low : goal.enter-requires-in-Greater-clause-low
-enter-requires-in-Greater-clause-low g t c = c.in-Ok-open_node.ensures.grows.nodes _ (the_node c.args.sw.now c.args.root c.in-Some.at c.in-Some.is c.requires.root)
-
-pub enter-requires-in-Greater-clause-high : goal.enter-requires-in-Greater-clause-high
-enter-requires-in-Greater-clause-high g t c = side_map (IsNode c.args.sw.now) (IsNode c.open_node.new.sw) (λ n h. c.in-Ok-open_node.ensures.grows.nodes n h) c.args.high c.requires.high

@@ -350,15 +350,3 @@ returns-in-Err-remove-clause-fault g t c =
 pub returns-in-Err-remove-2-clause-fault : goal.returns-in-Err-remove-2-clause-fault
 returns-in-Err-remove-2-clause-fault g t c =
     node_fault_back (g.V.Vault.outside c.args.vault.now) (g.V.Vault.outside c.open_node.new.vault) _ c.in-Err-remove-2.fault c.in-Ok.ensures.grows.contents (node_fault_back (g.V.Vault.outside c.open_node.new.vault) (g.V.Vault.outside c.open_left.new.vault) _ c.in-Err-remove-2.fault c.in-Ok-open_left.ensures.grows.contents c.in-Err-remove-2.ensures.fault)
-
-pub remove-requires-clause-low : goal.remove-requires-clause-low
-remove-requires-clause-low g t c = side_map (IsNode c.args.sw.now) (IsNode c.open_right.new.sw) (λ n h. c.in-Ok-open_right.ensures.grows.nodes n (c.in-Ok.ensures.grows.nodes n h)) c.args.low c.requires.low
-
-pub remove-requires-clause-high : goal.remove-requires-clause-high
-remove-requires-clause-high g t c = c.in-Ok-open_right.ensures.grows.nodes _ (c.in-Ok.ensures.grows.nodes _ (the_node c.args.sw.now c.args.root c.in-Some.at c.in-Some.is c.requires.root))
-
-pub remove-requires-in-Greater-clause-low : goal.remove-requires-in-Greater-clause-low
-remove-requires-in-Greater-clause-low g t c = c.in-Ok-open_left.ensures.grows.nodes _ (c.in-Ok.ensures.grows.nodes _ (the_node c.args.sw.now c.args.root c.in-Some.at c.in-Some.is c.requires.root))
-
-pub remove-requires-in-Greater-clause-high : goal.remove-requires-in-Greater-clause-high
-remove-requires-in-Greater-clause-high g t c = side_map (IsNode c.args.sw.now) (IsNode c.open_left.new.sw) (λ n h. c.in-Ok-open_left.ensures.grows.nodes n (c.in-Ok.ensures.grows.nodes n h)) c.args.high c.requires.high
