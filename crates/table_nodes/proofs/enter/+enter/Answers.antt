@@ -1,4 +1,4 @@
-use Rattle.std.proofs.Common.{◌*◌, IfSome, Some, Ok, Err, refl, sym, ◌∙◌, subst, arith, inl, inr}
+use Rattle.std.proofs.Common.{rules, ◌*◌, IfSome, Some, Ok, Err, refl, sym, ◌∙◌, subst, arith, inl, inr}
 use Rattle.heap_places.specs.swizzle.Heap.{Heap}
 use Rattle.heap_places.specs.swizzle.Touch.{Keeps}
 use Rattle.heap_places.proofs.of_swizzle.TouchLaws.{keeps-refl, keeps-trans}
@@ -245,3 +245,15 @@ returns-in-Err-enter-clause-fault g t c = change_fault_back (g.V.Vault.outside c
 
 pub returns-in-Err-enter-2-clause-fault : goal.returns-in-Err-enter-2-clause-fault
 returns-in-Err-enter-2-clause-fault g t c = change_fault_back (g.V.Vault.outside c.args.vault.now) (g.V.Vault.outside c.open_node.new.vault) _ c.in-Err-enter-2.fault c.in-Ok-open_node.ensures.grows.contents c.in-Err-enter-2.ensures.fault
+
+pub enter-requires : goal.enter-requires
+enter-requires g t c =
+    let low = side_map (IsNode c.args.sw.now) (IsNode c.open_node.new.sw) c.in-Ok-open_node.ensures.grows.nodes c.args.low c.requires.low in
+    let high = c.in-Ok-open_node.ensures.grows.nodes c.in-Some.at (the_node c.args.sw.now c.args.root c.in-Some.at c.in-Some.is c.requires.root) in
+    search (rules, low, high)
+
+pub enter-requires-in-Greater : goal.enter-requires-in-Greater
+enter-requires-in-Greater g t c =
+    let high = side_map (IsNode c.args.sw.now) (IsNode c.open_node.new.sw) c.in-Ok-open_node.ensures.grows.nodes c.args.high c.requires.high in
+    let low = c.in-Ok-open_node.ensures.grows.nodes c.in-Some.at (the_node c.args.sw.now c.args.root c.in-Some.at c.in-Some.is c.requires.root) in
+    search (rules, low, high)

@@ -1,4 +1,4 @@
-use Rattle.std.proofs.Common.{◌+◌, ◌*◌, ◌-◌, Ok, Some, IfSome, refl, sym, ◌∙◌, subst, arith}
+use Rattle.std.proofs.Common.{rules, ◌+◌, ◌*◌, ◌-◌, Ok, Some, IfSome, refl, sym, ◌∙◌, subst, arith}
 use Rattle.avl_trees.specs.Trees.{leaf, node}
 use Rattle.avl_trees.specs.Standing.{row_of}
 use Rattle.avl_trees.proofs.Standing.{stands_grown}
@@ -350,3 +350,15 @@ returns-in-Err-remove-clause-fault g t c =
 pub returns-in-Err-remove-2-clause-fault : goal.returns-in-Err-remove-2-clause-fault
 returns-in-Err-remove-2-clause-fault g t c =
     node_fault_back (g.V.Vault.outside c.args.vault.now) (g.V.Vault.outside c.open_node.new.vault) _ c.in-Err-remove-2.fault c.in-Ok.ensures.grows.contents (node_fault_back (g.V.Vault.outside c.open_node.new.vault) (g.V.Vault.outside c.open_left.new.vault) _ c.in-Err-remove-2.fault c.in-Ok-open_left.ensures.grows.contents c.in-Err-remove-2.ensures.fault)
+
+pub remove-requires : goal.remove-requires
+remove-requires g t c =
+    let low = side_map (IsNode c.args.sw.now) (IsNode c.open_right.new.sw) (λ n h. c.in-Ok-open_right.ensures.grows.nodes n (c.in-Ok.ensures.grows.nodes n h)) c.args.low c.requires.low in
+    let high = c.in-Ok-open_right.ensures.grows.nodes c.in-Some.at (c.in-Ok.ensures.grows.nodes c.in-Some.at (the_node c.args.sw.now c.args.root c.in-Some.at c.in-Some.is c.requires.root)) in
+    search (rules, low, high)
+
+pub remove-requires-in-Greater : goal.remove-requires-in-Greater
+remove-requires-in-Greater g t c =
+    let high = side_map (IsNode c.args.sw.now) (IsNode c.open_left.new.sw) (λ n h. c.in-Ok-open_left.ensures.grows.nodes n (c.in-Ok.ensures.grows.nodes n h)) c.args.high c.requires.high in
+    let low = c.in-Ok-open_left.ensures.grows.nodes c.in-Some.at (c.in-Ok.ensures.grows.nodes c.in-Some.at (the_node c.args.sw.now c.args.root c.in-Some.at c.in-Some.is c.requires.root)) in
+    search (rules, low, high)
