@@ -1,8 +1,6 @@
-use Rattle.std.proofs.Common.{◌≡◌, ◌≢◌, ◌⊎◌, ℕ, ◌+◌, ◌<◌, ◌≤◌, inl, inr, get_or, subst, sym, ap, arith, ◌∙◌}
+use Rattle.std.proofs.Common.{◌≡◌, ◌≢◌, ◌⊎◌, ℕ, ◌+◌, ◌<◌, ◌≤◌, inl, inr, get_or, subst, sym, arith, ◌∙◌}
 use Rattle.std.proofs.lemmas.Bool.{cases_eq}
-use Rattle.paged_volume.specs.Layout.{capacity_pages}
 use Rattle.paged_volume.specs.Staging.{HasPages, Marks}
-use Rattle.paged_volume.specs.declared.committed.Committed.{Committed}
 use Rattle.paged_volume.specs.declared.table.Table.{Table}
 use Rattle.paged_volume_tests.proofs.volumes.fill.Goals as goal
 
