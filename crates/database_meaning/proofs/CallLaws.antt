@@ -218,7 +218,7 @@ opened-right openings more h is r = record {
 }
 
 refused-right : (context : List ℕ) (fault : Fault) (h : Held) → IsRight h → IsRight (refused context fault h).held
-refused-right context fault h r = counting-right (whole_weight (error_record context fault)) (with_object (error_record context fault) h) (made-right (error_record context fault) h r (λ y l. absurd l))
+refused-right context fault h r = counting-right (whole_weight h.weigh (error_record context fault)) (with_object (error_record context fault) h) (made-right (error_record context fault) h r (λ y l. absurd l))
 
 created-right : (name password : List ℕ) (h : Held) → IsRight h → IsRight (created_database name password h).held
 created-right name password h r =
@@ -277,11 +277,7 @@ open-right name password mode h r = go (admission h.directory name password mode
     go (Admits to Writing) = if_replied-right _ (opened_database to Writing) (opens-right to Writing) (touching (to.database.root ∷ []) h) (touching-right (to.database.root ∷ []) h r)
 
 known-right : (h : Held) → IsRight h → IsRight (directory_known h)
-known-right h r = go h.asked
-  where
-    go : (b : Bool) → IsRight (if b then h else counting (full_directory_weight h.directory) (record h { asked = true }))
-    go true = r
-    go false = counting-right (full_directory_weight h.directory) (record h { asked = true }) (asked-right h r)
+known-right h r = counting-right (if h.asked then 0 else full_directory_weight h.directory) (record h { asked = true }) (asked-right h r)
 
 pub asks_create-right : (name : List ℕ) (h : Held) → IsRight h → IsRight (asks_to_create name h).held
 unfolding asks_to_create

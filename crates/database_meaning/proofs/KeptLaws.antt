@@ -3,7 +3,7 @@ use Rattle.std.proofs.Common.{Bool, true, false, inl, inr, ◌⊎◌, ◌≡◌,
 use Rattle.std.specs.Prelude.{◌&&◌}
 use Rattle.std.proofs.lemmas.Bool.{cases_Bool, cases_eq, cases_order, true≢false, eqb-true, eqb-false}
 use Rattle.std.proofs.lemmas.List.{length-set, length-append}
-use Rattle.ps_heap.specs.Values.{Value}
+use Rattle.ps_heap.specs.Values.{Value, Routine}
 use Rattle.reaching.specs.Reaching.{IsIn, is_in, by_step}
 use Rattle.reaching.proofs.Lists.{then_is, else_is, is_in-in, in-is_in, in-append, in-front, in-behind}
 use Rattle.reaching.proofs.WalkLaws.{least-in, in-least}
@@ -11,7 +11,7 @@ use Rattle.ps_heap.specs.Tables.{is_same_key}
 use Rattle.ps_heap.specs.Objects.{Object, Structure, Elements, Scope, Keyed, Heap, object_at}
 use Rattle.ps_heap.specs.References.{with_part, scope_ids, value_ids, values_ids, object_ids, next_in}
 use Rattle.ps_heap.specs.Databases.{every_root, is_there}
-use Rattle.ps_heap.specs.Held.{Held, Place, Part, Under, object_of, weight_at, is_same_place, is_among, home_at, home_if, noted, put_part, assigned_part, with_object, touched_once, touching, StoredHeap, row, every_id, reached_from_roots, Reply, started}
+use Rattle.ps_heap.specs.Held.{Held, Place, Part, Under, object_of, weight_at, is_same_place, is_among, home_at, home_if, places_with, noted, put_part, assigned_part, with_object, touching, StoredHeap, row, every_id, reached_from_roots, Reply, started}
 use Rattle.ps_heap.specs.Commit.{homes_after, Saves, saved, decision, after_decision}
 use Rattle.database_meaning.specs.Sound.{HasPlace, IsCommitted, AreThere, IsAssigned, AreHomed, IsRight}
 use Rattle.database_meaning.proofs.CommitLaws.{none≢some, row-at, row-below, after-below, saved-is, closed}
@@ -31,7 +31,7 @@ home-if : (b : Bool) (home : Option ℕ) (n : ℕ) → home_if b home ≡ Some n
 home-if true home n e = (refl, e)
 home-if false home n e = absurd (none≢some e)
 
-module _ (replies : List Reply) (counted : ℕ) (stored : StoredHeap) (there : AreThere stored.objects) (homed : AreHomed stored) where
+module _ (weigh : Routine → ℕ) (replies : List Reply) (counted : ℕ) (stored : StoredHeap) (there : AreThere stored.objects) (homed : AreHomed stored) where
   abbrev homes : List (Option ℕ)
   homes = row (λ id. home_if (is_in id (reached_from_roots stored)) (home_at stored.homes id)) 0 (length stored.objects)
 
@@ -55,8 +55,7 @@ module _ (replies : List Reply) (counted : ℕ) (stored : StoredHeap) (there : A
       let home = homed y next in
       (home.0, start-home y (there x y goes) ∙ (ap (λ b. home_if b (home_at stored.homes y)) (in-is_in y (reached_from_roots stored) next) ∙ home.1))
 
-  pub start-right : IsRight (started replies counted stored)
-  unfolding started
+  pub start-right : IsRight (started weigh replies counted stored)
   start-right = record {
     sound = record { committed = λ place h. absurd h; open_too = λ n h. absurd h };
     there = there;
@@ -208,24 +207,27 @@ module _ (h : Held) (objects : Heap) (place : Place) (r : IsRight h) (long : len
   }
 
   pub change-right : IsRight (noted place changed)
-  unfolding noted
+  unfolding places_with
   change-right =
       elim (cases_Bool (is_there (home_at h.homes (object_of place)))) [
         | inr loose ↦
-            subst IsRight (sym (else_is (is_there (home_at h.homes (object_of place))) inner changed loose))
+            subst IsWith (sym (else_is (is_there (home_at h.homes (object_of place))) inner h.assigned loose))
             (same-places (λ x e c. absurd (true≢false (sym (ap is_there c.1) ∙ (ap (λ k. is_there (home_at h.homes k)) e ∙ loose)))))
         | inl is ↦
-            subst IsRight (sym (then_is (is_there (home_at h.homes (object_of place))) inner changed is))
+            subst IsWith (sym (then_is (is_there (home_at h.homes (object_of place))) inner h.assigned is))
             (elim (cases_Bool (is_among place h.assigned)) [
               | inl old ↦
-                  subst IsRight (sym (then_is (is_among place h.assigned) changed (record changed { assigned = h.assigned ++ place ∷ [] }) old))
+                  subst IsWith (sym (then_is (is_among place h.assigned) h.assigned (h.assigned ++ place ∷ []) old))
                   (same-places (λ x e c. let a = among place h.assigned old in record { place = a.place; there = a.there; object_is = a.object_is ∙ sym e }))
-              | inr new ↦ subst IsRight (sym (else_is (is_among place h.assigned) changed (record changed { assigned = h.assigned ++ place ∷ [] }) new)) (one-more is)
+              | inr new ↦ subst IsWith (sym (else_is (is_among place h.assigned) h.assigned (h.assigned ++ place ∷ []) new)) (one-more is)
             ])
       ]
     where
-      inner : Held
-      inner = if is_among place h.assigned then changed else record changed { assigned = h.assigned ++ place ∷ [] }
+      IsWith : List Place → Type 0
+      IsWith places = IsRight (record changed { assigned = places })
+
+      inner : List Place
+      inner = if is_among place h.assigned then h.assigned else h.assigned ++ place ∷ []
 
 -- A field, an element or a kept name.
 
@@ -249,7 +251,7 @@ part-ids (Scope text parent names) n v y l =
 part-ids (Keyed table) n v y l = inl l
 
 pub assigned-right : (id n : ℕ) (v : Value) (h : Held) → IsRight h → ((y : ℕ) → IsIn y (value_ids v) → y < length h.objects) → IsRight (assigned_part id n v h)
-unfolding assigned_part next_in
+unfolding next_in
 assigned-right id n v h r low = go (object_at h.objects id) refl
   where
     go : (o : Option Object) → object_at h.objects id ≡ o → IsRight (noted (Part id n) (record h { objects = put_part o id n v h.objects }))
@@ -271,35 +273,13 @@ assigned-right id n v h r low = go (object_at h.objects id) refl
 
 -- Touching and counting change nothing of this.
 
-pub touched-right : (id : ℕ) (h : Held) → IsRight h → IsRight (touched_once id h)
-unfolding touched_once
-touched-right id h r =
-    elim (cases_Bool (is_there (home_at h.homes id))) [
-      | inr loose ↦ subst IsRight (sym (else_is (is_there (home_at h.homes id)) inner h loose)) r
-      | inl is ↦ subst IsRight (sym (then_is (is_there (home_at h.homes id)) inner h is)) (elim (cases_Bool (is_in id h.touched)) [
-        | inl old ↦ subst IsRight (sym (then_is (is_in id h.touched) h more old)) r
-        | inr new ↦ subst IsRight (sym (else_is (is_in id h.touched) h more new)) (of_more)
-      ])
-    ]
-  where
-    more : Held
-    more = record h { touched = id ∷ h.touched; counted = h.counted + weight_at (object_at h.objects id) }
-
-    inner : Held
-    inner = if is_in id h.touched then h else record h { touched = id ∷ h.touched; counted = h.counted + weight_at (object_at h.objects id) }
-
-    of_more : IsRight more
-    of_more = record {
-      sound = record { committed = r.sound.committed; open_too = r.sound.open_too };
-      there = r.there;
-      homed = r.homed;
-      closed = λ x y c goes. elim (r.closed x y c goes) [ inl is ↦ inl is | inr a ↦ inr (record { place = a.place; there = a.there; object_is = a.object_is }) ];
-    }
-
 pub touching-right : (ids : List ℕ) (h : Held) → IsRight h → IsRight (touching ids h)
-unfolding touching
-touching-right [] h r = r
-touching-right (id ∷ ids) h r = touching-right ids (touched_once id h) (touched-right id h r)
+touching-right ids h r = record {
+  sound = record { committed = r.sound.committed; open_too = r.sound.open_too };
+  there = r.there;
+  homed = r.homed;
+  closed = λ x y c goes. elim (r.closed x y c goes) [ inl is ↦ inl is | inr a ↦ inr (record { place = a.place; there = a.there; object_is = a.object_is }) ];
+}
 
 -- A commit.
 

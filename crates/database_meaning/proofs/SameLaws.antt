@@ -185,21 +185,22 @@ next-renamed a b s x there = ap object_ids (s.objects x there) ∙ ids-renamed s
 root-renamed : (a b : StoredHeap) (s : IsSame a b) → every_root b.directory ≡ map s.new (every_root a.directory)
 root-renamed a b s = ap every_root s.databases ∙ roots-renamed s.new a.directory
 
-forth : (a b : StoredHeap) (s : IsSame a b) (x : ℕ) → IsInHeap a x → IsInHeap b (s.new x)
-forth a b s x (at_start y is u) = at_start (s.new x) (subst (IsIn (s.new x)) (sym (root-renamed a b s)) (in-map s.new x (every_root a.directory) is)) tt
-forth a b s x (by_step w y before goes u) =
-    by_step (s.new w) (s.new x) (forth a b s w before) (subst (IsIn (s.new x)) (sym (next-renamed a b s w before)) (in-map s.new x (next_in a.objects w) goes)) tt
+pub reached-forth : (a b : StoredHeap) (s : IsSame a b) (x : ℕ) → IsInHeap a x → IsInHeap b (s.new x)
+reached-forth a b s x (at_start y is u) = at_start (s.new x) (subst (IsIn (s.new x)) (sym (root-renamed a b s)) (in-map s.new x (every_root a.directory) is)) tt
+reached-forth a b s x (by_step w y before goes u) =
+    by_step (s.new w) (s.new x) (reached-forth a b s w before) (subst (IsIn (s.new x)) (sym (next-renamed a b s w before)) (in-map s.new x (next_in a.objects w) goes)) tt
 
-record From (a b : StoredHeap) (s : IsSame a b) (z : ℕ) : Type 0 where
-  old : ℕ
-  there : IsInHeap a old
-  is : z ≡ s.new old
+-- the id that goes with one that is reached
+pub record ReachedFrom (a b : StoredHeap) (s : IsSame a b) (z : ℕ) : Type 0 where
+  pub old : ℕ
+  pub there : IsInHeap a old
+  pub is : z ≡ s.new old
 
-from : (a b : StoredHeap) (s : IsSame a b) (z : ℕ) → IsInHeap b z → From a b s z
-from a b s z (at_start y is u) =
+pub reached-from : (a b : StoredHeap) (s : IsSame a b) (z : ℕ) → IsInHeap b z → ReachedFrom a b s z
+reached-from a b s z (at_start y is u) =
     let r = map-in s.new z (every_root a.directory) (subst (IsIn z) (root-renamed a b s) is) in record { old = r.old; there = at_start r.old r.there tt; is = r.is }
-from a b s z (by_step w y before goes u) =
-    let f = from a b s w before in
+reached-from a b s z (by_step w y before goes u) =
+    let f = reached-from a b s w before in
     let r = map-in s.new z (next_in a.objects f.old) (subst (IsIn z) (ap (next_in b.objects) f.is ∙ next-renamed a b s f.old f.there) goes) in
     record { old = r.old; there = by_step f.old r.old f.there r.there tt; is = r.is }
 
@@ -225,9 +226,9 @@ same-back a b s = record {
   back = s.new;
   databases = sym (ap (map (renamed_database s.back)) s.databases ∙ (databases-twice s.new s.back a.directory
       ∙ databases-kept (λ x. s.back (s.new x)) a.directory (λ x l. s.one x (at_start x l tt))));
-  one = λ z l. let f = from a b s z l in ap (λ y. s.new (s.back y)) f.is ∙ (ap s.new (s.one f.old f.there) ∙ sym f.is);
+  one = λ z l. let f = reached-from a b s z l in ap (λ y. s.new (s.back y)) f.is ∙ (ap s.new (s.one f.old f.there) ∙ sym f.is);
   objects = λ z l.
-      let f = from a b s z l in
+      let f = reached-from a b s z l in
       let there : s.back z ≡ f.old = ap s.back f.is ∙ s.one f.old f.there in
       let here : option_map (renamed s.back) (object_at b.objects z) ≡ object_at a.objects f.old =
       ap (λ y. option_map (renamed s.back) (object_at b.objects y)) f.is
@@ -236,7 +237,7 @@ same-back a b s = record {
       ∙ object-kept (λ x. s.back (s.new x)) (object_at a.objects f.old) (λ x m. s.one x (by_step f.old x f.there (step a f.old x m) tt)))) in
       ap (object_at a.objects) there ∙ sym here;
   homes = λ z l.
-      let f = from a b s z l in
+      let f = reached-from a b s z l in
       ap (home_at a.homes) (ap s.back f.is ∙ s.one f.old f.there) ∙ (sym (s.homes f.old f.there) ∙ ap (home_at b.homes) (sym f.is));
 }
 
@@ -245,7 +246,7 @@ same-then a b c s t = record {
   new = λ x. t.new (s.new x);
   back = λ x. s.back (t.back x);
   databases = t.databases ∙ (ap (map (renamed_database t.new)) s.databases ∙ databases-twice s.new t.new a.directory);
-  one = λ id l. ap s.back (t.one (s.new id) (forth a b s id l)) ∙ s.one id l;
-  objects = λ id l. t.objects (s.new id) (forth a b s id l) ∙ (ap (option_map (renamed t.new)) (s.objects id l) ∙ object-twice s.new t.new (object_at a.objects id));
-  homes = λ id l. t.homes (s.new id) (forth a b s id l) ∙ s.homes id l;
+  one = λ id l. ap s.back (t.one (s.new id) (reached-forth a b s id l)) ∙ s.one id l;
+  objects = λ id l. t.objects (s.new id) (reached-forth a b s id l) ∙ (ap (option_map (renamed t.new)) (s.objects id l) ∙ object-twice s.new t.new (object_at a.objects id));
+  homes = λ id l. t.homes (s.new id) (reached-forth a b s id l) ∙ s.homes id l;
 }

@@ -1,11 +1,11 @@
 -- When a commit is refused, does nothing, or saves; and that a touch counts once.
-use Rattle.std.proofs.Common.{Bool, true, false, inl, inr, ◌≡◌, ◌≢◌, ℕ, ◌+◌, List, [], ◌∷◌, refl, sym, ap, ◌∙◌, Option, Some, None, if◌then◌else◌}
+use Rattle.std.proofs.Common.{arith, Bool, true, false, inl, inr, ◌≡◌, ◌≢◌, ℕ, ◌+◌, List, [], ◌∷◌, refl, sym, ap, ◌∙◌, Option, Some, None, if◌then◌else◌}
 use Rattle.std.specs.Prelude.{not, ◌&&◌}
 use Rattle.std.proofs.lemmas.Bool.{cases_Bool, true≢false}
 use Rattle.reaching.specs.Reaching.{IsIn, is_in}
 use Rattle.reaching.proofs.Lists.{then_is, in-is_in, not_in}
 use Rattle.ps_heap.specs.Databases.{open_for_writing, is_there}
-use Rattle.ps_heap.specs.Held.{Held, StoredHeap, Place, object_of, home_at, weight_at, touched_once}
+use Rattle.ps_heap.specs.Held.{Held, StoredHeap, Place, object_of, home_at, weight_at, is_first_touch, touched_after, touched_weight, touching}
 use Rattle.ps_heap.specs.Objects.{object_at}
 use Rattle.ps_heap.specs.Commit.{is_writable, are_writable, is_empty, Decision, NotWritable, NothingToDo, Saves, saved, decision}
 use Rattle.database_meaning.specs.Sound.{HasPlace, IsWritable, IsRefused}
@@ -112,31 +112,32 @@ saves-is h w some = third-test (are_writable h.homes (open_for_writing h.opening
 
 -- Touching.
 
-touch : Bool → Bool → ℕ → Held → Held
-touch committed before id h = if committed then (if before then h else record h { touched = id ∷ h.touched; counted = h.counted + weight_at (object_at h.objects id) }) else h
+touch : Bool → ℕ → ℕ → Held → Held
+touch first id weight h = record h { touched = if first then id ∷ h.touched else h.touched; counted = h.counted + ((if first then weight else 0) + 0) }
 
-pub touched-once : (h : Held) (id : ℕ) → touched_once id (touched_once id h) ≡ touched_once id h
-unfolding touched_once touch
+no_more : (h : Held) → record h { counted = h.counted + (0 + 0) } ≡ h
+no_more h = let same : h.counted + (0 + 0) ≡ h.counted = omega arith in ap (λ n. record h { counted = n }) same
+
+never_again : (homes : List (Option ℕ)) (id : ℕ) (touched : List ℕ) → is_first_touch homes id (id ∷ touched) ≡ false
+unfolding is_first_touch
+never_again homes id touched = ap (λ b. is_there (home_at homes id) && not b) (in-is_in id (id ∷ touched) (inl refl)) ∙ none (is_there (home_at homes id))
+  where
+    none : (b : Bool) → (b && false) ≡ false
+    none true = refl
+    none false = refl
+
+pub touched-once : (h : Held) (id : ℕ) → touching (id ∷ []) (touching (id ∷ []) h) ≡ touching (id ∷ []) h
+unfolding touched_after touched_weight touch
 touched-once h id =
-    let committed = is_there (home_at h.homes id) in
-    let before = is_in id h.touched in
-    elim (cases_Bool committed) [
-      | inr none ↦ ap (touched_once id) (same none before) ∙ refl
-      | inl is ↦ elim (cases_Bool before) [
-        | inl was ↦ ap (touched_once id) (already is was)
-        | inr new ↦ again is new
-      ]
+    elim (cases_Bool (is_first_touch h.homes id h.touched)) [
+      | inl is ↦
+          let first : touching (id ∷ []) h ≡ touch true id weight h = ap (λ b. touch b id weight h) is in
+          ap (touching (id ∷ [])) first ∙ (again ∙ sym first)
+      | inr was ↦ ap (touching (id ∷ [])) (ap (λ b. touch b id weight h) was ∙ no_more h)
     ]
   where
-    same : is_there (home_at h.homes id) ≡ false → (b : Bool) → touched_once id h ≡ h
-    same none b = ap (λ c. touch c (is_in id h.touched) id h) none
+    weight : ℕ
+    weight = weight_at h.weigh (object_at h.objects id)
 
-    already : is_there (home_at h.homes id) ≡ true → is_in id h.touched ≡ true → touched_once id h ≡ h
-    already is was = ap (λ c. touch c (is_in id h.touched) id h) is ∙ ap (λ b. touch true b id h) was
-
-    again : is_there (home_at h.homes id) ≡ true → is_in id h.touched ≡ false → touched_once id (touched_once id h) ≡ touched_once id h
-    again is new =
-        let first : touched_once id h ≡ touch true false id h = ap (λ c. touch c (is_in id h.touched) id h) is ∙ ap (λ b. touch true b id h) new in
-        let second : touched_once id (touch true false id h) ≡ touch true false id h =
-        ap (λ c. touch c (is_in id (id ∷ h.touched)) id (touch true false id h)) is ∙ ap (λ b. touch true b id (touch true false id h)) (in-is_in id (id ∷ h.touched) (inl refl)) in
-        ap (touched_once id) first ∙ (second ∙ sym first)
+    again : touching (id ∷ []) (touch true id weight h) ≡ touch true id weight h
+    again = ap (λ b. touch b id weight (touch true id weight h)) (never_again h.homes id h.touched) ∙ no_more (touch true id weight h)

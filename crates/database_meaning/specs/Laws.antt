@@ -1,12 +1,12 @@
 -- What is so of commits.
-use Rattle.std.specs.Prelude.{◌≡◌, ◌≢◌, ◌⊎◌, ◌↔◌, ℕ, ◌<◌, List, [], length, Some}
-use Rattle.ps_heap.specs.Values.{Value}
+use Rattle.std.specs.Prelude.{◌≡◌, ◌≢◌, ◌⊎◌, ◌↔◌, ℕ, ◌<◌, List, [], ◌∷◌, length, Some}
+use Rattle.ps_heap.specs.Values.{Value, Routine}
 use Rattle.ps_heap.specs.Texts.{Yields}
 use Rattle.reaching.specs.Reaching.{IsIn}
 use Rattle.ps_heap.specs.Tables.{Key}
 use Rattle.ps_heap.specs.Objects.{Object}
 use Rattle.ps_heap.specs.References.{value_ids, object_ids}
-use Rattle.ps_heap.specs.Held.{Held, Reply, StoredHeap, home_at, started, counting, with_object, assigned_part, touched_once, touching}
+use Rattle.ps_heap.specs.Held.{Held, Reply, StoredHeap, home_at, started, counting, with_object, assigned_part, touching}
 use Rattle.ps_heap.specs.Commit.{IsNewlyReached, newly_reached, first_database, NotWritable, NothingToDo, Saves, saved, decision}
 use Rattle.ps_heap.specs.Calls.{enter_call, asks_to_create, asks_to_open, create_answer, open_answer, commit_call}
 use Rattle.database_meaning.specs.Same.{IsSame}
@@ -48,7 +48,7 @@ StepsAreInOrder = (h : Held) →
 
 -- Touching twice is touching once.
 abbrev pub TouchedOnce : Type 0
-TouchedOnce = (h : Held) (id : ℕ) → touched_once id (touched_once id h) ≡ touched_once id h
+TouchedOnce = (h : Held) (id : ℕ) → touching (id ∷ []) (touching (id ∷ []) h) ≡ touching (id ∷ []) h
 
 -- To be the same but for ids is an equivalence.
 abbrev pub SameIsAnEquivalence : Type 0
@@ -63,7 +63,7 @@ abbrev pub RefersThere : Held → List ℕ → Type 0
 RefersThere h ids = (y : ℕ) → IsIn y ids → y < length h.objects
 
 pub record RunsStayRight : Type 0 where
-  pub start : (replies : List Reply) (counted : ℕ) (stored : StoredHeap) → AreThere stored.objects → AreHomed stored → IsRight (started replies counted stored)
+  pub start : (weigh : Routine → ℕ) (replies : List Reply) (counted : ℕ) (stored : StoredHeap) → AreThere stored.objects → AreHomed stored → IsRight (started weigh replies counted stored)
   pub makes : (object : Object) (h : Held) → IsRight h → RefersThere h (object_ids (Some object)) → IsRight (with_object object h)
   pub counts : (bytes : ℕ) (h : Held) → IsRight h → IsRight (counting bytes h)
   pub assigns : (id n : ℕ) (v : Value) (h : Held) → IsRight h → RefersThere h (value_ids v) → IsRight (assigned_part id n v h)

@@ -10,6 +10,7 @@ use Rattle.ps_heap.specs.Operators.{is_int}
 use Rattle.ps_heap.specs.Texts.{is_string}
 use Rattle.ps_heap.specs.Values.{Value, Num, Flag, Text, Nil, Pointer, Vector, Procedure, as_written}
 use Rattle.ps_heap.specs.Objects.{is_vector}
+pub use Rattle.ps_soundness.specs.Shapes.{IsPointedAt, at_structure, at_table}
 use Rattle.ps_soundness.specs.Shapes.{type_of_body}
 use Rattle.ps_soundness.specs.Valued.{IsValued}
 use Rattle.ps_heap.specs.Tables.{Entry, Table, without_keys, by_strings, by_ints, IsInKeyOrder}
@@ -20,11 +21,6 @@ use Rattle.ps_heap.specs.Held.{StoredHeap, home_at}
 use Rattle.database_meaning.specs.Same.{IsInHeap}
 use Rattle.heap_fit.specs.Slots.{mentions}
 use Rattle.heap_fit.specs.Bodies.{whole, IsFitBody}
-
--- a structure or a table has this id: what a pntr denotes
-pub data IsPointed (heap : Heap) (id : ℕ) : Type 0 where
-  at_structure : (class : List ℕ) (fields : List Value) → object_at heap id ≡ Some (Structure class fields) → IsPointed heap id
-  at_table : (table : Table) → object_at heap id ≡ Some (Keyed table) → IsPointed heap id
 
 pub record IsVectorAt (heap : Heap) (ty : TyView) (id : ℕ) : Type 0 where
   pub low : ℤ
@@ -51,7 +47,7 @@ IsFitValue heap types.Int (Num z) = is_int z ≡ true
 IsFitValue heap types.Bool (Flag b) = Unit {0}
 IsFitValue heap types.Str (Text bytes) = is_string bytes ≡ true
 IsFitValue heap types.Pntr Nil = Unit {0}
-IsFitValue heap types.Pntr (Pointer id) = IsPointed heap id
+IsFitValue heap types.Pntr (Pointer id) = IsPointedAt heap id
 IsFitValue heap (types.Vector element) (Vector id) = IsVectorAt heap (types.Vector element) id
 IsFitValue heap (types.Proc parameters gives) (Procedure (as_written of) scope) = IsFitProcedure heap (types.Proc parameters gives) of scope
 IsFitValue heap ty v = ⊥
@@ -117,7 +113,7 @@ pub record IsFitScope (stored : StoredHeap) (id : ℕ) (text : List ℕ) (parent
   pub are : AreFitNames stored id 0 names values
 
 abbrev pub AreFitEntries : {K : Type 0} → Heap → (K → Type 0) → List (Entry K) → Type 0
-AreFitEntries heap IsKey entries = AllByRecursion (λ entry. IsKey entry.key × IsPointed heap entry.object) entries
+AreFitEntries heap IsKey entries = AllByRecursion (λ entry. IsKey entry.key × IsPointedAt heap entry.object) entries
 
 abbrev pub IsFitTable : Heap → Table → Type 0
 IsFitTable heap without_keys = Unit {0}

@@ -142,7 +142,7 @@ module _ (before after : Outside Space) (n : ℕ) (line : Line) (m : Machine) wh
         does = λ c h.
             let b = below h.names c h.held in
             let p = is.is h.names b.1 b.4 in
-            let a = got c.store.heap h.names p.unit p.scope h.held.world (denoted h.names b.1 p b.4) in
+            let a = got c.store.held.objects h.names p.unit p.scope h.held.world (denoted h.names b.1 p b.4) in
             let frame = frame_in p.unit in
             let step : call n line c ≡ (if takes_refs n body.frame then call_popped n body.frame.num_params line p.unit p.scope c else Stuck) =
             b.3 (λ vs v e. unit_called v (following n line vs e))
@@ -162,7 +162,7 @@ module _ (before after : Outside Space) (n : ℕ) (line : Line) (m : Machine) wh
           (λ c h.
           let b = below h.names c h.held in
           let p = is.is h.names b.1 b.4 in
-          broken-off m.objects now before after (call n line c) fault (got c.store.heap h.names p.unit p.scope h.held.world (denoted h.names b.1 p b.4)))
+          broken-off m.objects now before after (call n line c) fault (got c.store.held.objects h.names p.unit p.scope h.held.world (denoted h.names b.1 p b.4)))
 
 -- A body that was looked up.
 

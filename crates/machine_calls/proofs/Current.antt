@@ -52,7 +52,7 @@ no-way_out before after m sound in_it = record {
   names = λ n. n;
   size = refl;
   does = λ c h.
-      ap (λ (s : Option ℕ). of_scope (scope_at c.store.heap s) (λ of parent. on (record c { scope = parent }))) (no-current before m h.names c in_it h.held);
+      ap (λ (s : Option ℕ). of_scope (scope_at c.store.held.objects s) (λ of parent. on (record c { scope = parent }))) (no-current before m h.names c in_it h.held);
 }
 
 module _ (before after : Outside Space) (m : Machine) (now : area.Heap) (at : ℕ) (in_it : IsCurrent before m (Some at)) where
@@ -68,7 +68,7 @@ module _ (before after : Outside Space) (m : Machine) (now : area.Heap) (at : �
     names = λ n. names (names-kept m now keeps n);
     size = ap (λ (a : area.Heap). a.size) same ∙ keeps.size;
     does = λ c h.
-        let t = got c.store.heap h.names c.scope h.held.world (in_it h.names c h.held) in (
+        let t = got c.store.held.objects h.names c.scope h.held.world (in_it h.names c h.held) in (
           [],
           record c { scope = t.parent },
           ap (λ (o : Option Object). of_scope o (λ of parent. on (record c { scope = parent }))) t.is.is,
@@ -84,4 +84,4 @@ module _ (before after : Outside Space) (m : Machine) (now : area.Heap) (at : �
       → Takes before after leave_scope m new r
   no-parent fault new r answer is sound got =
       breaks-takes before after m now leave_scope fault new r answer is sound
-      (λ c h. broken-off m.objects now before after (leave_scope c) fault (got c.store.heap h.names c.scope h.held.world (in_it h.names c h.held)))
+      (λ c h. broken-off m.objects now before after (leave_scope c) fault (got c.store.held.objects h.names c.scope h.held.world (in_it h.names c h.held)))

@@ -1,6 +1,6 @@
 -- Names of scopes that a machine reads and writes.
 use Rattle.std.proofs.Common.{◌≡◌, ℕ, ℤ, Bool, List, [], Option, Some, None, inl, inr, refl, sym, ap, ◌∙◌, subst}
-use Rattle.std.specs.Prelude.{IfSome, Result, Ok, Err}
+use Rattle.std.specs.Prelude.{◌++◌, IfSome, Result, Ok, Err}
 use Rattle.machine_core.specs.ps_outside.Outside.{Outside}
 use Rattle.machine_core.specs.obj_layout.Stored.{Space}
 use Rattle.machine_core.specs.obj_layout.declared.reference.Reference.{Reference}
@@ -16,13 +16,14 @@ use Rattle.machine_core.specs.heap_places.Places.{IsNear}
 use Rattle.machine_core.specs.heap_places.declared.value.Value as code
 use Rattle.machine_core.specs.heap_places.declared.value.Value.TheVariants as held
 use Rattle.machine_core.specs.ps_heap.Objects.{Heap, Object, Structure, Elements, Scope, Keyed}
-use Rattle.machine_core.specs.ps_heap.Scopes.{scope_at, scope_out, kept_name, with_kept_name}
-use Rattle.machine_core.specs.ps_meaning.Meaning.{on_heap}
+use Rattle.machine_core.specs.ps_heap.Scopes.{scope_at, scope_out, kept_name}
+use Rattle.machine_core.specs.ps_heap.Held.{reading_name, assigned_name, way_out, denoted}
+use Rattle.machine_core.specs.ps_meaning.Meaning.{on_held}
 use Rattle.machine_core.specs.ps_heap.Values.{Value, Num, Flag, word_of, number_of}
 use Rattle.machine_core.specs.ps_heap.Values as value
 use Rattle.machine_core.specs.ps_stepping.Config.{Config}
 use Rattle.machine_core.specs.ps_stepping.Steps.{Step, Stuck, push_num, push_ref, pop_num, pop_ref}
-use Rattle.machine_core.specs.ps_stepping.Objects.{changed, when_number, when_reference}
+use Rattle.machine_core.specs.ps_stepping.Objects.{having, when_number, when_reference}
 use Rattle.machine_core.specs.ps_stepping.Procedures.{of_scope, kept_num, kept_ref, keep_num, keep_ref}
 use Rattle.machine_core.specs.joint_ops.World.{IsWorld, DenotesScopeIn, IsForIn, IsOfForm}
 use Rattle.joint_procedures.specs.Scopes.{HasName, IsOfRow, IsInt, ReadsKept, WritesKept}
@@ -34,20 +35,27 @@ use Rattle.machine_core.specs.Holding.{IsSound, object_in, words_of}
 use Rattle.machine_core.specs.Naming.{IsNamed, NamesObjects}
 use Rattle.machine_core.specs.Stepped.{Takes, Does, UnlessBroken}
 use Rattle.machine_core.specs.inside.Taking.{Leaves, Taken, TakenRef}
-use Rattle.machine_core.proofs.Carrying.{held-more, read-holds, sound-kept, size-behind, broken-off}
+use Rattle.machine_core.proofs.Carrying.{held-more, read-holds, touched-holds, sound-kept, size-behind, broken-off}
 use Rattle.machine_core.proofs.Naming.{names-last}
-use Rattle.machine_calls.specs.inside.Names.{number_kept, reference_kept, row_kept, number_pushed, PushesReference, WritesName}
+use Rattle.machine_calls.specs.inside.Names.{number_kept, reference_kept, row_kept, name_put, number_pushed, PushesReference, WritesName}
 use Rattle.machine_calls.proofs.Current.{IsCurrent, no-current}
 use Rattle.machine_calls.proofs.Fetching.{broken, sound-broken, names-kept, done-behind, breaks-takes, damage-breaks}
 
+-- after a name was read, and what is touched by that
+abbrev name_read : ℕ → ℕ → Config → Config
+name_read up name c = having (reading_name c.scope up name) c
+
+abbrev read_on_the_way : ℕ → ℕ → Config → List ℕ
+read_on_the_way up name c = way_out c.store.held.objects c.scope up ++ denoted (kept_name c.store.held.objects c.scope up name)
+
 -- What goes on where the name has a form.
 
-number-formed : (up name : ℕ) (c : Config) (f : Form) → HasName c.store.heap c.scope up name f → (s : Step) → number_kept up name c s ≡ when_number (Some f) s
+number-formed : (up name : ℕ) (c : Config) (f : Form) → HasName c.store.held.objects c.scope up name f → (s : Step) → number_kept up name c s ≡ when_number (Some f) s
 number-formed up name c f n s =
     ap (λ (o : Option Object). of_scope o (λ of parent. when_number (form_in (forms_of of) name) s)) n.level.is
     ∙ ap (λ (g : Option Form). when_number g s) n.place
 
-reference-formed : (up name : ℕ) (c : Config) (f : Form) → HasName c.store.heap c.scope up name f → (s : Step) → reference_kept up name c s ≡ when_reference (Some f) s
+reference-formed : (up name : ℕ) (c : Config) (f : Form) → HasName c.store.held.objects c.scope up name f → (s : Step) → reference_kept up name c s ≡ when_reference (Some f) s
 reference-formed up name c f n s =
     ap (λ (o : Option Object). of_scope o (λ of parent. when_reference (form_in (forms_of of) name) s)) n.level.is
     ∙ ap (λ (g : Option Form). when_reference g s) n.place
@@ -55,14 +63,14 @@ reference-formed up name c f n s =
 -- Where there is no name of the row, nothing follows.
 module _ (up name : ℕ) (c : Config) (s : Step) where
   abbrev Level : Option Object → Type 0
-  Level o = scope_at c.store.heap (scope_out c.store.heap c.scope up) ≡ o
+  Level o = scope_at c.store.held.objects (scope_out c.store.held.objects c.scope up) ≡ o
 
   name-at : (text : List ℕ) (parent : Option ℕ) (values : List Value) (f : Form) → Level (Some (Scope text parent values)) → form_in (forms_of text) name ≡ Some f
-      → HasName c.store.heap c.scope up name f
+      → HasName c.store.held.objects c.scope up name f
   name-at text parent values f is place = record { text = text; parent = parent; level = record { values = values; is = is }; place = place }
 
-  number-none : ((f : Form) → HasName c.store.heap c.scope up name f → when_number (Some f) s ≡ Stuck) → number_kept up name c s ≡ Stuck
-  number-none never = at (scope_at c.store.heap (scope_out c.store.heap c.scope up)) refl
+  number-none : ((f : Form) → HasName c.store.held.objects c.scope up name f → when_number (Some f) s ≡ Stuck) → number_kept up name c s ≡ Stuck
+  number-none never = at (scope_at c.store.held.objects (scope_out c.store.held.objects c.scope up)) refl
     where
       formed : (text : List ℕ) (parent : Option ℕ) (values : List Value) (f : Option Form) → Level (Some (Scope text parent values))
           → form_in (forms_of text) name ≡ f → when_number f s ≡ Stuck
@@ -76,8 +84,8 @@ module _ (up name : ℕ) (c : Config) (s : Step) where
       at (Some (Keyed table)) is = refl
       at (Some (Scope text parent values)) is = formed text parent values (form_in (forms_of text) name) is refl
 
-  reference-none : ((f : Form) → HasName c.store.heap c.scope up name f → when_reference (Some f) s ≡ Stuck) → reference_kept up name c s ≡ Stuck
-  reference-none never = at (scope_at c.store.heap (scope_out c.store.heap c.scope up)) refl
+  reference-none : ((f : Form) → HasName c.store.held.objects c.scope up name f → when_reference (Some f) s ≡ Stuck) → reference_kept up name c s ≡ Stuck
+  reference-none never = at (scope_at c.store.held.objects (scope_out c.store.held.objects c.scope up)) refl
     where
       formed : (text : List ℕ) (parent : Option ℕ) (values : List Value) (f : Option Form) → Level (Some (Scope text parent values))
           → form_in (forms_of text) name ≡ f → when_reference f s ≡ Stuck
@@ -92,10 +100,10 @@ module _ (up name : ℕ) (c : Config) (s : Step) where
       at (Some (Scope text parent values)) is = formed text parent values (form_in (forms_of text) name) is refl
 
 -- outside of all scopes there is no name
-name-outside : (up name : ℕ) (c : Config) (f : Form) → c.scope ≡ None → HasName c.store.heap c.scope up name f → ⊥
+name-outside : (up name : ℕ) (c : Config) (f : Form) → c.scope ≡ None → HasName c.store.held.objects c.scope up name f → ⊥
 name-outside up name c f none n =
-    let out : scope_out c.store.heap c.scope up ≡ None = ap (λ (s : Option ℕ). scope_out c.store.heap s up) none ∙ out-none c.store.heap up in
-    let bad : None ≡ Some (Scope n.text n.parent n.level.values) = sym (ap (scope_at c.store.heap) out) ∙ n.level.is in
+    let out : scope_out c.store.held.objects c.scope up ≡ None = ap (λ (s : Option ℕ). scope_out c.store.held.objects s up) none ∙ out-none c.store.held.objects up in
+    let bad : None ≡ Some (Scope n.text n.parent n.level.values) = sym (ap (scope_at c.store.held.objects) out) ∙ n.level.is in
     cc
 
 -- Reading: an int or a bool is pushed as a number, and a reference as it is.
@@ -145,7 +153,7 @@ module _ (before after : Outside Space) (up name : ℕ) (m : Machine) where
     names = λ n. n;
     size = refl;
     does = λ c h.
-        number-none up name c (push_num (word_of (kept_name c.store.heap c.scope up name)) c)
+        number-none up name c (push_num (word_of (kept_name c.store.held.objects c.scope up name)) (name_read up name c))
         (λ f n. absurd (name-outside up name c f (no-current before m h.names c in_it h.held) n));
   }
 
@@ -155,7 +163,7 @@ module _ (before after : Outside Space) (up name : ℕ) (m : Machine) where
     names = λ n. n;
     size = refl;
     does = λ c h.
-        reference-none up name c (push_ref (kept_name c.store.heap c.scope up name) c)
+        reference-none up name c (push_ref (kept_name c.store.held.objects c.scope up name) (name_read up name c))
         (λ f n. absurd (name-outside up name c f (no-current before m h.names c in_it h.held) n));
   }
 
@@ -164,7 +172,7 @@ module _ (before after : Outside Space) (up name : ℕ) (m : Machine) where
     sound = sound;
     names = names;
     size = refl;
-    does = λ ns c v h for. outside to ns c (no-current before m ns c in_it h) (changed (with_kept_name c.store.heap c.scope up name v) c);
+    does = λ ns c v h for. outside to ns c (no-current before m ns c in_it h) (name_put up name v c);
   }
     where
       outside : (to : code.Value) (ns : List Reference) (c : Config) → c.scope ≡ None → (s : Step) → row_kept to up name c s ≡ Stuck
@@ -184,12 +192,12 @@ module _ (before after : Outside Space) (up name : ℕ) (m : Machine) where
       names = λ n. push.names (names-kept m now keeps n);
       size = size-behind r m.objects.size now.size new.objects.size keeps.size push.size;
       does = λ c h.
-          let g = got c.store.heap h.names c.scope h.held.world (in_it h.names c h.held) in
-          let v = kept_name c.store.heap c.scope up name in
+          let g = got c.store.held.objects h.names c.scope h.held.world (in_it h.names c h.held) in
+          let v = kept_name c.store.held.objects c.scope up name in
           subst (λ (s : Step). Does before after m.objects.size s r new)
-          (sym (number-formed up name c g.0 g.1 (push_num (word_of v) c) ∙ number-read now after h.names k g.0 v c g.2 g.3))
-          (done-behind before after m now (number_pushed k c) new r left keeps
-          (push.does c (record { names = h.names; held = read-holds m.objects now before after h.names (words_of m) c h.held g.4 })));
+          (sym (number-formed up name c g.0 g.1 (push_num (word_of v) (name_read up name c)) ∙ number-read now after h.names k g.0 v (name_read up name c) g.2 g.3))
+          (done-behind before after m now (number_pushed k (name_read up name c)) new r left keeps
+          (push.does (name_read up name c) (record { names = h.names; held = touched-holds m.objects now before after h.names (words_of m) c (read_on_the_way up name c) h.held g.4 })));
     }
 
     pub number-failed : (fault : SwizzleFault) (new : Machine) (r : Stepped) → r ≡ Breaks → new ≡ broken m now fault → IsSound m → Got (Err fault)
@@ -197,8 +205,8 @@ module _ (before after : Outside Space) (up name : ℕ) (m : Machine) where
     number-failed fault new r answer is sound got =
         breaks-takes before after m now (kept_num up name) fault new r answer is sound
         (λ c h.
-        let s = push_num (word_of (kept_name c.store.heap c.scope up name)) c in
-        elim (got c.store.heap h.names c.scope h.held.world (in_it h.names c h.held)) [
+        let s = push_num (word_of (kept_name c.store.held.objects c.scope up name)) (name_read up name c) in
+        elim (got c.store.held.objects h.names c.scope h.held.world (in_it h.names c h.held)) [
           | inl a ↦ damage-breaks before after m.objects.size (kept_num up name c) fault (number-none up name c s (λ f n. absurd (a.0 f n))) a.1
           | inr b ↦ broken-off m.objects now before after (kept_num up name c) fault b
         ])
@@ -212,8 +220,8 @@ module _ (before after : Outside Space) (up name : ℕ) (m : Machine) where
       names = λ n. push.names (names-kept m now keeps n);
       size = size-behind r m.objects.size now.size new.objects.size keeps.size push.size;
       does = λ c h.
-          let g = got c.store.heap h.names c.scope h.held.world (in_it h.names c h.held) in
-          let s = push_ref (kept_name c.store.heap c.scope up name) c in
+          let g = got c.store.held.objects h.names c.scope h.held.world (in_it h.names c h.held) in
+          let s = push_ref (kept_name c.store.held.objects c.scope up name) (name_read up name c) in
           subst (λ (x : Step). Does before after m.objects.size x r new) (sym (reference-formed up name c g.0 g.1 s ∙ row g.0 g.2 s))
           (done-behind before after m now Stuck new r left keeps
           (push.does c (record { names = h.names; held = read-holds m.objects now before after h.names (words_of m) c h.held g.4 })));
@@ -226,12 +234,12 @@ module _ (before after : Outside Space) (up name : ℕ) (m : Machine) where
       names = λ n. push.names (names-kept m now keeps n) (near-held now to near);
       size = size-behind r m.objects.size now.size new.objects.size keeps.size push.size;
       does = λ c h.
-          let g = got c.store.heap h.names c.scope h.held.world (in_it h.names c h.held) in
-          let v = kept_name c.store.heap c.scope up name in
+          let g = got c.store.held.objects h.names c.scope h.held.world (in_it h.names c h.held) in
+          let v = kept_name c.store.held.objects c.scope up name in
           subst (λ (s : Step). Does before after m.objects.size s r new)
-          (sym (reference-formed up name c g.0 g.1 (push_ref v c) ∙ row g.0 g.2 (push_ref v c)))
-          (done-behind before after m now (push_ref v c) new r left keeps
-          (push.does h.names v c (read-holds m.objects now before after h.names (words_of m) c h.held g.4) g.3));
+          (sym (reference-formed up name c g.0 g.1 (push_ref v (name_read up name c)) ∙ row g.0 g.2 (push_ref v (name_read up name c))))
+          (done-behind before after m now (push_ref v (name_read up name c)) new r left keeps
+          (push.does h.names v (name_read up name c) (touched-holds m.objects now before after h.names (words_of m) c (read_on_the_way up name c) h.held g.4) g.3));
     }
       where
         row : (f : Form) → IsOfForm f (held.Ref to) → (s : Step) → when_reference (Some f) s ≡ s
@@ -256,8 +264,8 @@ module _ (before after : Outside Space) (up name : ℕ) (m : Machine) where
     reference-failed fault new r answer is sound got =
         breaks-takes before after m now (kept_ref up name) fault new r answer is sound
         (λ c h.
-        let s = push_ref (kept_name c.store.heap c.scope up name) c in
-        elim (got c.store.heap h.names c.scope h.held.world (in_it h.names c h.held)) [
+        let s = push_ref (kept_name c.store.held.objects c.scope up name) (name_read up name c) in
+        elim (got c.store.held.objects h.names c.scope h.held.world (in_it h.names c h.held)) [
           | inl a ↦ damage-breaks before after m.objects.size (kept_ref up name c) fault (reference-none up name c s (λ f n. absurd (a.0 f n))) a.1
           | inr b ↦ broken-off m.objects now before after (kept_ref up name c) fault b
         ])
@@ -268,7 +276,7 @@ module _ (before after : Outside Space) (up name : ℕ) (m : Machine) where
         → DenotesScopeIn m.objects before names (Some at) within → IsInt to → IsForIn m.objects before names to v
         → WritesKept m.objects now before after of names within up name to v r
 
-    row-formed : (to : code.Value) (f : Form) (c : Config) → IsOfRow f to → HasName c.store.heap c.scope up name f → (s : Step) → row_kept to up name c s ≡ s
+    row-formed : (to : code.Value) (f : Form) (c : Config) → IsOfRow f to → HasName c.store.held.objects c.scope up name f → (s : Step) → row_kept to up name c s ≡ s
     row-formed (held.Num z) form.Number c row n s = number-formed up name c form.Number n s
     row-formed (held.Num z) form.Flag c row n s = number-formed up name c form.Flag n s
     row-formed (held.Num z) form.Reference c row n s = absurd row
@@ -279,22 +287,22 @@ module _ (before after : Outside Space) (up name : ℕ) (m : Machine) where
     row-formed (held.Ref to) form.Number c row n s = absurd row
     row-formed (held.Ref to) form.Flag c row n s = absurd row
 
-    row-none : (to : code.Value) (c : Config) → ((f : Form) → HasName c.store.heap c.scope up name f → IsOfRow f to → ⊥) → (s : Step) → row_kept to up name c s ≡ Stuck
+    row-none : (to : code.Value) (c : Config) → ((f : Form) → HasName c.store.held.objects c.scope up name f → IsOfRow f to → ⊥) → (s : Step) → row_kept to up name c s ≡ Stuck
     row-none (held.Num z) c never s = number-none up name c s other
       where
-        other : (f : Form) → HasName c.store.heap c.scope up name f → when_number (Some f) s ≡ Stuck
+        other : (f : Form) → HasName c.store.held.objects c.scope up name f → when_number (Some f) s ≡ Stuck
         other form.Number n = absurd (never form.Number n tt)
         other form.Flag n = absurd (never form.Flag n tt)
         other form.Reference n = refl
     row-none (held.Flag b) c never s = number-none up name c s other
       where
-        other : (f : Form) → HasName c.store.heap c.scope up name f → when_number (Some f) s ≡ Stuck
+        other : (f : Form) → HasName c.store.held.objects c.scope up name f → when_number (Some f) s ≡ Stuck
         other form.Number n = absurd (never form.Number n tt)
         other form.Flag n = absurd (never form.Flag n tt)
         other form.Reference n = refl
     row-none (held.Ref to) c never s = reference-none up name c s other
       where
-        other : (f : Form) → HasName c.store.heap c.scope up name f → when_reference (Some f) s ≡ Stuck
+        other : (f : Form) → HasName c.store.held.objects c.scope up name f → when_reference (Some f) s ≡ Stuck
         other form.Number n = refl
         other form.Flag n = refl
         other form.Reference n = absurd (never form.Reference n tt)
@@ -306,12 +314,11 @@ module _ (before after : Outside Space) (up name : ℕ) (m : Machine) where
       names = names-last m.objects now stand (words_of m) m.writing.item names;
       size = size;
       does = λ ns c v h for.
-          let w = put c.store.heap ns c.scope v h.world (in_it ns c h) int for in
-          let later = with_kept_name c.store.heap c.scope up name v in
-          let store = on_heap later c.store in (
+          let w = put c.store.held.objects ns c.scope v h.world (in_it ns c h) int for in
+          let store = on_held (assigned_name c.scope up name v c.store.held) c.store in (
             [],
             record c { store = store },
-            row-formed to w.0 c w.2 w.1 (changed later c),
+            row-formed to w.0 c w.2 w.1 (name_put up name v c),
             refl,
             record { names = ns; held = held-more m.objects now before after ns ns (words_of m) c store w.3.carries h w.3.world refl refl },
           );
@@ -326,8 +333,8 @@ module _ (before after : Outside Space) (up name : ℕ) (m : Machine) where
           names = tt;
           size = tt;
           does = λ ns c v h for.
-              let s = changed (with_kept_name c.store.heap c.scope up name v) c in
-              elim (put c.store.heap ns c.scope v h.world (in_it ns c h) int for) [
+              let s = name_put up name v c in
+              elim (put c.store.held.objects ns c.scope v h.world (in_it ns c h) int for) [
                 | inl a ↦ damage-breaks before after m.objects.size (row_kept to up name c s) fault (row-none to c a.0 s) a.1
                 | inr b ↦ broken-off m.objects now before after (row_kept to up name c s) fault b
               ];
@@ -351,9 +358,9 @@ module _ (before after : Outside Space) (up name : ℕ) (old mid new : Machine) 
     size = size-there writes.size;
     does = λ c h.
         let g = popped.gives h.names c h.held in
-        let s = changed (with_kept_name g.0.store.heap g.0.scope up name (Num z)) g.0 in
+        let s = name_put up name (Num z) g.0 in
         subst (λ (x : Step). Does before after old.objects.size x r new)
-        (sym (g.1 (λ y d. number_kept up name d (changed (with_kept_name d.store.heap d.scope up name (Num y)) d))))
+        (sym (g.1 (λ y d. number_kept up name d (name_put up name (Num y) d))))
         (does-there (number_kept up name g.0 s) (writes.does h.names g.0 (Num z) g.2 refl));
   }
 
@@ -365,8 +372,8 @@ module _ (before after : Outside Space) (up name : ℕ) (old mid new : Machine) 
     size = size-there writes.size;
     does = λ c h.
         let g = popped.gives h.names c h.held in
-        let s = changed (with_kept_name g.0.store.heap g.0.scope up name g.1) g.0 in
+        let s = name_put up name g.1 g.0 in
         subst (λ (x : Step). Does before after old.objects.size x r new)
-        (sym (g.2 (λ v d. reference_kept up name d (changed (with_kept_name d.store.heap d.scope up name v) d))))
+        (sym (g.2 (λ v d. reference_kept up name d (name_put up name v d))))
         (does-there (reference_kept up name g.0 s) (writes.does h.names g.0 g.1 g.3 g.4));
   }

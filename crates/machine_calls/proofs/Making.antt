@@ -52,14 +52,14 @@ module _ (outside : Outside Space) (m : Machine) (now : area.Heap) (within : Opt
       size = ap (λ (a : area.Heap). a.size) same ∙ keeps.size;
       does = λ ns c bytes h d.
           let object = new_scope bytes c.scope in
-          let made = make c.store.heap ns bytes c.scope h.world d (in_it ns c h) in
+          let made = make c.store.held.objects ns bytes c.scope h.world d (in_it ns c h) in
           let store = and_object object c.store in
           let held = held-more m.objects now outside outside ns made.more (words_of m) c store made.carries h made.world refl refl in (
             [],
-            record c { store = store; scope = Some (new_number c.store.heap) },
+            record c { store = store; scope = Some (new_number c.store.held.objects) },
             refl,
             refl,
-            record { names = made.more; held = enters.holds made.more (record c { store = store }) (Some (new_number c.store.heap)) held made.denotes },
+            record { names = made.more; held = enters.holds made.more (record c { store = store }) (Some (new_number c.store.held.objects)) held made.denotes },
           );
     }
 
@@ -73,8 +73,8 @@ module _ (outside : Outside Space) (m : Machine) (now : area.Heap) (within : Opt
           size = tt;
           does = λ ns c bytes h d.
               let object = new_scope bytes c.scope in
-              let short = make c.store.heap ns bytes c.scope h.world d (in_it ns c h) in
-              let next : Config = record c { store = and_object object c.store; scope = Some (new_number c.store.heap) } in
+              let short = make c.store.held.objects ns bytes c.scope h.world d (in_it ns c h) in
+              let next : Config = record c { store = and_object object c.store; scope = Some (new_number c.store.held.objects) } in
               short-full m.objects now outside outside (in_scope bytes c) c.store next (own_weight object) fault refl (a_scope object refl refl) short;
         } in
         subst (λ (x : Stepped). MakesScopeOf outside text m new x) (sym answer)
@@ -93,7 +93,7 @@ module _ (outside : Outside Space) (m : Machine) (now : area.Heap) (within : Opt
       names = push.names names there;
       size = size-behind r m.objects.size now.size new.objects.size keeps.size push.size;
       does = λ ns c u h is fit.
-          let made = make c.store.heap ns u c.scope h.world is fit (in_it ns c h) in
+          let made = make c.store.held.objects ns u c.scope h.world is fit (in_it ns c h) in
           let store = and_closure c.store in
           let held = held-more m.objects now outside outside ns ns (words_of m) c store made.stands.carries h made.stands.world refl refl in
           done-behind outside outside m now (with_procedure u c) new r (leaves-none outside) keeps
@@ -109,7 +109,7 @@ module _ (outside : Outside Space) (m : Machine) (now : area.Heap) (within : Opt
           names = tt;
           size = tt;
           does = λ ns c u h is fit.
-              let short = make c.store.heap ns u c.scope h.world is fit (in_it ns c h) in
+              let short = make c.store.held.objects ns u c.scope h.world is fit (in_it ns c h) in
               let next : Config = record c { store = and_closure c.store; refs = Procedure (as_compiled u) c.scope ∷ c.refs } in
               short-full m.objects now outside outside (with_procedure u c) c.store next closure_weight fault
               (ap (λ (b : Bool). if b then on next else Stuck)

@@ -10,9 +10,11 @@ use Rattle.joint_ops.specs.ps_outside.Outside.{Outside}
 use Rattle.joint_ops.specs.obj_layout.Stored.{Space}
 use Rattle.joint_ops.specs.obj_layout.declared.reference.Reference.{Reference}
 use Rattle.ps_stepping.specs.ps_heap.Ends.{Trapped, OutOfTurns}
-use Rattle.ps_stepping.specs.ps_meaning.Event.{Turn}
+use Rattle.ps_stepping.specs.ps_heap.Events.{Turn}
 use Rattle.ps_stepping.specs.ps_meaning.Evaluation.{most_calls}
-use Rattle.ps_stepping.specs.ps_meaning.Meaning.{Store, with_turns, spent}
+use Rattle.ps_stepping.specs.ps_meaning.Meaning.{Store, with_turns, spent, on_held}
+use Rattle.ps_stepping.specs.ps_heap.References.{scope_ids}
+use Rattle.ps_stepping.specs.ps_heap.Held.{touching}
 use Rattle.ps_stepping.specs.ps_heap.Values.{Nil}
 use Rattle.ps_stepping.specs.Config.{Config}
 use Rattle.ps_stepping.specs.Steps.{Step, Goes, Stops, Stuck}
@@ -109,20 +111,20 @@ module _ (m : Machine) (outside : Outside Space) (names : List Reference) (c : C
       pub deep : length c.callers ≡ length m.callers.items
       deep = as-many m.objects outside names m.callers.items m.nums.below m.refs.below c.callers h.callers_are
 
-      pub too-deep : most_calls ≤ length m.callers.items → call_popped refs nums line of scope c ≡ Stops (Trapped TooDeep line)
+      pub too-deep : most_calls ≤ length m.callers.items → call_popped refs nums line of scope c ≡ Stops (Trapped TooDeep line) 0
       too-deep full =
           behind-all
-          ∙ ap (λ (b : Bool). if b then in_turn (spent c.store) of scope args under.args left else Stops (Trapped TooDeep line))
+          ∙ ap (λ (b : Bool). if b then in_turn (spent c.store) of scope args under.args left else Stops (Trapped TooDeep line) 0)
           (le-ltb (length c.callers) most_calls (omega (arith, full, deep)))
 
       module _ (few : length m.callers.items < most_calls) where
         pub in-a-turn : call_popped refs nums line of scope c ≡ in_turn (spent c.store) of scope args under.args left
         in-a-turn =
             behind-all
-            ∙ ap (λ (b : Bool). if b then in_turn (spent c.store) of scope args under.args left else Stops (Trapped TooDeep line))
+            ∙ ap (λ (b : Bool). if b then in_turn (spent c.store) of scope args under.args left else Stops (Trapped TooDeep line) 0)
             (lt-ltb (length c.callers) most_calls (omega (arith, few, deep)))
 
-        pub out-of-turns : m.turns ≡ 0 → call_popped refs nums line of scope c ≡ Stops OutOfTurns
+        pub out-of-turns : m.turns ≡ 0 → call_popped refs nums line of scope c ≡ Stops OutOfTurns 0
         out-of-turns none =
             in-a-turn ∙ ap (λ (n : ℕ). in_turn (with_turns c.store n) of scope args under.args left) (h.turns_are ∙ none)
 
@@ -132,9 +134,9 @@ module _ (m : Machine) (outside : Outside Space) (names : List Reference) (c : C
           spent-store = record (c.store) { turns = t }
 
           abbrev pub begun : Config
-          begun = body_of_call of scope args under.args spent-store left
+          begun = body_of_call of scope args under.args (on_held (touching (scope_ids scope) spent-store.held) spent-store) left
 
-          pub goes-in : call_popped refs nums line of scope c ≡ Goes (Turn c.store.counted ∷ []) begun
+          pub goes-in : call_popped refs nums line of scope c ≡ Goes (Turn c.store.held.counted ∷ []) begun
           goes-in = in-a-turn ∙ ap (λ (n : ℕ). in_turn (with_turns c.store n) of scope args under.args left) (h.turns_are ∙ one)
 
           -- and it is what the machine holds that was entered

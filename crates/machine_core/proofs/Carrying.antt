@@ -9,9 +9,11 @@ use Rattle.joint_ops.specs.swizzle.Heap.{top_of}
 use Rattle.joint_ops.specs.swizzle.Reading.{LeavesOutside}
 use Rattle.joint_ops.specs.swizzle.declared.fault.SwizzleFault.{SwizzleFault}
 use Rattle.joint_ops.specs.swizzle.declared.fault.SwizzleFault.TheVariants.{AreaFull, Vault}
+use Rattle.ps_stepping.specs.ps_heap.Held.{touching}
 use Rattle.ps_stepping.specs.ps_meaning.Meaning.{Store}
 use Rattle.ps_stepping.specs.Config.{Config}
 use Rattle.ps_stepping.specs.Steps.{Step, Goes, Stuck}
+use Rattle.ps_stepping.specs.Objects.{having}
 use Rattle.joint_ops.specs.World.{IsWorld, Carries, Stands, BreaksOff}
 use Rattle.joint_ops.specs.Made.{IsShort}
 use Rattle.machine_core.specs.declared.machine.Machine.{Machine}
@@ -23,10 +25,27 @@ use Rattle.machine_core.specs.Stepped.{Does, UnlessBroken}
 use Rattle.machine_core.proofs.RefRows.{row_more}
 use Rattle.machine_core.proofs.Callers.{all-waiting}
 
+-- What objects are touched says nothing of the words.
+pub touched-held : (here : area.Heap) (outside : Outside Space) (names : List Reference) (w : Words) (c : Config) (ids : List ℕ)
+    → Held here outside names w c → Held here outside names w (having (touching ids) c)
+touched-held here outside names w c ids h = record {
+  unit_is = h.unit_is;
+  fit = h.fit;
+  frame_is = h.frame_is;
+  at_is = h.at_is;
+  nums_are = h.nums_are;
+  refs_are = h.refs_are;
+  scope_is = h.scope_is;
+  callers_are = h.callers_are;
+  input_is = h.input_is;
+  turns_are = h.turns_are;
+  world = h.world;
+}
+
 module _ (here now : area.Heap) (before after : Outside Space) where
   -- What stands for a configuration stands for one with another store, where area and vault stand for its heap and carry what was denoted.
   pub held-more : (names more : List Reference) (w : Words) (c : Config) (store : Store) → Carries here now before after names more
-      → Held here before names w c → IsWorld now after store.heap more → store.turns ≡ c.store.turns → store.input ≡ c.store.input
+      → Held here before names w c → IsWorld now after store.held.objects more → store.turns ≡ c.store.turns → store.input ≡ c.store.input
       → Held now after more w (record c { store = store })
   held-more names more w c store k h world turns input = record {
     unit_is = k.units w.code c.unit h.unit_is;
@@ -43,9 +62,14 @@ module _ (here now : area.Heap) (before after : Outside Space) where
   }
 
   -- after an operation that read, the words stand for the same configuration
-  pub read-holds : (names : List Reference) (w : Words) (c : Config) → Held here before names w c → Stands here now before after c.store.heap names
+  pub read-holds : (names : List Reference) (w : Words) (c : Config) → Held here before names w c → Stands here now before after c.store.held.objects names
       → Held now after names w c
   read-holds names w c h s = held-more names names w c c.store s.carries h s.world refl refl
+
+  -- and where objects are touched then
+  pub touched-holds : (names : List Reference) (w : Words) (c : Config) (ids : List ℕ) → Held here before names w c
+      → Stands here now before after c.store.held.objects names → Held now after names w (having (touching ids) c)
+  touched-holds names w c ids h s = touched-held now after names w c ids (read-holds names w c h s)
 
   -- An operation that broke off as reading does: so did the step, whatever it is.
   pub broken-off : (s : Step) (fault : SwizzleFault) → BreaksOff here now before after fault → BreaksBy before after here.size s fault

@@ -7,10 +7,10 @@ use Rattle.ps_base.specs.declared.trap.Trap.TheVariants.{Bounds}
 use Rattle.joint_ops.specs.ps_outside.Outside.{Outside}
 use Rattle.joint_ops.specs.obj_layout.Stored.{Space}
 use Rattle.ps_stepping.specs.ps_heap.Ends.{Trapped}
-use Rattle.ps_stepping.specs.ps_meaning.Event.{Event, Turn, outputs}
+use Rattle.ps_stepping.specs.ps_heap.Events.{Event, Turn, outputs}
 use Rattle.ps_stepping.specs.ps_meaning.Meaning.{Store, with_turns, spent}
 use Rattle.ps_stepping.specs.ps_heap.Operators.{is_same}
-use Rattle.ps_stepping.specs.ps_meaning.Evaluation.{goes_on}
+use Rattle.ps_stepping.specs.ps_meaning.Loops.{goes_on}
 use Rattle.ps_stepping.specs.Config.{Config, frame_in}
 use Rattle.ps_stepping.specs.Machine.{Step, Goes, Stops, Stuck, on, forward, turn_to, started, for_start, counted, for_next, is_num_slot}
 use Rattle.machine_core.specs.declared.machine.Machine.{Machine}
@@ -50,9 +50,10 @@ module _ (m : Machine) (outside : Outside Space) (c : Config) (h : Holds outside
 
   -- a turn is taken
   pub turns_to : (to left : ℕ) → m.turns ≡ suc left →
-      (next : Config) × (turn_to (spent c.store) to c ≡ Goes (Turn next.store.counted ∷ []) next) × At to left next
+      (counted : ℕ) × (next : Config) × (turn_to (spent c.store) to c ≡ Goes (Turn counted ∷ []) next) × At to left next
   turns_to to left some =
       let store : Store = record (c.store) { turns = left } in (
+        c.store.held.counted,
         record c { at = to; store = store },
         ap (λ (n : ℕ). turn_to (with_turns c.store n) to c) (h.held.turns_are ∙ some),
         record {
@@ -78,13 +79,13 @@ pub starts_with_turn : (own to : ℕ) (line : Line) (control limit step : ℤ) (
     → turn_to (spent c.store) at c ≡ started own to line control limit step c
 starts_with_turn own to line control limit step c at here moves goes =
     ap (λ (n : ℕ). turn_to (spent c.store) n c) (sym here)
-    ∙ sym (ap (λ (b : Bool). if b then Stops (Trapped Bounds line) else (if goes_on limit step control then turn_to (spent c.store) c.at c else forward own to c)) moves
+    ∙ sym (ap (λ (b : Bool). if b then Stops (Trapped Bounds line) 0 else (if goes_on limit step control then turn_to (spent c.store) c.at c else forward own to c)) moves
     ∙ ap (λ (b : Bool). if b then turn_to (spent c.store) c.at c else forward own to c) goes)
 
 pub starts_past : (own to : ℕ) (line : Line) (control limit step : ℤ) (c : Config) → is_same step (pos 0) ≡ false → goes_on limit step control ≡ false
     → forward own to c ≡ started own to line control limit step c
 starts_past own to line control limit step c moves goes =
-    sym (ap (λ (b : Bool). if b then Stops (Trapped Bounds line) else (if goes_on limit step control then turn_to (spent c.store) c.at c else forward own to c)) moves
+    sym (ap (λ (b : Bool). if b then Stops (Trapped Bounds line) 0 else (if goes_on limit step control then turn_to (spent c.store) c.at c else forward own to c)) moves
     ∙ ap (λ (b : Bool). if b then turn_to (spent c.store) c.at c else forward own to c) goes)
 
 low-slot : (c : Config) (a b : ℕ) → a ≤ b → is_num_slot c a ≡ false → is_num_slot c b ≡ false

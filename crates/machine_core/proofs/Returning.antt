@@ -140,7 +140,7 @@ module _ (outside : Outside Space) where
   }
 
   module _ (old mid new : Machine) (r : Stepped) where
-    pub nothing-ends : Leaves old mid → Resumes outside old mid false → Takes outside outside (λ c. Stops Done) mid new r → Takes outside outside (returned 0) old new r
+    pub nothing-ends : Leaves old mid → Resumes outside old mid false → Takes outside outside (λ c. Stops Done 0) mid new r → Takes outside outside (returned 0) old new r
     nothing-ends left b t = record {
       sound = t.sound;
       names = λ n. t.names (left.names n);
@@ -148,7 +148,7 @@ module _ (outside : Outside Space) where
       does = λ c h.
           let g = b.goes h.names c h.held in
           subst (λ (s : Step). Does outside outside old.objects.size s r new) (sym (ap (λ (cs : List Caller). come_back cs (λ caller next. next) (λ caller. caller.nums) (λ caller. caller.refs) c) g.0))
-          (subst (λ (a : area.Heap). Does outside outside a.size (Stops Done) r new) left.objects (t.does c (record { names = h.names; held = g.1 })));
+          (subst (λ (a : area.Heap). Does outside outside a.size (Stops Done 0) r new) left.objects (t.does c (record { names = h.names; held = g.1 })));
     }
 
   module _ (old popped mid new : Machine) (r : Stepped) (first : Leaves old popped) (second : Leaves popped mid) where
@@ -182,7 +182,7 @@ module _ (outside : Outside Space) where
             (did-back (push_num z to) (t.does to (record { names = h.names; held = k.3 })));
       }
 
-      pub num-ends : Resumes outside popped mid false → Takes outside outside (λ c. Stops Done) mid new r → Takes outside outside (returned 1) old new r
+      pub num-ends : Resumes outside popped mid false → Takes outside outside (λ c. Stops Done 0) mid new r → Takes outside outside (returned 1) old new r
       num-ends b t = record {
         sound = t.sound;
         names = λ n. t.names (second.names (first.names n));
@@ -194,7 +194,7 @@ module _ (outside : Outside Space) where
             subst (Did old.objects)
             (sym (g.1 (λ x e. come_back e.callers num_back (λ caller. x ∷ caller.nums) (λ caller. caller.refs) e)
             ∙ ap (λ (cs : List Caller). come_back cs num_back (λ caller. z ∷ caller.nums) (λ caller. caller.refs) d) k.0))
-            (did-back (Stops Done) (t.does d (record { names = h.names; held = k.1 })));
+            (did-back (Stops Done 0) (t.does d (record { names = h.names; held = k.1 })));
       }
 
     module _ (w : ℕ) (p : TakenRef outside pop_ref old popped (Some w)) where
@@ -217,7 +217,7 @@ module _ (outside : Outside Space) where
             (did-back (push_ref v to) (t.does h.names v to k.3 (subst (λ (a : area.Heap). DenotesIn a outside h.names (object_in w) v) (sym second.objects) g.4)));
       }
 
-      pub ref-ends : Resumes outside popped mid false → Takes outside outside (λ c. Stops Done) mid new r → Takes outside outside (returned 2) old new r
+      pub ref-ends : Resumes outside popped mid false → Takes outside outside (λ c. Stops Done 0) mid new r → Takes outside outside (returned 2) old new r
       ref-ends b t = record {
         sound = t.sound;
         names = λ n. t.names (second.names (first.names n));
@@ -230,5 +230,5 @@ module _ (outside : Outside Space) where
             subst (Did old.objects)
             (sym (g.2 (λ x e. come_back e.callers ref_back (λ caller. caller.nums) (λ caller. x ∷ caller.refs) e)
             ∙ ap (λ (cs : List Caller). come_back cs ref_back (λ caller. caller.nums) (λ caller. v ∷ caller.refs) d) k.0))
-            (did-back (Stops Done) (t.does d (record { names = h.names; held = k.1 })));
+            (did-back (Stops Done 0) (t.does d (record { names = h.names; held = k.1 })));
       }

@@ -18,11 +18,11 @@ use Rattle.ps_stepping.specs.Steps.{Step, Goes, Stuck}
 -- object, and the object on top of its references, or as its scope.
 pub data Makes (before : Store) (next : Config) : ℕ → Type 0 where
   a_text : {bytes : List ℕ} {refs : List Value} → next.refs ≡ Text bytes ∷ refs → next.store ≡ and_text bytes before → Makes before next (text_weight bytes)
-  a_structure : (object : Object) {refs : List Value} → next.refs ≡ Pointer (new_number before.heap) ∷ refs → next.store ≡ and_object object before →
+  a_structure : (object : Object) {refs : List Value} → next.refs ≡ Pointer (new_number before.held.objects) ∷ refs → next.store ≡ and_object object before →
       Makes before next (own_weight object)
-  a_vector : (object : Object) {refs : List Value} → next.refs ≡ Vector (new_number before.heap) ∷ refs → next.store ≡ and_object object before →
+  a_vector : (object : Object) {refs : List Value} → next.refs ≡ Vector (new_number before.held.objects) ∷ refs → next.store ≡ and_object object before →
       Makes before next (own_weight object)
-  a_scope : (object : Object) → next.scope ≡ Some (new_number before.heap) → next.store ≡ and_object object before → Makes before next (own_weight object)
+  a_scope : (object : Object) → next.scope ≡ Some (new_number before.held.objects) → next.store ≡ and_object object before → Makes before next (own_weight object)
   a_procedure : {does : Routine} {scope : Option ℕ} {refs : List Value} → next.refs ≡ Procedure does scope ∷ refs → next.store ≡ and_closure before →
       Makes before next closure_weight
 

@@ -28,7 +28,7 @@ pub record Held (here : area.Heap) (outside : Outside Space) (names : List Refer
   pub callers_are : AreWaiting here outside names w.callers w.nums.below w.refs.below c.callers
   pub input_is : w.input ≡ c.store.input
   pub turns_are : c.store.turns ≡ w.turns
-  pub world : IsWorld here outside c.store.heap names
+  pub world : IsWorld here outside c.store.held.objects names
 
 -- under some row of names
 pub record Standing (here : area.Heap) (outside : Outside Space) (w : Words) (c : Config) : Type 0 where

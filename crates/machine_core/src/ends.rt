@@ -18,7 +18,7 @@ use ps_base::trap::Trap;
 #[inline(always)]
 pub fn halt<V: Vault>(m: &mut Machine, end: RunEnd) -> Stepped
     requires { IsSound m.old }
-    ensures takes { (v : V) → Takes (V.outside v) (V.outside v) (λ c. Stops (end_of end)) m.old m.new result }
+    ensures takes { (v : V) → Takes (V.outside v) (V.outside v) (λ c. Stops (end_of end) 0) m.old m.new result }
     ensures answer { result ≡ Halts }
     ensures left { m.new ≡ ended end m.old }
 {
@@ -30,7 +30,7 @@ pub fn halt<V: Vault>(m: &mut Machine, end: RunEnd) -> Stepped
 #[inline(always)]
 pub fn trapped<V: Vault>(m: &mut Machine, trap: Trap, line: Line) -> Stepped
     requires { IsSound m.old }
-    ensures takes { (v : V) → Takes (V.outside v) (V.outside v) (λ c. Stops (Trapped trap line)) m.old m.new result }
+    ensures takes { (v : V) → Takes (V.outside v) (V.outside v) (λ c. Stops (Trapped trap line) 0) m.old m.new result }
     ensures answer { result ≡ Halts }
     ensures left { m.new ≡ ended (in_code.Trapped trap line) m.old }
 {

@@ -1,5 +1,5 @@
 ghost use Rattle.std.specs.Prelude.{◌≡◌, ◌^◌, ◌+ℤ◌, ◌+◌, ◌<◌, MatchOption, pos, true, false, ◌≢◌};
-ghost use Rattle.ps_stepping.specs.ps_meaning.Evaluation.{goes_on as goes_on_of};
+ghost use Rattle.ps_stepping.specs.ps_meaning.Loops.{goes_on as goes_on_of};
 ghost use Rattle.ps_stepping.specs.ps_heap.Operators.{is_same};
 ghost use Rattle.ps_stepping.specs.Machine.{with_num, back as back_of, started as started_of, counted as counted_of, for_start as for_start_of, for_next as for_next_of};
 ghost use Rattle.machine_core.specs.Holding.{IsSound};

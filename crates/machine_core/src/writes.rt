@@ -83,7 +83,7 @@ pub fn write_flag<V: Vault>(m: &mut Machine, given: u32, line: Line) -> Stepped
 #[inline(always)]
 pub fn abort<V: Vault>(m: &mut Machine, line: Line) -> Stepped
     requires { IsSound m.old }
-    ensures takes { (v : V) → Takes (V.outside v) (V.outside v) (λ c. Stops (Trapped Abort line)) m.old m.new result }
+    ensures takes { (v : V) → Takes (V.outside v) (V.outside v) (λ c. Stops (Trapped Abort line) 0) m.old m.new result }
     ensures goes { result ≢ Breaks }
 {
     trapped::<V>(m, Trap::Abort, line)

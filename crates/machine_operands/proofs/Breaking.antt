@@ -102,7 +102,7 @@ module _ (m new : Machine) (r : Stepped) where
         → new ≡ ended (in_code.Trapped trap line) m → attempt ≡ Fails trap → Does before after size (attempted line attempt next) r new
     trap-does line size trap attempt next answer left is =
         subst (λ (x : Stepped). Does before after size (attempted line attempt next) x new) (sym answer)
-        (subst (λ (n : Machine). attempted line attempt next ≡ Stops (end_of n.end)) (sym left) (ap (λ a. attempted line a next) is))
+        (0, subst (λ (n : Machine). attempted line attempt next ≡ Stops (end_of n.end) 0) (sym left) (ap (λ a. attempted line a next) is))
 
     -- the fault of the step
     fault-does : (size : ℕ) (s : Step) (fault : SwizzleFault) → r ≡ Breaks → new ≡ record m { fault = fault } → BreaksBy before after size s fault

@@ -19,13 +19,14 @@ use Rattle.machine_core.specs.heap_texts.declared.fault.OpFault.{OpFault}
 use Rattle.machine_core.specs.heap_texts.declared.fault.OpFault.TheVariants as op
 use Rattle.machine_core.specs.ps_heap.Values.{Value, Text, Num, Flag, word_of, number_of}
 use Rattle.machine_core.specs.ps_heap.Values as value
+use Rattle.machine_core.specs.ps_heap.Held.{assigning, reading, denoted}
 use Rattle.machine_core.specs.ps_heap.Texts.{Attempt, Yields, Fails}
 use Rattle.machine_core.specs.ps_heap.Objects.{Heap, Object, new_number}
-use Rattle.machine_core.specs.ps_meaning.Meaning.{Store, and_text, and_object, on_heap}
+use Rattle.machine_core.specs.ps_meaning.Meaning.{Store, and_text, and_object, on_held}
 use Rattle.machine_core.specs.ps_heap.Weights.{text_weight, own_weight}
 use Rattle.machine_core.specs.ps_stepping.Config.{Config, frame_words, frame_in}
 use Rattle.machine_core.specs.ps_stepping.Steps.{Step, Goes, Stuck, on, attempted, push_num, push_ref}
-use Rattle.machine_core.specs.ps_stepping.Objects.{make_text, make, changed, when_number, when_reference}
+use Rattle.machine_core.specs.ps_stepping.Objects.{make_text, make, having, changed, when_number, when_reference}
 use Rattle.machine_core.specs.joint_ops.World.{Answers, Writes, IsForIn, IsOfForm, Stands}
 use Rattle.machine_core.specs.joint_ops.Made.{IsShort, Makes, MakesText}
 use Rattle.machine_core.specs.objects.Classes.{MakesLater}
@@ -37,7 +38,7 @@ use Rattle.machine_core.specs.Full.{BreaksBy}
 use Rattle.machine_core.specs.Holding.{HeldBy, HeldIn, IsSound, words_of}
 use Rattle.machine_core.specs.Stepped.{Does, Takes}
 use Rattle.machine_core.specs.inside.Taking.{TakesRef}
-use Rattle.machine_core.proofs.Carrying.{held-more, read-holds, short-full, does-behind, size-behind}
+use Rattle.machine_core.proofs.Carrying.{held-more, read-holds, touched-holds, short-full, does-behind, size-behind}
 use Rattle.machine_core.proofs.Popping.{refs_taken}
 use Rattle.machine_operands.specs.Giving.{failed_of, failed_in, broken_of, broken_in, IsNaming, structures, vectors, EndsSoundly, GivesText, GivesObject, GivesStructure, GivesNumber, GivesReference, GivesBound, GivesFlag, Changes}
 use Rattle.machine_operands.proofs.Breaking.{does-same, damaged-goes, failed-making, failed-soundly, broken-soundly, trap-does, off-does, failed-code, broken-code}
@@ -75,7 +76,7 @@ short-does m new r outside here names c v store weight fault line false h short 
 
 -- a new object on top of the references, as a cause of want of room
 makes-named : (c : Config) (object : Object) (denoting : ℕ → Value) → IsNaming denoting
-    → no_room.Makes c.store (record c { store = and_object object c.store; refs = denoting (new_number c.store.heap) ∷ c.refs }) (own_weight object)
+    → no_room.Makes c.store (record c { store = and_object object c.store; refs = denoting (new_number c.store.held.objects) ∷ c.refs }) (own_weight object)
 makes-named c object denoting structures = no_room.a_structure object refl refl
 makes-named c object denoting vectors = no_room.a_vector object refl refl
 
@@ -115,7 +116,7 @@ module _ (outside : Outside Space) (line : Line) (m new : Machine) (r : Stepped)
         let now = held-more here m.objects outside outside names it.more (words_of m) c store it.carries h it.world refl refl in
         does-same outside outside here.size m.objects.size (make denoting made.0 c) (attempted line attempt (λ object. make denoting object c)) r new it.carries.size
         (ap (λ (a : Attempt Object). attempted line a (λ object. make denoting object c)) made.1)
-        (push.does it.more (denoting (new_number c.store.heap)) (record c { store = store }) now it.denotes);
+        (push.does it.more (denoting (new_number c.store.held.objects)) (record c { store = store }) now it.denotes);
   }
 
   pub object-failed : (fault : OpFault) (room : Bool) → (room ≡ true → length m.refs.own < frame_words) → (room ≡ false → frame_words ≤ length m.refs.own)
@@ -130,7 +131,7 @@ module _ (outside : Outside Space) (line : Line) (m new : Machine) (r : Stepped)
     does = λ here names c denoting attempt naming h made.
         does-same outside outside here.size here.size (make denoting made.0 c) (attempted line attempt (λ object. make denoting object c)) r new refl
         (ap (λ (a : Attempt Object). attempted line a (λ object. make denoting object c)) made.1)
-        (short-does m new r outside here names c (denoting (new_number c.store.heap)) (and_object made.0 c.store) (own_weight made.0) fault line room h made.2
+        (short-does m new r outside here names c (denoting (new_number c.store.held.objects)) (and_object made.0 c.store) (own_weight made.0) fault line room h made.2
         (makes-named c made.0 denoting naming) some none answer left);
   }
 
@@ -169,12 +170,11 @@ stays-soundly lies got m sound = record { sound = sound; names = λ n held. n; s
 
 module _ (before after : Outside Space) (m new : Machine) (r : Stepped) where
   -- a number was pushed after an operation that read
-  pushed-after : (here : area.Heap) (names : List Reference) (c : Config) (z : ℤ) (s : Step) → LeavesOutside before after → HeldIn here before names m c
-      → Stands here m.objects before after c.store.heap names → s ≡ push_num z c → Takes after after (push_num z) m new r → Does before after here.size s r new
-  pushed-after here names c z s left h stands is push =
-      does-behind before after after here.size m.objects.size s r new left stands.carries.size
-      (subst (λ (x : Step). Does after after m.objects.size x r new) (sym is)
-      (push.does c (record { names = names; held = read-holds here m.objects before after names (words_of m) c h stands })))
+  pushed-after : (here : area.Heap) (names : List Reference) (c : Config) (z : ℤ) (s : Step) → LeavesOutside before after → m.objects.size ≡ here.size
+      → HeldIn m.objects after names m c → s ≡ push_num z c → Takes after after (push_num z) m new r → Does before after here.size s r new
+  pushed-after here names c z s left size held is push =
+      does-behind before after after here.size m.objects.size s r new left size
+      (subst (λ (x : Step). Does after after m.objects.size x r new) (sym is) (push.does c (record { names = names; held = held })))
 
   pushed-soundly : {T : Type 0} (lies : T → Type 0) (got : T) (of : Config → Step) → r ≢ Breaks → Takes after after of m new r → EndsSoundly (Ok got) lies m new r
   pushed-soundly lies got of goes push = record {
@@ -189,7 +189,7 @@ module _ (before after : Outside Space) (m new : Machine) (r : Stepped) where
     ends = pushed-soundly (λ z. Unit {0}) z (push_num z) goes push;
     does = λ here names c wanted left h got.
         let same : wanted ≡ z = (let e : Yields wanted ≡ Yields got.0 = got.1 in cc) ∙ sym got.2 in
-        pushed-after here names c z (push_num wanted c) left h got.3 (ap (λ (x : ℤ). push_num x c) same) push;
+        pushed-after here names c z (push_num wanted c) left got.3.carries.size (read-holds here m.objects before after names (words_of m) c h got.3) (ap (λ (x : ℤ). push_num x c) same) push;
   }
 
   pub bound-broken : (fault : OpFault) → IsSound new → r ≡ broken_of fault → new ≡ broken_in fault m → GivesBound before after m new r (Err fault)
@@ -207,7 +207,7 @@ module _ (before after : Outside Space) (m new : Machine) (r : Stepped) where
     ends = pushed-soundly (λ b. Unit {0}) b (push_num (number_of b)) goes push;
     does = λ here names c wanted left h got.
         let same : wanted ≡ b = (let e : Yields wanted ≡ Yields got.0 = got.1 in cc) ∙ sym got.2 in
-        pushed-after here names c (number_of b) (push_num (number_of wanted) c) left h got.3 (ap (λ (x : Bool). push_num (number_of x) c) same) push;
+        pushed-after here names c (number_of b) (push_num (number_of wanted) c) left got.3.carries.size (read-holds here m.objects before after names (words_of m) c h got.3) (ap (λ (x : Bool). push_num (number_of x) c) same) push;
     damaged = λ here at s stuck by. absurd by;
   }
 
@@ -254,7 +254,7 @@ module _ (before after : Outside Space) (m new : Machine) (r : Stepped) where
   }
     where
       later : (here : area.Heap) (names : List Reference) (c : Config) (object : Object) → LeavesOutside before after → HeldIn here before names m c
-          → MakesLater here m.objects before after c.store.heap names value.Pointer (Yields object) (Err (op.Swizzle fault))
+          → MakesLater here m.objects before after c.store.held.objects names value.Pointer (Yields object) (Err (op.Swizzle fault))
           → Does before after here.size (make value.Pointer object c) r new
       later here names c object leaves h (inl made) =
           let held = read-holds here made.mid before after names (words_of m) c h made.read in
@@ -270,9 +270,10 @@ module _ (before after : Outside Space) (m new : Machine) (r : Stepped) where
       ends = pushed-soundly (λ value. Unit {0}) k (push_num z) goes push;
       does = λ here names c f attempt left h got.
           let is = read names f got.0 got.2.0 got.2.1 in
-          pushed-after here names c z (attempted line attempt (λ w. when_number (Some f) (push_num (word_of w) c))) left h got.3
-          (ap (λ (a : Attempt Value). attempted line a (λ w. when_number (Some f) (push_num (word_of w) c))) got.1
-          ∙ is.1 (push_num (word_of got.0) c) ∙ ap (λ (x : ℤ). push_num x c) is.0) push;
+          pushed-after here names (having (reading got.0) c) z (attempted line attempt (λ w. when_number (Some f) (push_num (word_of w) (having (reading w) c)))) left got.3.carries.size
+          (touched-holds here m.objects before after names (words_of m) c (denoted got.0) h got.3)
+          (ap (λ (a : Attempt Value). attempted line a (λ w. when_number (Some f) (push_num (word_of w) (having (reading w) c)))) got.1
+          ∙ is.1 (push_num (word_of got.0) (having (reading got.0) c)) ∙ ap (λ (x : ℤ). push_num x (having (reading got.0) c)) is.0) push;
       damaged = λ here at s stuck by. absurd by;
     }
 
@@ -281,13 +282,13 @@ module _ (before after : Outside Space) (m new : Machine) (r : Stepped) where
     number-failed (op.Trap t) sound answer left = record {
       ends = failed-soundly m new r (λ value. Unit {0}) line (op.Trap t) sound answer left;
       does = λ here names c f attempt leaves h got.
-          trap-does m new r before after line here.size t attempt (λ w. when_number (Some f) (push_num (word_of w) c)) answer left got.0;
+          trap-does m new r before after line here.size t attempt (λ w. when_number (Some f) (push_num (word_of w) (having (reading w) c))) answer left got.0;
       damaged = λ here at s stuck by. absurd by;
     }
     number-failed (op.Swizzle fault) sound answer left = record {
       ends = failed-soundly m new r (λ value. Unit {0}) line (op.Swizzle fault) sound answer left;
       does = λ here names c f attempt leaves h got.
-          off-does m new r before after here (attempted line attempt (λ w. when_number (Some f) (push_num (word_of w) c))) fault answer left got;
+          off-does m new r before after here (attempted line attempt (λ w. when_number (Some f) (push_num (word_of w) (having (reading w) c)))) fault answer left got;
       damaged = failed-code m new r before after code.Value line (op.Swizzle fault) answer left;
     }
 
@@ -300,11 +301,11 @@ module _ (before after : Outside Space) (m new : Machine) (r : Stepped) where
         breaks = goes;
       };
       does = λ here names c f attempt left h got.
-          let now = read-holds here m.objects before after names (words_of m) c h got.3 in
-          does-behind before after after here.size m.objects.size (attempted line attempt (λ w. when_reference (Some f) (push_ref w c))) r new left got.3.carries.size
+          let now = touched-holds here m.objects before after names (words_of m) c (denoted got.0) h got.3 in
+          does-behind before after after here.size m.objects.size (attempted line attempt (λ w. when_reference (Some f) (push_ref w (having (reading w) c)))) r new left got.3.carries.size
           (subst (λ (s : Step). Does after after m.objects.size s r new)
-          (sym (ap (λ (a : Attempt Value). attempted line a (λ w. when_reference (Some f) (push_ref w c))) got.1 ∙ referred f to got.2.0 (push_ref got.0 c)))
-          (push.does names got.0 c now got.2.1));
+          (sym (ap (λ (a : Attempt Value). attempted line a (λ w. when_reference (Some f) (push_ref w (having (reading w) c)))) got.1 ∙ referred f to got.2.0 (push_ref got.0 (having (reading got.0) c))))
+          (push.does names got.0 (having (reading got.0) c) now got.2.1));
       damaged = λ here at s stuck by. absurd by;
     }
       where
@@ -322,13 +323,13 @@ module _ (before after : Outside Space) (m new : Machine) (r : Stepped) where
     reference-failed (op.Trap t) sound answer left = record {
       ends = failed-soundly m new r (IsNear m.objects) line (op.Trap t) sound answer left;
       does = λ here names c f attempt leaves h got.
-          trap-does m new r before after line here.size t attempt (λ w. when_reference (Some f) (push_ref w c)) answer left got.0;
+          trap-does m new r before after line here.size t attempt (λ w. when_reference (Some f) (push_ref w (having (reading w) c))) answer left got.0;
       damaged = λ here at s stuck by. absurd by;
     }
     reference-failed (op.Swizzle fault) sound answer left = record {
       ends = failed-soundly m new r (IsNear m.objects) line (op.Swizzle fault) sound answer left;
       does = λ here names c f attempt leaves h got.
-          off-does m new r before after here (attempted line attempt (λ w. when_reference (Some f) (push_ref w c))) fault answer left got;
+          off-does m new r before after here (attempted line attempt (λ w. when_reference (Some f) (push_ref w (having (reading w) c)))) fault answer left got;
       damaged = failed-code m new r before after code.Value line (op.Swizzle fault) answer left;
     }
 
@@ -336,12 +337,12 @@ module _ (before after : Outside Space) (m new : Machine) (r : Stepped) where
         → Changes before after m new r line (Err fault)
     change-failed (op.Trap t) sound answer left = record {
       ends = failed-soundly m new r (λ unit. Unit {0}) line (op.Trap t) sound answer left;
-      does = λ here names c attempt h did. trap-does m new r before after line here.size t attempt (λ heap. changed heap c) answer left did.0;
+      does = λ here names c place attempt h did. trap-does m new r before after line here.size t attempt (λ heap. changed place heap c) answer left did.0;
       damaged = λ here at s stuck by. absurd by;
     }
     change-failed (op.Swizzle fault) sound answer left = record {
       ends = failed-soundly m new r (λ unit. Unit {0}) line (op.Swizzle fault) sound answer left;
-      does = λ here names c attempt h did. off-does m new r before after here (attempted line attempt (λ heap. changed heap c)) fault answer left did;
+      does = λ here names c place attempt h did. off-does m new r before after here (attempted line attempt (λ heap. changed place heap c)) fault answer left did;
       damaged = failed-code m new r before after (Unit {0}) line (op.Swizzle fault) answer left;
     }
 
@@ -352,7 +353,7 @@ module _ (before after : Outside Space) (m : Machine) (line : Line) (sound : IsS
   no-number to = record {
     ends = stays-soundly (λ value. Unit {0}) (held.Ref to) m sound;
     does = λ here names c f attempt left h got.
-        ap (λ (a : Attempt Value). attempted line a (λ w. when_number (Some f) (push_num (word_of w) c))) got.1 ∙ of f got.2.0 (push_num (word_of got.0) c);
+        ap (λ (a : Attempt Value). attempted line a (λ w. when_number (Some f) (push_num (word_of w) (having (reading w) c)))) got.1 ∙ of f got.2.0 (push_num (word_of got.0) (having (reading got.0) c));
     damaged = λ here at s stuck by. absurd by;
   }
     where
@@ -365,7 +366,7 @@ module _ (before after : Outside Space) (m : Machine) (line : Line) (sound : IsS
   no-reference k other = record {
     ends = stays-soundly (IsNear m.objects) k m sound;
     does = λ here names c f attempt left h got.
-        ap (λ (a : Attempt Value). attempted line a (λ w. when_reference (Some f) (push_ref w c))) got.1 ∙ of f k other got.2.0 (push_ref got.0 c);
+        ap (λ (a : Attempt Value). attempted line a (λ w. when_reference (Some f) (push_ref w (having (reading w) c)))) got.1 ∙ of f k other got.2.0 (push_ref got.0 (having (reading got.0) c));
     damaged = λ here at s stuck by. absurd by;
   }
     where
@@ -383,10 +384,10 @@ module _ (before after : Outside Space) (m : Machine) (line : Line) (sound : IsS
   pub change-done : (unit : Unit {0}) → Changes before after m m Quiet line (Ok unit)
   change-done unit = record {
     ends = record { sound = sound; names = λ n held. n; size = λ k is. is; breaks = quiet-goes };
-    does = λ here names c attempt h did.
+    does = λ here names c place attempt h did.
         let stands = did.2 in
-        let store = on_heap did.0 c.store in
+        let store = on_held (assigning place did.0 c.store.held) c.store in
         let now = held-more here m.objects before after names names (words_of m) c store stands.carries h stands.world refl refl in
-        ([], record c { store = store }, ap (λ (a : Attempt Heap). attempted line a (λ heap. changed heap c)) did.1, refl, record { names = names; held = now });
+        ([], record c { store = store }, ap (λ (a : Attempt Heap). attempted line a (λ heap. changed place heap c)) did.1, refl, record { names = names; held = now });
     damaged = λ here at s stuck by. absurd by;
   }

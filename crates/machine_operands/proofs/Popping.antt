@@ -217,9 +217,9 @@ module _ (outside : Outside Space) (old new : Machine) (w : ℕ) (s : Sort) (hea
         let g = p.gives names c h in
         let it = vector-of_sort g.1 (subst (IsOfSort g.1) vector (sorted names g.1 g.4)) in
         let denotes = subst (λ (to : Option ℕ). DenotesIn new.objects outside names to (Vector it.0)) is (subst (DenotesIn new.objects outside names (object_in w)) it.1 g.4) in
-        let v = vector-at new.objects outside g.0.store.heap names at it.0 heap g.3.world (vector-denoted new.objects outside names at it.0 heap denotes) in
-        let typed : type_of g.0.store.heap (Vector it.0) ≡ Some v.ty = ap type_of_object v.means in
-        (g.0, it.0, v.ty, (λ next. g.2 (λ v d. of_type (type_of d.store.heap v) (λ ty. next ty v d)) ∙ ap (λ (x : Value). of_type (type_of g.0.store.heap x) (λ ty. next ty x g.0)) it.1 ∙ ap (λ (t : Option (List ℕ)). of_type t (λ ty. next ty (Vector it.0) g.0)) typed), typed, g.3, denotes);
+        let v = vector-at new.objects outside g.0.store.held.objects names at it.0 heap g.3.world (vector-denoted new.objects outside names at it.0 heap denotes) in
+        let typed : type_of g.0.store.held.objects (Vector it.0) ≡ Some v.ty = ap type_of_object v.means in
+        (g.0, it.0, v.ty, (λ next. g.2 (λ v d. of_type (type_of d.store.held.objects v) (λ ty. next ty v d)) ∙ ap (λ (x : Value). of_type (type_of g.0.store.held.objects x) (λ ty. next ty x g.0)) it.1 ∙ ap (λ (t : Option (List ℕ)). of_type t (λ ty. next ty (Vector it.0) g.0)) typed), typed, g.3, denotes);
   }
 
   pub vector-answer : (to answer : Option ℕ) → to ≡ object_in w → answer ≡ object_in w → IsSorted new.objects to s → s ≡ sort.Vector → PopsVector outside old new answer
@@ -228,10 +228,10 @@ module _ (outside : Outside Space) (old new : Machine) (w : ℕ) (s : Sort) (hea
 
   pub no-vector : s ≢ sort.Vector → PopsVector outside old new None
   no-vector other = record {
-    gives = λ names c h next. let g = p.gives names c h in g.2 (λ v d. of_type (type_of d.store.heap v) (λ ty. next ty v d)) ∙ stuck g.1 s other (sorted names g.1 g.4) g.0 next;
+    gives = λ names c h next. let g = p.gives names c h in g.2 (λ v d. of_type (type_of d.store.held.objects v) (λ ty. next ty v d)) ∙ stuck g.1 s other (sorted names g.1 g.4) g.0 next;
   }
     where
-      stuck : (v : Value) (s : Sort) → s ≢ sort.Vector → IsOfSort v s → (d : Config) (next : List ℕ → Value → Config → Step) → of_type (type_of d.store.heap v) (λ ty. next ty v d) ≡ Stuck
+      stuck : (v : Value) (s : Sort) → s ≢ sort.Vector → IsOfSort v s → (d : Config) (next : List ℕ → Value → Config → Step) → of_type (type_of d.store.held.objects v) (λ ty. next ty v d) ≡ Stuck
       stuck (Vector id) sort.Vector other is d next = absurd (other refl)
       stuck (Vector id) sort.Nil other is d next = absurd is
       stuck (Vector id) sort.Structure other is d next = absurd is

@@ -51,7 +51,7 @@ unit-parts here outside code (unit bytes row frame) of is = of bytes row frame i
 
 module _ (before after : Outside Space) (m : Machine) (now : area.Heap) where
   -- after an operation that read, the machine still stands for the configuration
-  pub still-holds : (names : List Reference) (c : Config) → HeldBy before names m c → Stands m.objects now before after c.store.heap names
+  pub still-holds : (names : List Reference) (c : Config) → HeldBy before names m c → Stands m.objects now before after c.store.held.objects names
       → StillHolds before after names c m (record m { objects = now })
   still-holds names c h s = record { held = read-holds m.objects now before after names (words_of m) c h s; carries = s.carries }
 
@@ -70,7 +70,7 @@ module _ (before after : Outside Space) (m : Machine) (now : area.Heap) where
     constant-read at g kept = record {
       gives = λ names c h.
           let a = given-of (Ok (Some at)) g c names h in
-          (a.0, same-constant (constants_in c.unit) k ∙ a.1, still-holds names c h (kept c.store.heap names h.world), a.2 names);
+          (a.0, same-constant (constants_in c.unit) k ∙ a.1, still-holds names c h (kept c.store.held.objects names h.world), a.2 names);
     }
 
     pub constant-none : Given (Ok None) → ReadsConstant before after k m (record m { objects = now }) (Err Damaged)

@@ -18,10 +18,11 @@ use Rattle.machine_core.specs.proc_values.Reading.{IsDamaged}
 use Rattle.ps_base.specs.declared.line.Line.{Line}
 use Rattle.machine_core.specs.ps_heap.Values.{Value, Pointer, Vector, word_of, number_of}
 use Rattle.machine_core.specs.ps_heap.Texts.{Attempt, Yields}
+use Rattle.machine_core.specs.ps_heap.Held.{Place, reading}
 use Rattle.machine_core.specs.ps_heap.Objects.{Heap, Object}
 use Rattle.machine_core.specs.ps_stepping.Config.{Config}
 use Rattle.machine_core.specs.ps_stepping.Steps.{Step, Stuck, attempted, push_num, push_ref}
-use Rattle.machine_core.specs.ps_stepping.Objects.{make, make_text, changed, when_number, when_reference}
+use Rattle.machine_core.specs.ps_stepping.Objects.{make, make_text, having, changed, when_number, when_reference}
 use Rattle.machine_core.specs.joint_ops.World.{Answers, Writes, BreaksOff, IsForIn, IsOfForm}
 use Rattle.machine_core.specs.joint_ops.Made.{Makes, MakesText}
 use Rattle.machine_core.specs.objects.Classes.{BreaksByCode, MakesLater}
@@ -88,13 +89,13 @@ module _ (outside : Outside Space) (line : Line) (old new : Machine) (answer : S
   pub record GivesText (made : Result ℕ OpFault) : Type 0 where
     pub ends : EndsMaking old new answer made
     pub does : (here : area.Heap) (names : List Reference) (c : Config) (attempt : Attempt (List ℕ)) → HeldIn here outside names old c
-        → MakesText here old.objects outside c.store.heap names attempt made
+        → MakesText here old.objects outside c.store.held.objects names attempt made
         → Does outside outside here.size (attempted line attempt (λ bytes. make_text bytes c)) answer new
 
   pub record GivesObject (made : Result ℕ OpFault) : Type 0 where
     pub ends : EndsMaking old new answer made
     pub does : (here : area.Heap) (names : List Reference) (c : Config) (denoting : ℕ → Value) (attempt : Attempt Object) → IsNaming denoting
-        → HeldIn here outside names old c → Makes here old.objects outside c.store.heap names denoting attempt made
+        → HeldIn here outside names old c → Makes here old.objects outside c.store.held.objects names denoting attempt made
         → Does outside outside here.size (attempted line attempt (λ object. make denoting object c)) answer new
 
 -- An operation that reads or writes, and may fetch: the vault was seen so before it, and is seen so after it.
@@ -108,7 +109,7 @@ module _ (before after : Outside Space) (old new : Machine) (answer : Stepped) w
   pub record GivesStructure (made : Result ℕ OpFault) : Type 0 where
     pub ends : EndsSoundly made (IsHeld old.objects) old new answer
     pub does : (here : area.Heap) (names : List Reference) (c : Config) (object : Object) → LeavesOutside before after → HeldIn here before names old c
-        → MakesLater here old.objects before after c.store.heap names Pointer (Yields object) made
+        → MakesLater here old.objects before after c.store.held.objects names Pointer (Yields object) made
         → Does before after here.size (make Pointer object c) answer new
     pub damaged : DoesByCode made
 
@@ -116,14 +117,14 @@ module _ (before after : Outside Space) (old new : Machine) (answer : Stepped) w
   pub record GivesBound (bound : Result ℤ OpFault) : Type 0 where
     pub ends : EndsSoundly bound (λ z. Unit {0}) old new answer
     pub does : (here : area.Heap) (names : List Reference) (c : Config) (wanted : ℤ) → LeavesOutside before after → HeldIn here before names old c
-        → Answers here old.objects before after (λ z w. z ≡ w) c.store.heap names (Yields wanted) bound
+        → Answers here old.objects before after (λ z w. z ≡ w) c.store.held.objects names (Yields wanted) bound
         → Does before after here.size (push_num wanted c) answer new
 
   -- a bool that has no trap
   pub record GivesFlag (got : Result Bool OpFault) : Type 0 where
     pub ends : EndsSoundly got (λ b. Unit {0}) old new answer
     pub does : (here : area.Heap) (names : List Reference) (c : Config) (wanted : Bool) → LeavesOutside before after → HeldIn here before names old c
-        → Answers here old.objects before after (λ b w. b ≡ w) c.store.heap names (Yields wanted) got
+        → Answers here old.objects before after (λ b w. b ≡ w) c.store.held.objects names (Yields wanted) got
         → Does before after here.size (push_num (number_of wanted) c) answer new
     pub damaged : DoesByCode got
 
@@ -132,23 +133,23 @@ module _ (before after : Outside Space) (old new : Machine) (answer : Stepped) w
       pub ends : EndsSoundly got (λ value. Unit {0}) old new answer
       pub does : (here : area.Heap) (names : List Reference) (c : Config) (form : Form) (attempt : Attempt Value) → LeavesOutside before after
           → HeldIn here before names old c
-          → Answers here old.objects before after (λ k v. IsOfForm form k × IsForIn old.objects after names k v) c.store.heap names attempt got
-          → Does before after here.size (attempted line attempt (λ w. when_number (Some form) (push_num (word_of w) c))) answer new
+          → Answers here old.objects before after (λ k v. IsOfForm form k × IsForIn old.objects after names k v) c.store.held.objects names attempt got
+          → Does before after here.size (attempted line attempt (λ w. when_number (Some form) (push_num (word_of w) (having (reading w) c)))) answer new
       pub damaged : DoesByCode got
 
     pub record GivesReference (got : Result code.Value OpFault) : Type 0 where
       pub ends : EndsSoundly got (IsNear old.objects) old new answer
       pub does : (here : area.Heap) (names : List Reference) (c : Config) (form : Form) (attempt : Attempt Value) → LeavesOutside before after
           → HeldIn here before names old c
-          → Answers here old.objects before after (λ k v. IsOfForm form k × IsForIn old.objects after names k v) c.store.heap names attempt got
-          → Does before after here.size (attempted line attempt (λ w. when_reference (Some form) (push_ref w c))) answer new
+          → Answers here old.objects before after (λ k v. IsOfForm form k × IsForIn old.objects after names k v) c.store.held.objects names attempt got
+          → Does before after here.size (attempted line attempt (λ w. when_reference (Some form) (push_ref w (having (reading w) c)))) answer new
       pub damaged : DoesByCode got
 
     pub record Changes (done : Result (Unit {0}) OpFault) : Type 0 where
       pub ends : EndsSoundly done (λ unit. Unit {0}) old new answer
-      pub does : (here : area.Heap) (names : List Reference) (c : Config) (attempt : Attempt Heap) → HeldIn here before names old c
-          → Writes here old.objects before after c.store.heap names attempt done
-          → Does before after here.size (attempted line attempt (λ heap. changed heap c)) answer new
+      pub does : (here : area.Heap) (names : List Reference) (c : Config) (place : Place) (attempt : Attempt Heap) → HeldIn here before names old c
+          → Writes here old.objects before after c.store.held.objects names attempt done
+          → Does before after here.size (attempted line attempt (λ heap. changed place heap c)) answer new
       pub damaged : DoesByCode done
 
   -- An operation without traps broke off with this fault: so did the step, whatever it is; or the code is damaged, and there is no step.

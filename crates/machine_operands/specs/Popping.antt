@@ -55,7 +55,7 @@ module _ (outside : Outside Space) where
   GivesVector names c None m = (next : List ℕ → Value → Config → Step) → pop_vector c next ≡ Stuck
   GivesVector names c (Some at) m =
       (d : Config) × (id : ℕ) × (ty : List ℕ) × ((next : List ℕ → Value → Config → Step) → pop_vector c next ≡ next ty (Vector id) d)
-      × (type_of d.store.heap (Vector id) ≡ Some ty) × HeldBy outside names m d × DenotesIn m.objects outside names (Some at) (Vector id)
+      × (type_of d.store.held.objects (Vector id) ≡ Some ty) × HeldBy outside names m d × DenotesIn m.objects outside names (Some at) (Vector id)
 
   pub record PopsVector (old new : Machine) (answer : Option ℕ) : Type 0 where
     pub gives : (names : List Reference) (c : Config) → HeldBy outside names old c → GivesVector names c answer new

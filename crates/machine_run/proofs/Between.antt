@@ -12,11 +12,11 @@ use Rattle.machine_core.specs.swizzle.declared.fault.SwizzleFault.TheVariants.{A
 use Rattle.machine_core.proofs.of_swizzle.KeptLaws.{held_is}
 use Rattle.machine_core.proofs.of_swizzle.ObjectLaws.{split}
 use Rattle.machine_core.proofs.of_swizzle.TextLaws.{length-text}
-use Rattle.machine_core.specs.ps_heap.Ends.{report_of}
-use Rattle.machine_core.specs.ps_meaning.Event.{Event, Turn, outputs, output_of}
+use Rattle.machine_core.specs.ps_heap.Ends.{End, report_of}
+use Rattle.machine_core.specs.ps_heap.Events.{Event, Turn, outputs, output_of}
 use Rattle.machine_core.specs.ps_meaning.Meaning.{some_out}
 use Rattle.machine_core.specs.ps_stepping.Config.{Config, code_in}
-use Rattle.machine_core.specs.ps_stepping.Machine.{Step, Goes, Steps}
+use Rattle.machine_core.specs.ps_stepping.Machine.{Step, Goes, Stops, Stuck, Steps, at_instruction}
 use Rattle.machine_core.specs.ps_stepping.Path.{Reaches, no_step, more}
 use Rattle.machine_core.specs.declared.machine.Machine.{Machine}
 use Rattle.machine_core.specs.declared.run_end.RunEnd.{RunEnd}
@@ -25,6 +25,7 @@ use Rattle.machine_core.specs.Holding.{Holds, IsSound}
 use Rattle.machine_core.specs.Items.{IsItem}
 use Rattle.machine_core.specs.Naming.{NamesObjects}
 use Rattle.machine_core.specs.Full.{BreaksBy}
+use Rattle.machine_core.specs.ps_stepping.Plain.{PlainSteps, at_plain, at_another, at_none}
 use Rattle.machine_core.specs.Stepped.{text_of, end_of, TakesStep}
 use Rattle.machine_core.proofs.Callers.{as-many}
 use Rattle.machine_core.proofs.Carrying.{breaks-earlier}
@@ -50,6 +51,17 @@ pub and_step : {c last next : Config} {before events : List Event} → Reaches c
 and_step {c = c} {next = next} {events = events} no_step steps = subst (λ (es : List Event). Reaches c es next) (append-nil events) (more steps no_step)
 and_step {c = c} {next = next} {events = events} (more {events = first} {behind = behind} step way) steps =
     subst (λ (es : List Event). Reaches c es next) (sym (append_assoc first behind events)) (more step (and_step way steps))
+
+-- a step of the machine that goes on or stops is one of the definition
+pub goes_plainly : {c : Config} {s : Step} (events : List Event) (next : Config) → PlainSteps c s → s ≡ Goes events next → Steps c (Goes events next)
+goes_plainly {c = c} events next (at_plain at plain) is = subst (λ (s : Step). Steps c s) is (at_instruction at)
+goes_plainly events next (at_another at other) is = absurd (let both : Stuck ≡ Goes events next = is in cc)
+goes_plainly events next (at_none none) is = absurd (let both : Stuck ≡ Goes events next = is in cc)
+
+pub stops_plainly : {c : Config} {s : Step} (e : End) (touched : ℕ) → PlainSteps c s → s ≡ Stops e touched → Steps c (Stops e touched)
+stops_plainly {c = c} e touched (at_plain at plain) is = subst (λ (s : Step). Steps c s) is (at_instruction at)
+stops_plainly e touched (at_another at other) is = absurd (let both : Stuck ≡ Stops e touched = is in cc)
+stops_plainly e touched (at_none none) is = absurd (let both : Stuck ≡ Stops e touched = is in cc)
 
 -- How many steps a run may take within a turn at most: by the bodies that wait, which are no more than 2,000, and then by the bytes of its code, which are
 -- fewer than 2 ^ 32.
@@ -135,7 +147,7 @@ module _ (old now new : Outside Space) (owed left rest : List ℕ) (m m' next : 
         let by = a.by w.last w.holds in
         let events = by.2.0 in
         let last = by.2.1 in
-        let step = subst (λ (s : Step). Steps w.last s) by.2.2 by.1 in
+        let step = goes_plainly events last by.1 by.2.2 in
         record {
           events = w.events ++ events;
           last = last;
@@ -154,7 +166,7 @@ module _ (old now new : Outside Space) (owed left rest : List ℕ) (m m' next : 
     between_fails a c h =
         let w = b.way c h in
         let by = a.by w.last w.holds in
-        cut (and_step w.way (subst (λ (s : Step). Steps w.last s) by.2.2 by.1))
+        cut (and_step w.way (goes_plainly by.2.0 by.2.1 by.1 by.2.2))
         (subst (λ (bs : List ℕ). FailsAfter old new bs)
         (append_assoc owed (outputs w.events) (outputs by.2.0) ∙ ap (λ (bs : List ℕ). owed ++ bs) (sym (outputs-append w.events by.2.0)))
         (but-fails old now new (owed ++ outputs w.events) left (outputs by.2.0) w.tells by.2.3)) a.cleared
@@ -183,17 +195,17 @@ module _ (old now new : Outside Space) (owed left rest : List ℕ) (m m' next : 
     between_ends final most (Ok answer) a report c h =
         let w = b.way c h in
         let by = a.by w.last w.holds in
-        let told = still_owed (owed ++ outputs w.events) w.tells by.2.1 in
+        let told = still_owed (owed ++ outputs w.events) w.tells by.2.2 in
         subst (λ (x : RunEnd). Ran old final owed most m.objects.size c (Ok x)) (sym report.0)
-        (ended w.way (subst (λ (s : Step). Steps w.last s) by.2.0 by.1)
+        (ended w.way (stops_plainly (end_of next.end) by.2.0 by.1 by.2.1)
         (subst (λ (bs : List ℕ). TellsBut old final bs most) (append_assoc owed (outputs w.events) (report_of (end_of next.end)))
         (but-then old new final (owed ++ outputs w.events) rest (report_of (end_of next.end)) most told report.1)))
     between_ends final most (Err f) a report c h =
         let w = b.way c h in
         let by = a.by w.last w.holds in
-        let told = still_owed (owed ++ outputs w.events) w.tells by.2.1 in
+        let told = still_owed (owed ++ outputs w.events) w.tells by.2.2 in
         subst (λ (x : SwizzleFault). Ran old final owed most m.objects.size c (Err x)) (sym report.0)
-        (report_cut next.end w.way (subst (λ (s : Step). Steps w.last s) by.2.0 by.1)
+        (report_cut next.end w.way (stops_plainly (end_of next.end) by.2.0 by.1 by.2.1)
         (subst (λ (bs : List ℕ). FailsAfter old final bs) (append_assoc owed (outputs w.events) (report_of (end_of next.end)))
         (but-fails old new final (owed ++ outputs w.events) rest (report_of (end_of next.end)) told report.1)) report.2)
 
@@ -250,7 +262,7 @@ module _ (old new : Outside Space) (owed : List ℕ) (m m' : Machine) (quiet : L
   }
 
   pub advance_halts : TakesStep old new m m' stepped.Halts → Advances old new owed owed m m' Ended
-  advance_halts t = record { size = tt; cleared = tt; by = λ c h. let d = t.does c h in (d.0, d.1, (d.2, but-leaves old new owed quiet)) }
+  advance_halts t = record { size = tt; cleared = tt; by = λ c h. let d = t.does c h in (d.0, d.1, (d.2.0, d.2.1, but-leaves old new owed quiet)) }
 
   pub advance_breaks : TakesStep old new m m' stepped.Breaks → Advances old new owed owed m m' Broke
   advance_breaks t = record { size = tt; cleared = tt; by = λ c h. let d = t.does c h in (d.0, d.1, (d.2, but-leaves old new owed quiet)) }
@@ -277,10 +289,10 @@ module _ (old new : Outside Space) (owed : List ℕ) (m m' : Machine) (quiet : L
             d.0,
             d.1,
             (
-              Turn d.2.0.store.counted ∷ [],
-              d.2.0,
+              Turn d.2.0 ∷ [],
               d.2.1,
-              put-holds m' new last d.2.0 same d.2.2,
+              d.2.2,
+              put-holds m' new last d.2.1 same d.2.3,
               subst (λ (bs : List ℕ). TellsBut old last bs left) (sym (append-nil owed)) (leaves-but old new last owed left quiet told),
             ),
           );
@@ -293,9 +305,9 @@ module _ (old new : Outside Space) (owed : List ℕ) (m m' : Machine) (quiet : L
             d.0,
             d.1,
             (
-              Turn d.2.0.store.counted ∷ [],
-              d.2.0,
+              Turn d.2.0 ∷ [],
               d.2.1,
+              d.2.2,
               subst (λ (bs : List ℕ). FailsAfter old last bs) (sym (append-nil owed)) (leaves-fails old new last owed quiet told),
             ),
           );
@@ -309,7 +321,7 @@ module _ (old new : Outside Space) (owed : List ℕ) (m m' : Machine) (quiet : L
       by = λ c h.
           let d = t.does c h in
           let bytes = text_of m'.objects m'.writing in
-          let out = some_out bytes d.2.0.store.counted in (
+          let out = some_out bytes d.2.0.store.held.counted in (
             d.0,
             d.1,
             (
@@ -317,7 +329,7 @@ module _ (old new : Outside Space) (owed : List ℕ) (m m' : Machine) (quiet : L
               d.2.0,
               d.2.1,
               put-holds m' new last d.2.0 same d.2.3,
-              subst (λ (bs : List ℕ). TellsBut old last (owed ++ bs) left) (sym (out_told bytes d.2.0.store.counted))
+              subst (λ (bs : List ℕ). TellsBut old last (owed ++ bs) left) (sym (out_told bytes d.2.0.store.held.counted))
                   (leaves-but old new last (owed ++ bytes) left quiet told),
             ),
           );
@@ -328,14 +340,14 @@ module _ (old new : Outside Space) (owed : List ℕ) (m m' : Machine) (quiet : L
       by = λ c h.
           let d = t.does c h in
           let bytes = text_of m'.objects m'.writing in
-          let out = some_out bytes d.2.0.store.counted in (
+          let out = some_out bytes d.2.0.store.held.counted in (
             d.0,
             d.1,
             (
               out,
               d.2.0,
               d.2.1,
-              subst (λ (bs : List ℕ). FailsAfter old last (owed ++ bs)) (sym (out_told bytes d.2.0.store.counted))
+              subst (λ (bs : List ℕ). FailsAfter old last (owed ++ bs)) (sym (out_told bytes d.2.0.store.held.counted))
                   (leaves-fails old new last (owed ++ bytes) quiet told),
             ),
           );

@@ -1,6 +1,6 @@
 -- What an instruction does, by which one it is; and the step of the machine, by what is spelled at its offset.
 use Rattle.std.proofs.Common.{◌≡◌, ℕ, ◌+◌, List, drop, refl, sym, ap, ◌∙◌, subst}
-use Rattle.std.specs.Prelude.{◌≢◌, Some, None}
+use Rattle.std.specs.Prelude.{◌≢◌, Bool, true, false, if◌then◌else◌, Some, None}
 use Rattle.ps_base.specs.CodeUnit.{UnitView, unit}
 use Rattle.ps_base.specs.Instr.{width_of}
 use Rattle.ps_base.specs.declared.instr.Instr.{Instr}
@@ -13,13 +13,14 @@ use Rattle.machine_core.specs.swizzle.Text.{text_at}
 use Rattle.machine_core.specs.proc_values.Reading.{IsInstrIn, IsSpelled}
 use Rattle.machine_core.specs.joint_ops.World.{IsUnitIn}
 use Rattle.machine_core.specs.ps_stepping.Config.{Config, IsAt, code_in}
-use Rattle.machine_core.specs.ps_stepping.Machine.{Stuck, acts, act, behind, at_instruction, at_nothing}
+use Rattle.machine_core.specs.ps_stepping.Machine.{Step, Stuck, acts, act, behind}
 use Rattle.machine_core.specs.declared.machine.Machine.{Machine}
 use Rattle.machine_core.specs.declared.stepped.Stepped.{Stepped}
 use Rattle.machine_core.specs.declared.stepped.Stepped.TheVariants.{Breaks, Damaged}
 use Rattle.machine_core.specs.Holding.{IsSound, Holds}
 use Rattle.machine_core.specs.Naming.{NamesObjects}
 use Rattle.machine_core.specs.Failing.{FailsAsReading}
+use Rattle.machine_core.specs.ps_stepping.Plain.{is_plain, acts_plainly, PlainSteps, at_plain, at_another, at_none}
 use Rattle.machine_core.specs.Stepped.{Takes, TakesStep, Does}
 use Rattle.machine_core.proofs.Failing.{whole-failing}
 use Rattle.machine_core.proofs.of_swizzle.ReadingLaws.{leaves-none}
@@ -30,25 +31,25 @@ use Rattle.machine_run.specs.inside.Acting.{ActsAs}
 
 module _ (before after : Outside Space) {i j : Instr} {own : ℕ} {old new : Machine} {answer : Stepped} (is : i ≡ j) where
   -- an instruction that may fetch
-  pub acts_as : Takes before after (acts j own) old new answer → FailsAsReading before after answer new → LeavesOutside before after
+  pub acts_as : Takes before after (acts_plainly j own) old new answer → FailsAsReading before after answer new → LeavesOutside before after
       → ActsAs before after i own old new answer
   acts_as takes fails leaves = record {
-    takes = subst (λ (x : Instr). Takes before after (acts x own) old new answer) (sym is) takes;
+    takes = subst (λ (x : Instr). Takes before after (acts_plainly x own) old new answer) (sym is) takes;
     fails = fails;
     leaves = leaves;
   }
 
 module _ (outside : Outside Space) {i j : Instr} {own : ℕ} {old new : Machine} {answer : Stepped} (is : i ≡ j) where
   -- one beside a vault that stays
-  pub acts_here : Takes outside outside (acts j own) old new answer → FailsAsReading outside outside answer new → ActsAs outside outside i own old new answer
+  pub acts_here : Takes outside outside (acts_plainly j own) old new answer → FailsAsReading outside outside answer new → ActsAs outside outside i own old new answer
   acts_here takes fails = acts_as outside outside is takes fails (leaves-none outside)
 
   -- one that doesn't break off
-  pub acts_on : Takes outside outside (acts j own) old new answer → answer ≢ Breaks → ActsAs outside outside i own old new answer
+  pub acts_on : Takes outside outside (acts_plainly j own) old new answer → answer ≢ Breaks → ActsAs outside outside i own old new answer
   acts_on takes goes = acts_here takes (whole-failing outside outside answer new goes)
 
 -- one that isn't done
-pub acts_not : (outside : Outside Space) {i j : Instr} {own : ℕ} {m : Machine} → i ≡ j → IsSound m → ((c : Config) → acts j own c ≡ Stuck)
+pub acts_not : (outside : Outside Space) {i j : Instr} {own : ℕ} {m : Machine} → i ≡ j → IsSound m → ((c : Config) → acts_plainly j own c ≡ Stuck)
     → ActsAs outside outside i own m m Damaged
 acts_not outside {i} {j} {own} {m} is sound not =
     acts_here outside {i = i} {j = j} {own = own} {old = m} {new = m} {answer = Damaged} is
@@ -128,7 +129,7 @@ module _ (before after : Outside Space) (m : Machine) (heap : IsHeap m.objects) 
     sound = sound;
     names = λ n. n;
     size = refl;
-    does = λ c h. (Stuck, at_nothing (λ i at. is i (m.at + width_of i) (at_machine c i h at)), refl);
+    does = λ c h. (Stuck, at_none (λ i at. is i (m.at + width_of i) (at_machine c i h at)), refl);
   }
 
   -- the step is what the instruction does from after itself
@@ -138,10 +139,17 @@ module _ (before after : Outside Space) (m : Machine) (heap : IsHeap m.objects) 
     sound = acting.takes.sound;
     names = λ n. acting.takes.names (names_after m next n);
     size = acting.takes.size;
-    does = λ c h. (
-      act i c,
-      at_instruction (at_offset c i next h is),
-      subst (λ (n : ℕ). Does before after m.objects.size (acts i n (behind i c)) answer new) (sym h.held.at_is)
-          (acting.takes.does (behind i c) (holds_after before m c i next h is.next_is)),
-    );
+    does = λ c h. plain c h (is_plain i) refl;
   }
+    where
+      plain : (c : Config) → Holds before m c → (b : Bool) → is_plain i ≡ b → (s : Step) × PlainSteps c s × Does before after m.objects.size s answer new
+      plain c h b same =
+          by b same
+          (subst (λ (x : Bool). Does before after m.objects.size (if x then acts i c.at (behind i c) else Stuck) answer new) same
+          (subst (λ (n : ℕ). Does before after m.objects.size (acts_plainly i n (behind i c)) answer new) (sym h.held.at_is)
+          (acting.takes.does (behind i c) (holds_after before m c i next h is.next_is))))
+        where
+          by : (b : Bool) → is_plain i ≡ b → Does before after m.objects.size (if b then acts i c.at (behind i c) else Stuck) answer new
+              → (s : Step) × PlainSteps c s × Does before after m.objects.size s answer new
+          by true same did = (act i c, at_plain (at_offset c i next h is) same, did)
+          by false same did = (Stuck, at_another (at_offset c i next h is) same, did)

@@ -132,7 +132,7 @@ module _ (outside : Outside Space) (u : UnitView) (turns : ℕ) (input : List �
         size = ap (λ (h : area.Heap). h.size) objects ∙ keeps ∙ ap (λ (h : area.Heap). h.size) empty;
         top = let top = is.top in let was = ap top_of empty in let now = ap top_of objects in omega (arith, top, was, now);
         starts = λ store g.
-            let world = (is.stands store.heap g.names (subst (λ (h : area.Heap). IsWorld h outside store.heap g.names) (sym empty) g.world)).world in
+            let world = (is.stands store.held.objects g.names (subst (λ (h : area.Heap). IsWorld h outside store.held.objects g.names) (sym empty) g.world)).world in
             record {
               names = g.names;
               held = record {
@@ -148,7 +148,7 @@ module _ (outside : Outside Space) (u : UnitView) (turns : ℕ) (input : List �
                 callers_are = (b.callers, b.nums_below, b.refs_below);
                 input_is = b.input ∙ read ∙ sym g.input_is;
                 turns_are = g.turns_are ∙ sym b.turns_are;
-                world = subst (λ (h : area.Heap). IsWorld h outside store.heap g.names) (sym objects) world;
+                world = subst (λ (h : area.Heap). IsWorld h outside store.held.objects g.names) (sym objects) world;
               };
             };
       }

@@ -1,7 +1,7 @@
 -- Each step brings a run nearer to its end: fewer turns are left, or as many and fewer bodies wait, or as many of both and fewer bytes of the code lie
 -- before it. And none lowers the count of bytes.
 use Rattle.std.proofs.Common.{◌≡◌, ℕ, zero, suc, ◌+◌, ◌-◌, ◌<◌, ℤ, pos, ◌+ℤ◌, Bool, true, false, List, [], ◌∷◌, length, Option, Some, None, refl, ap, subst, arith, length-append, length-drop}
-use Rattle.std.specs.Prelude.{◌≤◌, not, nat_lt, nat_eq, map, reverse, if◌then◌else◌}
+use Rattle.std.specs.Prelude.{◌≤◌, ◌++◌, not, nat_lt, map, reverse, if◌then◌else◌}
 use Rattle.std.specs.Fmt.{signed_decimal}
 use Rattle.std.proofs.lemmas.Bool.{ltb-true}
 use Rattle.ps_base.specs.CodeUnit.{UnitView, ConstantView, text, literal}
@@ -14,22 +14,28 @@ use Rattle.ps_base.specs.declared.operator.Relation.TheVariants as relation
 use Rattle.ps_base.specs.declared.instr.Instr.{Instr}
 use Rattle.ps_base.specs.declared.instr.Instr.TheVariants.{Int, True, False, Text, Nil, GetM, GetP, SetM, SetP, KeptM, KeptP, KeepM, KeepP, Scope, Leave, Jump, JumpFalse, Again, And, Or, Not, Neg, Add, Sub, Mul, Div, Rem, EqM, NeM, LtM, LeM, GtM, GeM, EqP, NeP, EqT, NeT, LtT, LeT, GtT, GeT, Join, Part, Is, Make, FieldM, FieldP, SetFieldM, SetFieldP, FillM, FillP, ListM, ListP, ElemM, ElemP, SetElemM, SetElemP, Lwb, Upb, Closure, Call, Return, Lib, WriteI, WriteB, WriteT, Abort, ForStart, ForNext, ScanT, ScanI, ScanMore, DupM, DupP, DropM, DropP, JumpTrue}
 use Rattle.machine_core.specs.ps_heap.Operators.{Answer, Gives, Traps, is_same, neg_of, arith_of, relation_of}
-use Rattle.machine_core.specs.ps_meaning.Event.{Event, count_of}
+use Rattle.machine_core.specs.ps_heap.Events.{Event, count_of}
 use Rattle.machine_core.specs.ps_heap.Values.{Value, Num, as_written, as_compiled, word_of, number_of, is_one, flag_text}
 use Rattle.machine_core.specs.ps_heap.Values as value
-use Rattle.machine_core.specs.ps_heap.Scopes.{kept_name, with_kept_name, new_scope, scope_at, scope_out}
-use Rattle.machine_core.specs.ps_meaning.Meaning.{is_width, in_places, some_out, with_turns, on_heap, and_object, and_text, and_closure, on_input}
+use Rattle.machine_core.specs.ps_heap.Scopes.{kept_name, new_scope, scope_at, scope_out}
+use Rattle.machine_core.specs.ps_heap.Held.{Place, Part, element_place, assigning, touching, reading, reading_name, assigned_name, way_out, denoted}
+use Rattle.machine_core.specs.ps_heap.Library.{LibraryProcedure, OnHeap, ReadLine, AtEnd, Length, IntText, library_procedure}
+use Rattle.machine_core.specs.ps_meaning.Meaning.{is_width, in_places, some_out, with_turns, and_object, and_text, and_closure, on_input}
 use Rattle.machine_core.specs.ps_heap.Texts.{Attempt, Yields, Fails, join_of, part_of, line_read, behind_line, is_at_end}
-use Rattle.machine_core.specs.ps_heap.Objects.{Heap, Object, Structure, Elements, Scope as ScopeOf, Keyed, new_number, is_class, field_of, with_field, vector_of, filled_vector, with_element, low_of, high_of, element_of as element_at}
-use Rattle.machine_core.specs.ps_meaning.Evaluation.{most_calls, goes_on, kept_as, kept_elements, text_relation, object_relation}
+use Rattle.machine_core.specs.ps_heap.Objects.{Heap, id_of, Object, Structure, Elements, Scope as ScopeOf, Keyed, new_number, is_class, field_of, with_field, vector_of, filled_vector, with_element, low_of, high_of, element_of as element_at}
+use Rattle.machine_core.specs.ps_meaning.Evaluation.{most_calls}
+use Rattle.machine_core.specs.ps_meaning.Loops.{goes_on}
+use Rattle.machine_core.specs.ps_meaning.Operations.{kept_as, kept_elements, text_relation, object_relation}
 use Rattle.machine_core.specs.text_forms.declared.forms.Form.{Form}
 use Rattle.machine_core.specs.text_forms.declared.forms.Form.TheVariants as form
 use Rattle.machine_core.specs.text_forms.Forms.{forms_of, form_in, element_of}
 use Rattle.machine_core.specs.ps_stepping.Steps.{text_of, text_in, attempted}
-use Rattle.machine_core.specs.ps_stepping.Objects.{holding, changed, make, make_text, denoting_of, object_of, pop_fields, when_number, when_reference, type_of, of_type, pop_nums, pop_refs, library, read_line, text_length, int_text, compare_texts, compare_objects, pop_vector, bound as bound_of}
+use Rattle.machine_core.specs.ps_stepping.Objects.{holding, having, changed, make, make_text, denoting_of, object_of, pop_fields, when_number, when_reference, type_of, of_type, pop_nums, pop_refs, compare_texts, compare_objects, pop_vector, bound as bound_of}
+use Rattle.machine_core.specs.ps_stepping.Library.{library_of, read_line, text_length, int_text}
 use Rattle.machine_core.specs.ps_stepping.Procedures.{of_scope, enter_scope, leave_scope, kept_num, kept_ref, keep_num, keep_ref, procedure_of, unit_called, takes_refs, in_turn, call}
 use Rattle.machine_core.specs.ps_stepping.Config.{Config, Caller, frame_words, code_in, constants_in, frame_in, constant_at}
-use Rattle.machine_core.specs.ps_stepping.Machine.{Step, Goes, Stops, Stuck, Steps, at_instruction, at_nothing, acts, on, put_num, push_num, push_ref, pop_num_of, pop_ref_of, is_num_slot, is_ref_slot, with_num, with_ref, forward, turn_to, back, answered, test, written, pop_width, push_text, started, counted, come_back, returned}
+use Rattle.machine_core.specs.ps_stepping.Machine.{Step, Goes, Stops, Stuck, acts, on, put_num, push_num, push_ref, pop_num_of, pop_ref_of, is_num_slot, is_ref_slot, with_num, with_ref, forward, turn_to, back, answered, test, written, pop_width, push_text, started, counted, come_back, returned}
+use Rattle.machine_core.specs.ps_stepping.Plain.{is_plain_call, acts_plainly, PlainSteps, at_plain, at_another, at_none}
 
 abbrev pub size : Config → ℕ
 size c = length (code_in c.unit)
@@ -61,8 +67,8 @@ record Bound : Type 0 where
 
 abbrev Lower : Bound → Step → Type 0
 Lower bound (Goes events next) =
-    IsNearer bound.of (left next) × (bound.counted_bytes ≤ next.store.counted) × AreCounted bound.counted_bytes events
-Lower bound (Stops e) = Unit {0}
+    IsNearer bound.of (left next) × (bound.counted_bytes ≤ next.store.held.counted) × AreCounted bound.counted_bytes events
+Lower bound (Stops e touched) = Unit {0}
 Lower bound Stuck = Unit {0}
 
 lower_fewer : (b : Bound) (count : ℕ) (s : Step) → b.counted_bytes ≤ count → Lower (record b { counted_bytes = count }) s → Lower b s
@@ -71,7 +77,7 @@ lower_fewer b count (Goes events next) few low = let more = low.1 in (low.0, ome
     fewer : (events : List Event) → AreCounted count events → AreCounted b.counted_bytes events
     fewer [] all = tt
     fewer (event ∷ events) all = let first = all.0 in (omega (arith, few, first), fewer events all.1)
-lower_fewer b count (Stops e) few low = tt
+lower_fewer b count (Stops e touched) few low = tt
 lower_fewer b count Stuck few low = tt
 
 -- the configuration is after an instruction at this offset of the code
@@ -80,7 +86,7 @@ Ahead own c = (own < size c) × (own < c.at)
 
 -- the bound of the instruction's own offset
 abbrev bound : ℕ → Config → Bound
-bound own c = record { of = record { turns = c.store.turns; callers = length c.callers; bytes = size c - own }; counted_bytes = c.store.counted }
+bound own c = record { of = record { turns = c.store.turns; callers = length c.callers; bytes = size c - own }; counted_bytes = c.store.held.counted }
 
 abbrev Drops : ℕ → Config → Step → Type 0
 Drops own c s = Lower (bound own c) s
@@ -135,7 +141,7 @@ out_counted [] count = tt
 out_counted (byte ∷ bytes) count = (omega arith, tt)
 
 drops_written : (own : ℕ) (line : Line) (width : Option ℤ) (bytes : List ℕ) (c : Config) → Ahead own c → Drops own c (written line width bytes c)
-drops_written own line width bytes c a = lower_if _ (is_width width) _ _ (λ e. (by_bytes refl refl (omega (arith, a.0, a.1)), omega arith, out_counted (in_places width bytes) c.store.counted)) (λ e. tt)
+drops_written own line width bytes c a = lower_if _ (is_width width) _ _ (λ e. (by_bytes refl refl (omega (arith, a.0, a.1)), omega arith, out_counted (in_places width bytes) c.store.held.counted)) (λ e. tt)
 
 -- a width is popped, and what follows is lower
 drops_width : (own w : ℕ) (c : Config) (next : Option ℤ → Config → Step) → ((width : Option ℤ) (rest : List ℤ) → Drops own c (next width (record c { nums = rest }))) → Drops own c (pop_width w c next)
@@ -145,7 +151,7 @@ drops_width own (suc (suc n)) c next f = tt
 
 -- where a body comes back to one that waits, fewer wait
 lower_back : (b : Bound) (callers : List Caller) (room : Caller → Step → Step) (nums : Caller → List ℤ) (refs : Caller → List Value) (c : Config) → length callers ≡ b.of.callers → c.store.turns ≡ b.of.turns
-    → b.counted_bytes ≤ c.store.counted → ((caller : Caller) (s : Step) → Lower b s → Lower b (room caller s)) → Lower b (come_back callers room nums refs c)
+    → b.counted_bytes ≤ c.store.held.counted → ((caller : Caller) (s : Step) → Lower b s → Lower b (room caller s)) → Lower b (come_back callers room nums refs c)
 lower_back b [] room nums refs c many turns more f = tt
 lower_back b (caller ∷ callers) room nums refs c many turns more f = f caller _ (by_callers turns (omega (arith, many)), more, tt)
 
@@ -258,15 +264,26 @@ lower_refs b (suc n) vs c refs next f = pops_ref b refs (record c { refs = refs 
 drops_text_made : (own : ℕ) (c : Config) (bytes : List ℕ) → Ahead own c → Drops own c (make_text bytes c)
 drops_text_made own c bytes a =
     let more = holding (and_text bytes c.store) c in
-    lower_fewer (bound own c) more.store.counted _ (omega arith) (drops_push_ref own more (value.Text bytes) a)
+    lower_fewer (bound own c) more.store.held.counted _ (omega arith) (drops_push_ref own more (value.Text bytes) a)
 
 drops_made : (own : ℕ) (c : Config) (denoting : ℕ → Value) (object : Object) → Ahead own c → Drops own c (make denoting object c)
 drops_made own c denoting object a =
     let more = holding (and_object object c.store) c in
-    lower_fewer (bound own c) more.store.counted _ (omega arith) (drops_push_ref own more (denoting (new_number c.store.heap)) a)
+    lower_fewer (bound own c) more.store.held.counted _ (omega arith) (drops_push_ref own more (denoting (new_number c.store.held.objects)) a)
 
-drops_changed : (own : ℕ) (c : Config) (heap : Heap) → Ahead own c → Drops own c (changed heap c)
-drops_changed own c heap a = drops_on own (holding (on_heap heap c.store) c) a
+drops_changed : (own : ℕ) (c : Config) (place : Place) (heap : Heap) → Ahead own c → Drops own c (changed place heap c)
+drops_changed own c place heap a = drops_on own (having (assigning place heap) c) a
+
+-- objects are touched
+drops_touched : (own : ℕ) (c : Config) (ids : List ℕ) (s : Step) → Drops own (having (touching ids) c) s → Drops own c s
+drops_touched own c ids s low = lower_fewer (bound own c) (having (touching ids) c).store.held.counted s (omega arith) low
+
+-- a value that was read from a place is pushed
+drops_push_read : (own : ℕ) (c : Config) (v : Value) → Ahead own c → Drops own c (push_num (word_of v) (having (reading v) c))
+drops_push_read own c v a = drops_touched own c (denoted v) _ (drops_push own (having (reading v) c) (word_of v) a)
+
+drops_push_ref_read : (own : ℕ) (c : Config) (v : Value) → Ahead own c → Drops own c (push_ref v (having (reading v) c))
+drops_push_ref_read own c v a = drops_touched own c (denoted v) _ (drops_push_ref own (having (reading v) c) v a)
 
 -- two texts are popped
 drops_texts : (own : ℕ) (c : Config) (next : List ℕ → List ℕ → Config → Step) → ((x y : List ℕ) (rest : List Value) → Drops own c (next x y (record c { refs = rest })))
@@ -292,9 +309,14 @@ drops_int_text own c a = pops _ c.nums c _ (λ z rest. drops_text_made own (reco
 drops_read_line : (own : ℕ) (line : Line) (c : Config) → Ahead own c → Drops own c (read_line line c)
 drops_read_line own line c a = lower_attempted _ line (line_read c.store.input) _ (λ bytes. drops_text_made own (holding (on_input (behind_line c.store.input) c.store) c) bytes a)
 
-drops_library : (own code : ℕ) (line : Line) (c : Config) → Ahead own c → Drops own c (library code line c)
-drops_library own code line c a = lower_if _ (nat_eq code 9) _ _ (λ e. drops_read_line own line c a) (λ e. lower_if _ (nat_eq code 10) _ _ (λ e'. drops_push own c (number_of (is_at_end c.store.input)) a)
-    (λ e'. lower_if _ (nat_eq code 11) _ _ (λ f. drops_length own c a) (λ f. lower_if _ (nat_eq code 12) _ _ (λ f'. drops_int_text own c a) (λ f'. tt))))
+drops_library : (own : ℕ) (of : Option LibraryProcedure) (line : Line) (c : Config) → Ahead own c
+    → Drops own c (if is_plain_call of then library_of of line c else Stuck)
+drops_library own (Some (OnHeap of)) line c a = tt
+drops_library own (Some ReadLine) line c a = drops_read_line own line c a
+drops_library own (Some AtEnd) line c a = drops_push own c (number_of (is_at_end c.store.input)) a
+drops_library own (Some Length) line c a = drops_length own c a
+drops_library own (Some IntText) line c a = drops_int_text own c a
+drops_library own None line c a = tt
 
 -- Scopes and procedures.
 
@@ -307,33 +329,42 @@ lower_of_scope b None next f = tt
 
 drops_enter : (own k : ℕ) (c : Config) → Ahead own c → Drops own c (enter_scope k c)
 drops_enter own k c a =
-    let more : List ℕ → Config = λ of. record (holding (and_object (new_scope of c.scope) c.store) c) { scope = Some (new_number c.store.heap) } in
+    let more : List ℕ → Config = λ of. record (holding (and_object (new_scope of c.scope) c.store) c) { scope = Some (new_number c.store.held.objects) } in
     lower_constant _ (constant_at (constants_in c.unit) k) (λ of. on (more of))
-    (λ of. lower_fewer (bound own c) (more of).store.counted (on (more of)) (omega arith) (drops_on own (more of) a))
+    (λ of. lower_fewer (bound own c) (more of).store.held.counted (on (more of)) (omega arith) (drops_on own (more of) a))
 
 drops_leave : (own : ℕ) (c : Config) → Ahead own c → Drops own c (leave_scope c)
-drops_leave own c a = lower_of_scope _ (scope_at c.store.heap c.scope) _ (λ of parent. drops_on own (record c { scope = parent }) a)
+drops_leave own c a = lower_of_scope _ (scope_at c.store.held.objects c.scope) _ (λ of parent. drops_on own (record c { scope = parent }) a)
+
+-- what is touched where a name is read
+abbrev read_on_the_way : ℕ → ℕ → Config → List ℕ
+read_on_the_way up i c = way_out c.store.held.objects c.scope up ++ denoted (kept_name c.store.held.objects c.scope up i)
+
+drops_name_put : (own up i : ℕ) (v : Value) (c : Config) → Ahead own c → Drops own c (on (having (assigned_name c.scope up i v) c))
+drops_name_put own up i v c a = drops_touched own c (way_out c.store.held.objects c.scope up) (on (having (assigned_name c.scope up i v) c)) (drops_on own (having (assigned_name c.scope up i v) c) a)
 
 drops_kept_num : (own up i : ℕ) (c : Config) → Ahead own c → Drops own c (kept_num up i c)
-drops_kept_num own up i c a = lower_of_scope _ (scope_at c.store.heap (scope_out c.store.heap c.scope up)) _
-    (λ of parent. lower_number _ (form_in (forms_of of) i) _ (drops_push own c (word_of (kept_name c.store.heap c.scope up i)) a))
+drops_kept_num own up i c a = lower_of_scope _ (scope_at c.store.held.objects (scope_out c.store.held.objects c.scope up)) _
+    (λ of parent. lower_number _ (form_in (forms_of of) i) _ (drops_touched own c (read_on_the_way up i c) _
+    (drops_push own (having (reading_name c.scope up i) c) (word_of (kept_name c.store.held.objects c.scope up i)) a)))
 
 drops_kept_ref : (own up i : ℕ) (c : Config) → Ahead own c → Drops own c (kept_ref up i c)
-drops_kept_ref own up i c a = lower_of_scope _ (scope_at c.store.heap (scope_out c.store.heap c.scope up)) _
-    (λ of parent. lower_reference _ (form_in (forms_of of) i) _ (drops_push_ref own c (kept_name c.store.heap c.scope up i) a))
+drops_kept_ref own up i c a = lower_of_scope _ (scope_at c.store.held.objects (scope_out c.store.held.objects c.scope up)) _
+    (λ of parent. lower_reference _ (form_in (forms_of of) i) _ (drops_touched own c (read_on_the_way up i c) _
+    (drops_push_ref own (having (reading_name c.scope up i) c) (kept_name c.store.held.objects c.scope up i) a)))
 
 drops_keep_num : (own up i : ℕ) (c : Config) → Ahead own c → Drops own c (keep_num up i c)
-drops_keep_num own up i c a = pops _ c.nums c _ (λ z rest. lower_of_scope _ (scope_at c.store.heap (scope_out c.store.heap c.scope up)) _
-    (λ of parent. lower_number _ (form_in (forms_of of) i) _ (drops_changed own (record c { nums = rest }) (with_kept_name c.store.heap c.scope up i (Num z)) a)))
+drops_keep_num own up i c a = pops _ c.nums c _ (λ z rest. lower_of_scope _ (scope_at c.store.held.objects (scope_out c.store.held.objects c.scope up)) _
+    (λ of parent. lower_number _ (form_in (forms_of of) i) _ (drops_name_put own up i (Num z) (record c { nums = rest }) a)))
 
 drops_keep_ref : (own up i : ℕ) (c : Config) → Ahead own c → Drops own c (keep_ref up i c)
-drops_keep_ref own up i c a = pops_ref _ c.refs c _ (λ v rest. lower_of_scope _ (scope_at c.store.heap (scope_out c.store.heap c.scope up)) _
-    (λ of parent. lower_reference _ (form_in (forms_of of) i) _ (drops_changed own (record c { refs = rest }) (with_kept_name c.store.heap c.scope up i v) a)))
+drops_keep_ref own up i c a = pops_ref _ c.refs c _ (λ v rest. lower_of_scope _ (scope_at c.store.held.objects (scope_out c.store.held.objects c.scope up)) _
+    (λ of parent. lower_reference _ (form_in (forms_of of) i) _ (drops_name_put own up i v (record c { refs = rest }) a)))
 
 drops_closure : (own : ℕ) (c : Config) (found : Option ConstantView) → Ahead own c → Drops own c (procedure_of found c)
 drops_closure own c (Some (literal of)) a =
     let more = holding (and_closure c.store) c in
-    lower_fewer (bound own c) more.store.counted _ (omega arith) (drops_push_ref own more (value.Procedure (as_compiled of) c.scope) a)
+    lower_fewer (bound own c) more.store.held.counted _ (omega arith) (drops_push_ref own more (value.Procedure (as_compiled of) c.scope) a)
 drops_closure own c (Some (text bytes)) a = tt
 drops_closure own c None a = tt
 
@@ -361,12 +392,12 @@ drops_call own n line c = lower_refs (bound own c) n [] c c.refs _ (λ vs rs. po
 -- a vector is popped
 drops_vector : (own : ℕ) (c d : Config) (next : List ℕ → Value → Config → Step) → ((ty : List ℕ) (v : Value) (rest : List Value) → Drops own c (next ty v (record d { refs = rest })))
     → Drops own c (pop_vector d next)
-drops_vector own c d next f = pops_ref _ d.refs d _ (λ v rest. lower_of_type _ (type_of d.store.heap v) _ (λ ty. f ty v rest))
+drops_vector own c d next f = pops_ref _ d.refs d _ (λ v rest. lower_of_type _ (type_of d.store.held.objects v) _ (λ ty. f ty v rest))
 
 drops_bound : (own : ℕ) (of : Heap → Value → ℤ) (c : Config) → Ahead own c → Drops own c (bound_of of c)
-drops_bound own of c a = drops_vector own c c (λ ty v d. push_num (of d.store.heap v) d) (λ ty v rest. drops_push own (record c { refs = rest }) (of c.store.heap v) a)
+drops_bound own of c a = drops_vector own c c (λ ty v d. push_num (of d.store.held.objects v) d) (λ ty v rest. drops_push own (record c { refs = rest }) (of c.store.held.objects v) a)
 
-drops : (i : Instr) (own : ℕ) (c : Config) → Ahead own c → Drops own c (acts i own c)
+drops : (i : Instr) (own : ℕ) (c : Config) → Ahead own c → Drops own c (acts_plainly i own c)
 drops (Int v) own c a = drops_push own c v a
 drops True own c a = drops_push own c (pos 1) a
 drops False own c a = drops_push own c (pos 0) a
@@ -414,19 +445,19 @@ drops (Part line) own c a = drops_two own c (λ i n d. pop_ref_of d.refs d (λ v
     (λ i n rest. pops_ref _ c.refs (record c { nums = rest }) _ (λ v rest'. lower_text _ v (record c { nums = rest; refs = rest' }) _
     (λ x. lower_attempted _ line (part_of x i n) _ (λ bytes. drops_text_made own (record c { nums = rest; refs = rest' }) bytes a))))
 drops (Is k) own c a = lower_constant _ (constant_at (constants_in c.unit) k) _ (λ class. pops_ref _ c.refs c _ (λ v rest. lower_object _ v (record c { refs = rest }) _
-    (λ w. drops_push own (record c { refs = rest }) (number_of (is_class c.store.heap w class)) a)))
+    (λ w. drops_push own (record c { refs = rest }) (number_of (is_class c.store.held.objects w class)) a)))
 drops (Make k) own c a = lower_constant _ (constant_at (constants_in c.unit) k) _ (λ class. lower_fields _ (reverse (forms_of class)) [] c c.nums c.refs _
     (λ fields ns rs. drops_made own (record c { nums = ns; refs = rs }) value.Pointer (Structure class fields) a))
 drops (FieldM k i line) own c a = lower_constant _ (constant_at (constants_in c.unit) k) _ (λ class. lower_number _ (form_in (forms_of class) i) _ (pops_ref _ c.refs c _ (λ v rest. lower_object _ v (record c { refs = rest }) _
-    (λ w. lower_attempted _ line (field_of c.store.heap w class i) _ (λ x. drops_push own (record c { refs = rest }) (word_of x) a)))))
+    (λ w. lower_attempted _ line (field_of c.store.held.objects w class i) _ (λ x. drops_push_read own (record c { refs = rest }) x a)))))
 drops (FieldP k i line) own c a = lower_constant _ (constant_at (constants_in c.unit) k) _ (λ class. lower_reference _ (form_in (forms_of class) i) _ (pops_ref _ c.refs c _ (λ v rest. lower_object _ v (record c { refs = rest }) _
-    (λ w. lower_attempted _ line (field_of c.store.heap w class i) _ (λ x. drops_push_ref own (record c { refs = rest }) x a)))))
+    (λ w. lower_attempted _ line (field_of c.store.held.objects w class i) _ (λ x. drops_push_ref_read own (record c { refs = rest }) x a)))))
 drops (SetFieldM k i line) own c a = lower_constant _ (constant_at (constants_in c.unit) k) _ (λ class. lower_number _ (form_in (forms_of class) i) _ (pops _ c.nums c _ (λ z ns. pops_ref _ c.refs (record c { nums = ns }) _ (λ v rest.
-    lower_object _ v (record c { nums = ns; refs = rest }) _ (λ w. lower_attempted _ line (with_field c.store.heap w class i (kept_as (form_in (forms_of class) i) (Num z))) _
-    (λ heap. drops_changed own (record c { nums = ns; refs = rest }) heap a))))))
+    lower_object _ v (record c { nums = ns; refs = rest }) _ (λ w. lower_attempted _ line (with_field c.store.held.objects w class i (kept_as (form_in (forms_of class) i) (Num z))) _
+    (λ heap. drops_changed own (record c { nums = ns; refs = rest }) (Part (id_of v) i) heap a))))))
 drops (SetFieldP k i line) own c a = lower_constant _ (constant_at (constants_in c.unit) k) _ (λ class. lower_reference _ (form_in (forms_of class) i) _ (pops_ref _ c.refs c _ (λ x below. pops_ref _ below (record c { refs = below }) _ (λ v rest.
-    lower_object _ v (record c { refs = rest }) _ (λ w. lower_attempted _ line (with_field c.store.heap w class i x) _
-    (λ heap. drops_changed own (record c { refs = rest }) heap a))))))
+    lower_object _ v (record c { refs = rest }) _ (λ w. lower_attempted _ line (with_field c.store.held.objects w class i x) _
+    (λ heap. drops_changed own (record c { refs = rest }) (Part (id_of v) i) heap a))))))
 drops (FillM k line) own c a = lower_constant _ (constant_at (constants_in c.unit) k) _ (λ ty. lower_number _ (Some (element_of ty)) _ (pops _ c.nums c _ (λ z ns. pops _ ns (record c { nums = ns }) _ (λ high ns'. pops _ ns' (record c { nums = ns' }) _ (λ low rest.
     lower_attempted _ line (filled_vector ty low high (kept_as (Some (element_of ty)) (Num z))) _ (λ object. drops_made own (record c { nums = rest }) value.Vector object a))))))
 drops (FillP k line) own c a = lower_constant _ (constant_at (constants_in c.unit) k) _ (λ ty. lower_reference _ (Some (element_of ty)) _ (pops_ref _ c.refs c _ (λ v rs. pops _ c.nums (record c { refs = rs }) _ (λ high ns'. pops _ ns' (record c { nums = ns'; refs = rs }) _ (λ low rest.
@@ -435,20 +466,20 @@ drops (ListM k n line) own c a = lower_constant _ (constant_at (constants_in c.u
     lower_attempted _ line (vector_of ty low (kept_elements ty (map Num zs))) _ (λ object. drops_made own (record c { nums = rest }) value.Vector object a)))))
 drops (ListP k n line) own c a = lower_constant _ (constant_at (constants_in c.unit) k) _ (λ ty. lower_reference _ (Some (element_of ty)) _ (lower_refs _ n [] c c.refs _ (λ vs rs. pops _ c.nums (record c { refs = rs }) _ (λ low rest.
     lower_attempted _ line (vector_of ty low vs) _ (λ object. drops_made own (record c { nums = rest; refs = rs }) value.Vector object a)))))
-drops (ElemM line) own c a = pops _ c.nums c _ (λ i ns. drops_vector own c (record c { nums = ns }) _ (λ ty v rest. lower_attempted _ line (element_at c.store.heap v i) _
-    (λ w. lower_number _ (Some (element_of ty)) _ (drops_push own (record c { nums = ns; refs = rest }) (word_of w) a))))
-drops (ElemP line) own c a = pops _ c.nums c _ (λ i ns. drops_vector own c (record c { nums = ns }) _ (λ ty v rest. lower_attempted _ line (element_at c.store.heap v i) _
-    (λ w. lower_reference _ (Some (element_of ty)) _ (drops_push_ref own (record c { nums = ns; refs = rest }) w a))))
+drops (ElemM line) own c a = pops _ c.nums c _ (λ i ns. drops_vector own c (record c { nums = ns }) _ (λ ty v rest. lower_attempted _ line (element_at c.store.held.objects v i) _
+    (λ w. lower_number _ (Some (element_of ty)) _ (drops_push_read own (record c { nums = ns; refs = rest }) w a))))
+drops (ElemP line) own c a = pops _ c.nums c _ (λ i ns. drops_vector own c (record c { nums = ns }) _ (λ ty v rest. lower_attempted _ line (element_at c.store.held.objects v i) _
+    (λ w. lower_reference _ (Some (element_of ty)) _ (drops_push_ref_read own (record c { nums = ns; refs = rest }) w a))))
 drops (SetElemM line) own c a = pops _ c.nums c _ (λ z ns'. pops _ ns' (record c { nums = ns' }) _ (λ i ns. drops_vector own c (record c { nums = ns }) _ (λ ty v rest.
-    lower_attempted _ line (with_element c.store.heap v i (kept_as (Some (element_of ty)) (Num z))) _ (λ heap. lower_number _ (Some (element_of ty)) _ (drops_changed own (record c { nums = ns; refs = rest }) heap a)))))
+    lower_attempted _ line (with_element c.store.held.objects v i (kept_as (Some (element_of ty)) (Num z))) _ (λ heap. lower_number _ (Some (element_of ty)) _ (drops_changed own (record c { nums = ns; refs = rest }) (element_place c.store.held.objects v i) heap a)))))
 drops (SetElemP line) own c a = pops_ref _ c.refs c _ (λ w rs. pops _ c.nums (record c { refs = rs }) _ (λ i ns. drops_vector own c (record c { nums = ns; refs = rs }) _ (λ ty v rest.
-    lower_attempted _ line (with_element c.store.heap v i w) _ (λ heap. lower_reference _ (Some (element_of ty)) _ (drops_changed own (record c { nums = ns; refs = rest }) heap a)))))
+    lower_attempted _ line (with_element c.store.held.objects v i w) _ (λ heap. lower_reference _ (Some (element_of ty)) _ (drops_changed own (record c { nums = ns; refs = rest }) (element_place c.store.held.objects v i) heap a)))))
 drops Lwb own c a = drops_bound own low_of c a
 drops Upb own c a = drops_bound own high_of c a
 drops (Closure k) own c a = drops_closure own c (constant_at (constants_in c.unit) k) a
 drops (Call n line) own c a = drops_call own n line c
 drops (Return k) own c a = drops_returned own k c
-drops (Lib k line) own c a = drops_library own k line c a
+drops (Lib k line) own c a = drops_library own (library_procedure k) line c a
 drops (WriteI w line) own c a = drops_width own w c _ (λ width rest. pops _ rest (record c { nums = rest }) _ (λ z rest'. drops_written own line width (signed_decimal z) (record c { nums = rest' }) a))
 drops (WriteB w line) own c a = drops_width own w c _ (λ width rest. pops _ rest (record c { nums = rest }) _ (λ z rest'. drops_written own line width (flag_text (is_one z)) (record c { nums = rest' }) a))
 drops (WriteT w line) own c a = drops_width own w c _ (λ width rest. pops_ref _ c.refs (record c { nums = rest }) _ (λ v rest'. lower_text _ v (record c { nums = rest; refs = rest' }) _ (λ bytes. drops_written own line width bytes (record c { nums = rest; refs = rest' }) a)))
@@ -464,10 +495,12 @@ drops DropM own c a = pops _ c.nums c _ (λ z rest. drops_on own (record c { num
 drops DropP own c a = pops_ref _ c.refs c _ (λ v rest. drops_on own (record c { refs = rest }) a)
 
 -- A step that goes on comes nearer to the end, and counts no fewer bytes.
-pub nearer : {c : Config} {s : Step} → Steps c s → (events : List Event) (next : Config) → s ≡ Goes events next
-    → IsNearer (left c) (left next) × (c.store.counted ≤ next.store.counted) × AreCounted c.store.counted events
-nearer {c} {s} (at_instruction {i} at) events next is =
+pub nearer : {c : Config} {s : Step} → PlainSteps c s → (events : List Event) (next : Config) → s ≡ Goes events next
+    → IsNearer (left c) (left next) × (c.store.held.counted ≤ next.store.held.counted) × AreCounted c.store.held.counted events
+nearer {c} {s} (at_plain {i} at plain) events next is =
     let inside : c.at < size c = omega (arith, ap length at.spelled, length-append (spelling i) at.rest, length-spelling i, length-drop c.at (code_in c.unit)) in
-    let lower = drops i c.at (record c { at = c.at + width_of i }) (inside, omega arith) in
-    subst (λ (x : Step). Lower (bound c.at c) x) is lower
-nearer {c} {s} (at_nothing none) events next is = absurd (let both : Stuck ≡ Goes events next = is in cc)
+    let after = record c { at = c.at + width_of i } in
+    let lower = drops i c.at after (inside, omega arith) in
+    subst (λ (x : Step). Lower (bound c.at c) x) is (subst (λ (b : Bool). Lower (bound c.at c) (if b then acts i c.at after else Stuck)) plain lower)
+nearer {c} {s} (at_another at other) events next is = absurd (let both : Stuck ≡ Goes events next = is in cc)
+nearer {c} {s} (at_none none) events next is = absurd (let both : Stuck ≡ Goes events next = is in cc)

@@ -30,5 +30,5 @@ put-holds m before after c same h =
     record {
       names = h.names;
       held = read-holds here here before after h.names (words_of m) c h.held
-          (keeps-stands here here before after c.store.heap h.names (keeps-refl here) (put-within here before after same) h.held.world);
+          (keeps-stands here here before after c.store.held.objects h.names (keeps-refl here) (put-within here before after same) h.held.world);
     }

@@ -38,7 +38,7 @@ pub record IsFrame (frame : Frame) : Type 0 where
 -- A store with so many turns and this input, for whose heap an empty area stands beside the vault.
 pub record IsGiven (size : ℕ) (outside : Outside Space) (turns : ℕ) (input : List ℕ) (store : Store) : Type 0 where
   pub names : List Reference
-  pub world : IsWorld (fresh_heap size) outside store.heap names
+  pub world : IsWorld (fresh_heap size) outside store.held.objects names
   pub turns_are : store.turns ≡ turns
   pub input_is : store.input ≡ input
 

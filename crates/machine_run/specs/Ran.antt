@@ -6,12 +6,13 @@ use Rattle.vault_output.specs.obj_layout.declared.vault.VaultFault.TheVariants.{
 use Rattle.machine_core.specs.swizzle.declared.fault.SwizzleFault.{SwizzleFault}
 use Rattle.machine_core.specs.swizzle.declared.fault.SwizzleFault.TheVariants.{AreaFull, Vault}
 use Rattle.machine_core.specs.ps_heap.Ends.{report_of}
-use Rattle.machine_core.specs.ps_meaning.Event.{Event, outputs}
+use Rattle.machine_core.specs.ps_heap.Events.{Event, outputs}
 use Rattle.machine_core.specs.ps_stepping.Config.{Config}
 use Rattle.machine_core.specs.ps_stepping.Machine.{Step, Stops, Steps}
 use Rattle.machine_core.specs.ps_stepping.Path.{Reaches}
 use Rattle.machine_core.specs.declared.run_end.RunEnd.{RunEnd}
 use Rattle.machine_core.specs.Full.{BreaksBy}
+use Rattle.machine_core.specs.ps_stepping.Plain.{PlainSteps}
 use Rattle.machine_core.specs.Stepped.{end_of}
 
 -- What a crash may leave and what is held stay at each moment, and no count sinks.
@@ -55,14 +56,14 @@ IsCause old new (Vault (Damaged at found wanted)) = Unit {0}
 -- was output, but for what is pending at its end:
 pub data Ran (old new : Outside Space) (owed left : List ℕ) (size : ℕ) (c : Config) : Result RunEnd SwizzleFault → Type 0 where
   -- the run stopped there: all that the events output, and the report of the end
-  ended : {events : List Event} {last : Config} {e : RunEnd} → Reaches c events last → Steps last (Stops (end_of e))
+  ended : {events : List Event} {last : Config} {e : RunEnd} {touched : ℕ} → Reaches c events last → Steps last (Stops (end_of e) touched)
       → TellsBut old new (owed ++ (outputs events ++ report_of (end_of e))) left → Ran old new owed left size c (Ok e)
   -- the next step broke off: all that the events output
-  broke : {events : List Event} {last : Config} {s : Step} {fault : SwizzleFault} → Reaches c events last → Steps last s → BreaksBy old new size s fault
+  broke : {events : List Event} {last : Config} {s : Step} {fault : SwizzleFault} → Reaches c events last → PlainSteps last s → BreaksBy old new size s fault
       → TellsBut old new (owed ++ outputs events) left → Ran old new owed left size c (Err fault)
   -- the output failed: a prefix of what the events output, and nothing is pending
   cut : {events : List Event} {last : Config} → Reaches c events last → FailsAfter old new (owed ++ outputs events) → left ≡ []
       → Ran old new owed left size c (Err (Vault Output))
   -- the run stopped there, and the output failed in the report: a prefix of all that was to be output
-  report_cut : {events : List Event} {last : Config} (e : RunEnd) → Reaches c events last → Steps last (Stops (end_of e))
+  report_cut : {events : List Event} {last : Config} {touched : ℕ} (e : RunEnd) → Reaches c events last → Steps last (Stops (end_of e) touched)
       → FailsAfter old new (owed ++ (outputs events ++ report_of (end_of e))) → left ≡ [] → Ran old new owed left size c (Err (Vault Output))

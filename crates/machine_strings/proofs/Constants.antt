@@ -1,5 +1,5 @@
 -- Text constants that are pushed.
-use Rattle.std.proofs.Common.{◌≡◌, ℕ, List, Option, Some, None, refl, sym, ap, ◌∙◌, subst}
+use Rattle.std.proofs.Common.{◌≡◌, ℕ, Option, Some, None, refl, sym, ap, subst}
 use Rattle.std.specs.Prelude.{Ok, Err}
 use Rattle.ps_base.specs.CodeUnit.{ConstantView, text, literal}
 use Rattle.machine_core.specs.ps_outside.Outside.{Outside}

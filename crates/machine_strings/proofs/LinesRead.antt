@@ -10,7 +10,8 @@ use Rattle.machine_core.specs.ps_meaning.Meaning.{on_input}
 use Rattle.machine_core.specs.ps_heap.Texts.{Attempt, Fails, line_of, behind_line, line_read, string_of, is_at_end}
 use Rattle.machine_core.specs.ps_stepping.Config.{Config}
 use Rattle.machine_core.specs.ps_stepping.Steps.{Stops, attempted}
-use Rattle.machine_core.specs.ps_stepping.Objects.{holding, make_text, read_line}
+use Rattle.machine_core.specs.ps_stepping.Objects.{holding, make_text}
+use Rattle.machine_core.specs.ps_stepping.Library.{read_line}
 use Rattle.machine_core.specs.declared.machine.Machine.{Machine}
 use Rattle.machine_core.specs.declared.stepped.Stepped.{Stepped}
 use Rattle.machine_core.specs.Holding.{HeldBy, IsSound}
@@ -31,9 +32,9 @@ line-read (byte ∷ bytes) is = refl
 
 -- so the run ends in that trap
 pub no-input : (out : Outside Space) (line : Line) (m new : Machine) (r : Stepped) → line_read m.input ≡ Fails NoInput
-    → Takes out out (λ c. Stops (Trapped NoInput line)) m new r → Takes out out (read_line line) m new r
+    → Takes out out (λ c. Stops (Trapped NoInput line) 0) m new r → Takes out out (read_line line) m new r
 no-input out line m new r none t =
-    same-held out out m new r (λ c. Stops (Trapped NoInput line)) (read_line line)
+    same-held out out m new r (λ c. Stops (Trapped NoInput line) 0) (read_line line)
     (λ c h.
     ap (λ (a : Attempt (List ℕ)). attempted line a (λ bytes. make_text bytes (holding (on_input (behind_line c.store.input) c.store) c)))
     (ap line_read (sym h.held.input_is) ∙ none))

@@ -1,6 +1,6 @@
 -- What an instruction does, from what its parts take from the stacks and give.
 use Rattle.std.proofs.Common.{◌≡◌, ℕ, List, Some, sym, ◌∙◌, subst}
-use Rattle.std.specs.Prelude.{Result, Err, IfOk}
+use Rattle.std.specs.Prelude.{Result, IfOk}
 use Rattle.ps_base.specs.declared.line.Line.{Line}
 use Rattle.machine_core.specs.ps_outside.Outside.{Outside}
 use Rattle.machine_core.specs.obj_layout.Stored.{Space}
@@ -41,7 +41,7 @@ module _ (out : Outside Space) (of : Config → Step) (old last : Machine) (left
       pub attempt : Attempt (List ℕ)
       pub step : of c ≡ attempted line attempt (λ bytes. make_text bytes next)
       pub held : HeldBy out names last next
-      pub makes : MakesText last.objects now out next.store.heap names attempt made
+      pub makes : MakesText last.objects now out next.store.held.objects names attempt made
 
     pub gives : (new : Machine) (r : Stepped) → Keeps last.objects now → IfOk made (IsHeld now) → GivesText out line (record last { objects = now }) new r made
         → ((names : List Reference) (c : Config) → HeldBy out names old c → Makes names c) → Takes out out of old new r

@@ -1,6 +1,6 @@
 //! The library's functions over the input.
 ghost use Rattle.std.specs.Prelude.{◌≢◌};
-ghost use Rattle.machine_core.specs.ps_stepping.Objects.{read_line as read_line_of, at_end as at_end_of};
+ghost use Rattle.machine_core.specs.ps_stepping.Library.{read_line as read_line_of, at_end as at_end_of};
 ghost use Rattle.machine_core.specs.Failing.{FailsAsReading};
 ghost use Rattle.machine_core.specs.Holding.{IsSound};
 ghost use Rattle.machine_core.specs.declared.stepped.Stepped.TheVariants.{Breaks};

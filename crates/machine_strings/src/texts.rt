@@ -4,10 +4,12 @@ ghost use Rattle.std.specs.Prelude.{◌≡◌, ◌≢◌, ℕ, List};
 ghost use Rattle.machine_core.specs.obj_layout.Storing.{SameNumbers};
 ghost use Rattle.machine_core.specs.swizzle.Reading.{LeavesOutside};
 ghost use Rattle.machine_core.specs.ps_heap.Texts.{order_of};
-ghost use Rattle.machine_core.specs.ps_meaning.Evaluation.{text_relation};
+ghost use Rattle.machine_core.specs.ps_meaning.Operations.{text_relation};
 ghost use Rattle.machine_core.specs.ps_stepping.Config.{constants_in, constant_at};
 ghost use Rattle.machine_core.specs.ps_stepping.Machine.{push_text as push_text_of, write_text as write_text_of};
-ghost use Rattle.machine_core.specs.ps_stepping.Objects.{join as join_of, part as part_of, int_text as int_text_of, text_length as text_length_of, compare_texts as compare_texts_of, library as library_of};
+ghost use Rattle.machine_core.specs.ps_stepping.Objects.{join as join_of, part as part_of, compare_texts as compare_texts_of};
+ghost use Rattle.machine_core.specs.ps_stepping.Library.{int_text as int_text_of, text_length as text_length_of};
+ghost use Rattle.machine_core.specs.ps_stepping.Plain.{plain_library};
 ghost use Rattle.machine_core.specs.Failing.{FailsAsReading};
 ghost use Rattle.machine_core.specs.Holding.{IsSound};
 ghost use Rattle.machine_core.specs.Naming.{NamesObjects};
@@ -48,12 +50,12 @@ pub fn push_text<V: Vault>(m: &mut Machine, vault: &mut V, k: u32) -> Stepped
     }
 }
 
-/// Calls the library's function of this code; damaged where it has none.
+/// Calls the library's function of this code; damaged where it has none, and where it is one of tables or databases.
 #[inline]
 pub fn library<V: Vault>(m: &mut Machine, vault: &V, code: u32, line: Line) -> Stepped
     requires sound { IsSound m.old }
     requires names { NamesObjects m.old }
-    ensures takes { Takes (V.outside vault.now) (V.outside vault.now) (library_of code line) m.old m.new result }
+    ensures takes { Takes (V.outside vault.now) (V.outside vault.now) (plain_library code line) m.old m.new result }
     ensures fails { FailsAsReading (V.outside vault.now) (V.outside vault.now) result m.new }
 {
     match code {

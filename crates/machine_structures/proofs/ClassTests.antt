@@ -31,7 +31,7 @@ use Rattle.machine_structures.proofs.ClassFields.{class-follows, class-or-none, 
 
 module _ (k : ℕ) where
   abbrev tests : Config → List ℕ → Step
-  tests c class = pop_object c (λ v d. push_num (number_of (is_class d.store.heap v class)) d)
+  tests c class = pop_object c (λ v d. push_num (number_of (is_class d.store.held.objects v class)) d)
 
   module _ (before after : Outside Space) (old mid : Machine) (now : area.Heap) (left : Leaves old mid) (object : Option ℕ)
       (pops : PopsObject before old mid (Some object)) where
@@ -52,11 +52,11 @@ module _ (k : ℕ) where
               let p = pops.gives names c h in
               let d = p.0 in
               let v = p.1 in
-              let same : is_of_class k c ≡ push_num (number_of (is_class d.store.heap v f.class)) d =
-              class-follows c.unit k f (tests c) ∙ p.2 (λ o e. push_num (number_of (is_class e.store.heap o f.class)) e) in
+              let same : is_of_class k c ≡ push_num (number_of (is_class d.store.held.objects v f.class)) d =
+              class-follows c.unit k f (tests c) ∙ p.2 (λ o e. push_num (number_of (is_class e.store.held.objects o f.class)) e) in
               subst (λ (s : Step). Does before after mid.objects.size s r new) (sym same)
-              (give.does mid.objects names d (is_class d.store.heap v f.class) leaves p.3
-              (got d.store.heap names f.class v p.3.world (names-class mid.objects before old.code k c.unit (code-there names c h) f) p.4))
+              (give.does mid.objects names d (is_class d.store.held.objects v f.class) leaves p.3
+              (got d.store.held.objects names f.class v p.3.world (names-class mid.objects before old.code k c.unit (code-there names c h) f) p.4))
           | inr none ↦
               give.damaged mid.objects old.code (is_of_class k c) (no-class c.unit k none (tests c))
               (lacked (lacks-class mid.objects before old.code k c.unit (code-there names c h) none))

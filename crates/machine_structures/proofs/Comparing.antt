@@ -5,7 +5,7 @@ use Rattle.machine_core.specs.ps_outside.Outside.{Outside}
 use Rattle.machine_core.specs.obj_layout.Stored.{Space}
 use Rattle.machine_core.specs.obj_layout.declared.reference.Reference.{Reference}
 use Rattle.machine_core.specs.swizzle.Heap as area
-use Rattle.machine_core.specs.ps_meaning.Evaluation.{object_relation}
+use Rattle.machine_core.specs.ps_meaning.Operations.{object_relation}
 use Rattle.machine_core.specs.ps_heap.Objects.{Heap, is_one_object}
 use Rattle.machine_core.specs.ps_heap.Values.{Value, Nil, number_of}
 use Rattle.machine_core.specs.ps_stepping.Steps.{push_num, push_ref}
@@ -41,7 +41,7 @@ objects-compared outside op old mid last new b a are_one stands r first second p
     let y = p.gives names c h in
     let x = q.gives names y.0 y.3 in
     let right = subst (λ (here : area.Heap). DenotesIn here outside names b y.1) (sym second.objects) y.4 in
-    let same : object_relation op x.1 y.1 ≡ stands = related x.1 y.1 (sym (one x.0.store.heap names x.1 y.1 x.3.world x.4 right x.5 y.5)) in (
+    let same : object_relation op x.1 y.1 ≡ stands = related x.1 y.1 (sym (one x.0.store.held.objects names x.1 y.1 x.3.world x.4 right x.5 y.5)) in (
       x.0,
       y.2 (λ w d. pop_denoting d (λ v e. push_num (number_of (object_relation op v w)) e))
           ∙ x.2 (λ v e. push_num (number_of (object_relation op v y.1)) e)

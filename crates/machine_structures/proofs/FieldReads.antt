@@ -70,11 +70,11 @@ object-same Nothing c f g is = refl
 abbrev pub reads_field : Row → (Value → Config → Step) → ℕ → ℕ → Line → Config → Step
 reads_field row push k n line c =
     text_in (constant_at (constants_in c.unit) k) (λ class. when_in_row row (form_in (forms_of class) n)
-    (pop_object c (λ v d. attempted line (field_of d.store.heap v class n) (λ w. push w d))))
+    (pop_object c (λ v d. attempted line (field_of d.store.held.objects v class n) (λ w. push w d))))
 
 module _ (row : Row) (push : Value → Config → Step) (k n : ℕ) (line : Line) where
   abbrev gets : Config → List ℕ → Option Form → Step
-  gets c class g = pop_object c (λ v d. attempted line (field_of d.store.heap v class n) (λ w. push w d))
+  gets c class g = pop_object c (λ v d. attempted line (field_of d.store.held.objects v class n) (λ w. push w d))
 
   module _ (before after : Outside Space) (old mid : Machine) (now : area.Heap) (left : Leaves old mid) (object : Option ℕ)
       (pops : PopsAny before old mid (Some object)) where
@@ -92,7 +92,7 @@ module _ (row : Row) (push : Value → Config → Step) (k n : ℕ) (line : Line
       code-there = subst (λ (here : area.Heap). IsUnitIn here before old.code c.unit) (sym left.objects) h.unit_is
 
       abbrev next : List ℕ → Value → Config → Step
-      next class v d = attempted line (field_of d.store.heap v class n) (λ w. push w d)
+      next class v d = attempted line (field_of d.store.held.objects v class n) (λ w. push w d)
 
       -- the step, where there is such a field
       found : (f : HasField c.unit k n) (v : Value) (d : Config) → ((next : Value → Config → Step) → pop_ref c next ≡ next v d)
@@ -106,16 +106,16 @@ module _ (row : Row) (push : Value → Config → Step) (k n : ℕ) (line : Line
       lacking none = lacks-field mid.objects before old.code k n c.unit code-there none
 
       got-there : (got : Result code.Value OpFault) → Got got → (f : HasField c.unit k n)
-          → Answers mid.objects now before after (λ c v. IsOfForm f.located.place.form c × IsForIn now after names c v) (pops.gives names c h).0.store.heap
+          → Answers mid.objects now before after (λ c v. IsOfForm f.located.place.form c × IsForIn now after names c v) (pops.gives names c h).0.store.held.objects
           names
-          (field_of (pops.gives names c h).0.store.heap (pops.gives names c h).1 f.named.class n) got
+          (field_of (pops.gives names c h).0.store.held.objects (pops.gives names c h).1 f.named.class n) got
       got-there got clause f =
           let p = pops.gives names c h in
-          clause p.0.store.heap names f.named.class f.located p.1 p.3.world (names-class mid.objects before old.code k c.unit code-there f.named) f.place p.4
+          clause p.0.store.held.objects names f.named.class f.located p.1 p.3.world (names-class mid.objects before old.code k c.unit code-there f.named) f.place p.4
 
       value-read : (value : code.Value) (new : Machine) (r : Stepped) → Got (Ok value) → Lacked (Ok value)
           → ((c : Config) (f : Form) (attempt : Attempt Value) → HeldIn mid.objects before names (record mid { objects = now }) c
-          → Answers mid.objects now before after (λ k v. IsOfForm f k × IsForIn now after names k v) c.store.heap names attempt (Ok value)
+          → Answers mid.objects now before after (λ k v. IsOfForm f k × IsForIn now after names k v) c.store.held.objects names attempt (Ok value)
           → Does before after mid.objects.size (attempted line attempt (λ w. when_in_row row (Some f) (push w c))) r new)
           → Does before after mid.objects.size (reads_field row push k n line c) r new
       value-read value new r got lacked does = elim (field-or-none c.unit k n) [
@@ -126,12 +126,12 @@ module _ (row : Row) (push : Value → Config → Step) (k n : ℕ) (line : Line
             let class = f.named.class in
             let g = f.located.place.form in
             let a = got-there (Ok value) got f in
-            let same : reads_field row push k n line c ≡ attempted line (field_of d.store.heap v class n) (λ w. when_in_row row (Some g) (push w d)) =
+            let same : reads_field row push k n line c ≡ attempted line (field_of d.store.held.objects v class n) (λ w. when_in_row row (Some g) (push w d)) =
             found f v d p.2
-            ∙ ap (λ (s : Step). when_in_row row (Some g) s) (read-object d.store.heap v class n a.0 a.1 d (next class))
+            ∙ ap (λ (s : Step). when_in_row row (Some g) s) (read-object d.store.held.objects v class n a.0 a.1 d (next class))
             ∙ ap (λ (x : Attempt Value). when_in_row row (Some g) (attempted line x (λ w. push w d))) a.1
             ∙ sym (ap (λ (x : Attempt Value). attempted line x (λ w. when_in_row row (Some g) (push w d))) a.1) in
-            subst (λ (s : Step). Does before after mid.objects.size s r new) (sym same) (does d g (field_of d.store.heap v class n) p.3 a)
+            subst (λ (s : Step). Does before after mid.objects.size s r new) (sym same) (does d g (field_of d.store.held.objects v class n) p.3 a)
         | inr none ↦ absurd (lacked (lacking none))
       ]
 
@@ -164,7 +164,7 @@ module _ (row : Row) (push : Value → Config → Step) (k n : ℕ) (line : Line
             let same : reads_field row push k n line c ≡ s =
             found f v d p.2
             ∙ ap (λ (s : Step). when_in_row row (Some g) s)
-            (object-same v d (next class) (λ o e. Stops (Trapped t line)) (ap (λ (x : Attempt Value). attempted line x (λ w. push w d)) a.0)) in
+            (object-same v d (next class) (λ o e. Stops (Trapped t line) 0) (ap (λ (x : Attempt Value). attempted line x (λ w. push w d)) a.0)) in
             let there = names-class now after old.code k c.unit (a.1.carries.units old.code c.unit code-there) f.named in
             subst (λ (x : Step). Does before last mid.objects.size x r new) (sym same)
             (does-behind before after last mid.objects.size now.size s r new leaves size
@@ -175,7 +175,7 @@ module _ (row : Row) (push : Value → Config → Step) (k n : ℕ) (line : Line
     pub value-takes : (value : code.Value) (lies : code.Value → Type 0) (new : Machine) (r : Stepped) → Got (Ok value) → Lacked (Ok value)
         → Keeps mid.objects now → lies value → EndsSoundly (Ok value) lies (record mid { objects = now }) new r
         → ((names : List Reference) (c : Config) (f : Form) (attempt : Attempt Value) → HeldIn mid.objects before names (record mid { objects = now }) c
-        → Answers mid.objects now before after (λ k v. IsOfForm f k × IsForIn now after names k v) c.store.heap names attempt (Ok value)
+        → Answers mid.objects now before after (λ k v. IsOfForm f k × IsForIn now after names k v) c.store.held.objects names attempt (Ok value)
         → Does before after mid.objects.size (attempted line attempt (λ w. when_in_row row (Some f) (push w c))) r new)
         → Takes before after (reads_field row push k n line) old new r
     value-takes value lies new r got lacked keeps lie ends does =

@@ -22,8 +22,9 @@ use Rattle.machine_core.specs.heap_texts.declared.fault.OpFault.{OpFault}
 use Rattle.machine_core.specs.heap_texts.declared.fault.OpFault.TheVariants as op
 use Rattle.machine_core.specs.proc_values.Reading.{IsDamaged}
 use Rattle.machine_core.specs.ps_heap.Ends.{Trapped}
-use Rattle.machine_core.specs.ps_meaning.Meaning.{on_heap}
-use Rattle.machine_core.specs.ps_heap.Objects.{Heap, with_field, kept_as}
+use Rattle.machine_core.specs.ps_meaning.Meaning.{on_held}
+use Rattle.machine_core.specs.ps_heap.Held.{Part, assigning}
+use Rattle.machine_core.specs.ps_heap.Objects.{Heap, with_field, kept_as, id_of}
 use Rattle.machine_core.specs.ps_heap.Texts.{Attempt, Yields}
 use Rattle.machine_core.specs.ps_heap.Values.{Value, Num, Flag, Text, Nil, Pointer, Vector, Procedure, Nothing}
 use Rattle.machine_core.specs.ps_stepping.Config.{Config, constants_in, constant_at}
@@ -67,7 +68,7 @@ written-object heap later Nothing class n w is c next = absurd (cc)
 -- A value that is put into a field of what is popped then.
 module _ (field : Field) (to : code.Value) (line : Line) where
   abbrev puts : List ℕ → Value → Value → Config → Step
-  puts class w o d = attempted line (with_field d.store.heap o class field.number w) (λ heap. changed heap d)
+  puts class w o d = attempted line (with_field d.store.held.objects o class field.number w) (λ heap. changed (Part (id_of o) field.number) heap d)
 
   module _ (before after : Outside Space) (old mid : Machine) (now : area.Heap) (left : Leaves old mid) (object : Option ℕ)
       (pops : PopsAny before old mid (Some object)) where
@@ -100,11 +101,11 @@ module _ (field : Field) (to : code.Value) (line : Line) where
       step = pop_object c (puts class w)
 
       written : (set : Result (Unit {0}) OpFault) → Set set
-          → Writes mid.objects now before after (pops.gives names c h).0.store.heap names
-          (with_field (pops.gives names c h).0.store.heap (pops.gives names c h).1 class field.number w) set
+          → Writes mid.objects now before after (pops.gives names c h).0.store.held.objects names
+          (with_field (pops.gives names c h).0.store.held.objects (pops.gives names c h).1 class field.number w) set
       written set clause =
           let p = pops.gives names c h in
-          clause p.0.store.heap names class l p.1 v p.3.world
+          clause p.0.store.held.objects names class l p.1 v p.3.world
           (subst (λ (here : area.Heap). NamesClass here before field.code field.constant class) (sym left.objects) named) place row p.4
           (subst (λ (here : area.Heap). IsForIn here before names to v) (sym left.objects) for)
 
@@ -114,12 +115,12 @@ module _ (field : Field) (to : code.Value) (line : Line) where
           let d = p.0 in
           let o = p.1 in
           let a = written (Ok unit) clause in
-          let store = on_heap a.0 d.store in (
+          let store = on_held (assigning (Part (id_of o) field.number) a.0 d.store.held) d.store in (
             [],
             record d { store = store },
             p.2 (λ o d. object_of o d (puts class w))
-                ∙ written-object d.store.heap a.0 o class field.number w a.1 d (puts class w)
-                ∙ ap (λ (x : Attempt Heap). attempted line x (λ heap. changed heap d)) a.1,
+                ∙ written-object d.store.held.objects a.0 o class field.number w a.1 d (puts class w)
+                ∙ ap (λ (x : Attempt Heap). attempted line x (λ heap. changed (Part (id_of o) field.number) heap d)) a.1,
             refl,
             record { names = names; held = held-more mid.objects now before after names names (words_of mid) d store a.2.carries p.3 a.2.world refl refl },
           )
@@ -134,7 +135,7 @@ module _ (field : Field) (to : code.Value) (line : Line) where
           let s = trap_at o t line d in
           subst (λ (x : Step). Does before after mid.objects.size x r new)
           (sym (p.2 (λ o d. object_of o d (puts class w))
-          ∙ object-same o d (puts class w) (λ o e. Stops (Trapped t line)) (ap (λ (x : Attempt Heap). attempted line x (λ heap. changed heap d)) a.0)))
+          ∙ object-same o d (puts class w) (λ o e. Stops (Trapped t line) 0) (ap (λ (x : Attempt Heap). attempted line x (λ heap. changed (Part (id_of o) field.number) heap d)) a.0)))
           (does-behind before after after mid.objects.size mid.objects.size s r new leaves refl
           (traps.does mid.objects.size names d o (a.1.carries.values object o p.4)))
 
@@ -236,10 +237,10 @@ module _ (before after : Outside Space) (field : Field) (to : code.Value) (line 
 
 abbrev number_next : ℕ → Line → Config → List ℕ → Option Form → Step
 number_next n line c class g =
-    pop_num c (λ z d. pop_object d (λ v e. attempted line (with_field e.store.heap v class n (kept_as g (Num z))) (λ heap. changed heap e)))
+    pop_num c (λ z d. pop_object d (λ v e. attempted line (with_field e.store.held.objects v class n (kept_as g (Num z))) (λ heap. changed (Part (id_of v) n) heap e)))
 
 abbrev reference_next : ℕ → Line → Config → List ℕ → Option Form → Step
-reference_next n line c class g = pop_ref c (λ w d. pop_object d (λ v e. attempted line (with_field e.store.heap v class n w) (λ heap. changed heap e)))
+reference_next n line c class g = pop_ref c (λ w d. pop_object d (λ v e. attempted line (with_field e.store.held.objects v class n w) (λ heap. changed (Part (id_of v) n) heap e)))
 
 module _ (before after : Outside Space) (k n : ℕ) (line : Line) (old mid : Machine) (left : Leaves old mid) where
   abbrev named_field : Field
@@ -263,7 +264,7 @@ module _ (before after : Outside Space) (k n : ℕ) (line : Line) (old mid : Mac
         let class = f.named.class in
         let g : Option Form = Some f.located.place.form in
         subst (λ (s : Step). Does before after mid.objects.size s r new)
-        (sym (p.1 (λ y d. pop_object d (λ v e. attempted line (with_field e.store.heap v class n (kept_as g (Num y))) (λ heap. changed heap e)))))
+        (sym (p.1 (λ y d. pop_object d (λ v e. attempted line (with_field e.store.held.objects v class n (kept_as g (Num y))) (λ heap. changed (Part (id_of v) n) heap e)))))
         (puts_it.does h.names p.0 (Num z) class f.located p.2 (names-class mid.objects before old.code k c.unit (code-there h.names c h.held) f.named) f.place
         row refl)));
   }
@@ -283,8 +284,8 @@ module _ (before after : Outside Space) (k n : ℕ) (line : Line) (old mid : Mac
         let class = f.named.class in
         let same : kept_as (Some f.located.place.form) p.1 ≡ p.1 = as-it-is f.located.place.form to p.1 row in
         subst (λ (s : Step). Does before after mid.objects.size s r new)
-        (sym (p.2 (λ w d. pop_object d (λ v e. attempted line (with_field e.store.heap v class n w) (λ heap. changed heap e)))
-        ∙ ap (λ (w : Value). pop_object p.0 (λ v e. attempted line (with_field e.store.heap v class n w) (λ heap. changed heap e))) (sym same)))
+        (sym (p.2 (λ w d. pop_object d (λ v e. attempted line (with_field e.store.held.objects v class n w) (λ heap. changed (Part (id_of v) n) heap e)))
+        ∙ ap (λ (w : Value). pop_object p.0 (λ v e. attempted line (with_field e.store.held.objects v class n w) (λ heap. changed (Part (id_of v) n) heap e))) (sym same)))
         (puts_it.does h.names p.0 p.1 class f.located p.3 (names-class mid.objects before old.code k c.unit (code-there h.names c h.held) f.named) f.place row
         p.4)));
   }

@@ -75,7 +75,7 @@ module _ (outside : Outside Space) (m : Machine) (class : List ℕ) (names : Lis
       let refs : Frames ℕ = record { below = m.refs.below; own = take j m.refs.own; room = m.refs.room } in
       let held = held-popped m m.objects m.values nums refs i j refl refl refl refl outside names c p.nums p.refs h p.row p.ref_row in
       p.pops (made_of class)
-      ∙ full-stuck (popped m m.objects m.values nums refs i j refl refl refl refl) outside d names (Pointer (new_number d.store.heap))
+      ∙ full-stuck (popped m m.objects m.values nums refs i j refl refl refl refl) outside d names (Pointer (new_number d.store.held.objects))
       (and_object (Structure class vs) d.store) held (omega (arith, full, length-take-le j m.refs.own (omega (arith, refs_count))))
 
 -- A structure of a class with how its fields lie in rows.
@@ -136,7 +136,7 @@ module _ (outside : Outside Space) (m : Machine) (class : ClassRows) (has : HasR
               subst (λ (s : Step). Does outside outside m.objects.size s r new) (sym (p.pops (made_of bytes)))
               (give.does m.objects h.names d Pointer (Yields (Structure bytes vs)) structures
               (held-popped m now m.values nums refs i j nums_are refs_are nums_below refs_below outside h.names c p.nums p.refs h.held p.row p.ref_row)
-              (did c.store.heap h.names vs h.held.world rows));
+              (did c.store.held.objects h.names vs h.held.world rows));
         }
 
 -- The class of a constant was read before.
@@ -170,7 +170,7 @@ module _ (before mid after : Outside Space) (k : ℕ) (m : Machine) (now : area.
         (does-behind before mid mid m.objects.size now.size (structure_of (text_at now class.text) c) r new left keeps.size
         (t.does c (record {
           names = h.names;
-          held = read-holds m.objects now before mid h.names (words_of m) c h.held (kept c.store.heap h.names h.held.world);
+          held = read-holds m.objects now before mid h.names (words_of m) c h.held (kept c.store.held.objects h.names h.held.world);
         })));
   }
 
@@ -185,7 +185,7 @@ module _ (before mid after : Outside Space) (k : ℕ) (m : Machine) (now : area.
         does-behind before mid after m.objects.size now.size (make_structure k c) r new left keeps.size
         (t.does c (record {
           names = h.names;
-          held = read-holds m.objects now before mid h.names (words_of m) c h.held (kept c.store.heap h.names h.held.world);
+          held = read-holds m.objects now before mid h.names (words_of m) c h.held (kept c.store.held.objects h.names h.held.world);
         }));
   }
 
@@ -256,5 +256,5 @@ module _ (before mid : Outside Space) (k : ℕ) (old m : Machine) where
             (does-behind before mid after old.objects.size m.objects.size (make Pointer (Structure bytes vs) d) r new left ends.size
             (give.does m.objects h.names d (Structure bytes vs) leaves
             (held-popped m now values nums refs i j nums_are refs_are nums_below refs_below mid h.names c p.nums p.refs g.held p.row p.ref_row)
-            (did c.store.heap h.names bytes vs g.held.world g.named are)));
+            (did c.store.held.objects h.names bytes vs g.held.world g.named are)));
       }

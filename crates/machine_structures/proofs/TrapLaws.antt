@@ -67,10 +67,10 @@ module _ (before after : Outside Space) (object : Option ℕ) (trap : Trap) (lin
   stopped = ended (in_code.Trapped trap line) m
 
   -- the trap is the step
-  stops : (new : Machine) (r : Stepped) (size : ℕ) (s : Step) → r ≡ Halts → new ≡ stopped → s ≡ Stops (Trapped trap line) → Does before after size s r new
+  stops : (new : Machine) (r : Stepped) (size : ℕ) (s : Step) → r ≡ Halts → new ≡ stopped → s ≡ Stops (Trapped trap line) 0 → Does before after size s r new
   stops new r size s answer left is =
       subst (λ (x : Stepped). Does before after size s x new) (sym answer)
-      (subst (λ (n : Machine). s ≡ Stops (end_of n.end)) (sym left) is)
+      (0, subst (λ (n : Machine). s ≡ Stops (end_of n.end) 0) (sym left) is)
 
   pub object-trapped : (new : Machine) (r : Stepped) → IsSound new → r ≡ Halts → new ≡ stopped → IsObject m.objects before object
       → TrapsOf before after object trap line m new r
@@ -78,7 +78,7 @@ module _ (before after : Outside Space) (object : Option ℕ) (trap : Trap) (lin
     sound = sound;
     names = λ n. so-halted (λ x. NamesObjects x) r new stopped answer left n;
     size = so-halted (λ x. x.objects.size ≡ m.objects.size) r new stopped answer left refl;
-    does = λ size names c v d. stops new r size (trap_at v trap line c) answer left (is names v d c (λ o e. Stops (Trapped trap line)));
+    does = λ size names c v d. stops new r size (trap_at v trap line c) answer left (is names v d c (λ o e. Stops (Trapped trap line) 0));
   }
 
 -- Traps of readings of fields.
@@ -89,7 +89,7 @@ module _ (before after : Outside Space) (field : Field) (row : Row) (object : Op
     names = names;
     size = refl;
     does = λ ns c v class l named place d.
-        ap (λ (s : Step). when_in_row row (Some l.place.form) s) (none ns v d c (λ o e. Stops (Trapped trap line))) ∙ stuck-in-row row (Some l.place.form);
+        ap (λ (s : Step). when_in_row row (Some l.place.form) s) (none ns v d c (λ o e. Stops (Trapped trap line) 0)) ∙ stuck-in-row row (Some l.place.form);
   }
 
   module _ (now : area.Heap) where
@@ -121,5 +121,5 @@ module _ (before after : Outside Space) (field : Field) (row : Row) (object : Op
           stops before after object trap line over new r m.objects.size (when_in_row row (Some l.place.form) (trap_at v trap line c)) answer left
           (ap (λ (g : Form). when_in_row row (Some g) (trap_at v trap line c)) (sym (told-form f told class l named place))
           ∙ in-row-follows row f in_it (trap_at v trap line c)
-          ∙ is ns v d c (λ o e. Stops (Trapped trap line)));
+          ∙ is ns v d c (λ o e. Stops (Trapped trap line) 0));
     }

@@ -2,7 +2,7 @@
 ghost use Rattle.std.specs.Prelude.{◌≡◌, ◌≢◌};
 ghost use Rattle.machine_core.specs.obj_layout.Storing.{SameNumbers};
 ghost use Rattle.machine_core.specs.swizzle.Reading.{LeavesOutside};
-ghost use Rattle.machine_core.specs.ps_meaning.Evaluation.{object_relation};
+ghost use Rattle.machine_core.specs.ps_meaning.Operations.{object_relation};
 ghost use Rattle.machine_core.specs.ps_heap.Objects.{is_one_object};
 ghost use Rattle.machine_core.specs.ps_heap.Values as meant;
 ghost use Rattle.machine_core.specs.ps_heap.Values.{Nil};

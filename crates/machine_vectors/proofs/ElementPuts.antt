@@ -25,6 +25,7 @@ use Rattle.machine_core.specs.heap_texts.declared.fault.OpFault.TheVariants as o
 use Rattle.machine_core.specs.ps_heap.Operators.{is_int}
 use Rattle.machine_core.specs.ps_heap.Values.{Value, Num, Vector, is_one}
 use Rattle.machine_core.specs.ps_heap.Ends.{Trapped}
+use Rattle.machine_core.specs.ps_heap.Held.{element_place}
 use Rattle.machine_core.specs.ps_heap.Texts.{Attempt, Yields, Fails}
 use Rattle.machine_core.specs.ps_heap.Objects.{Heap, Object, kept_as, with_element, object_at, low_in, elements_in, place_of, found_at, put_at, element_of as element_at}
 use Rattle.machine_core.specs.ps_heap.Objects as meaning
@@ -105,15 +106,15 @@ module _ (before after : Outside Space) (m new : Machine) (now : area.Heap) (r :
     names = named;
     size = g.ends.size m.objects.size size;
     does = λ names c id ty h d typed row.
-        let heap = c.store.heap in
+        let heap = c.store.held.objects in
         let same = typed-form heap id ty typed in
         let s = number-fits (form_in heap id) z (ap is_number_form same ∙ row) in
         let wrote = kept heap names id (Num z) s.0 h.world d int s.1 refl in
         let attempt = with_element heap (Vector id) at (kept_as (Some (element_of ty)) (Num z)) in
-        does-as before after m.objects.size (number_put line at z ty (Vector id) c) (attempted line attempt (λ heap. changed heap c)) r new
-        (attempted-then line attempt (λ heap. when_number (Some (element_of ty)) (changed heap c)) (λ heap. changed heap c)
-        (λ later. number-row (element_of ty) row (changed later c)))
-        (g.does m.objects names c attempt h
+        does-as before after m.objects.size (number_put line at z ty (Vector id) c) (attempted line attempt (λ heap. changed (element_place c.store.held.objects (Vector id) at) heap c)) r new
+        (attempted-then line attempt (λ heap. when_number (Some (element_of ty)) (changed (element_place c.store.held.objects (Vector id) at) heap c)) (λ heap. changed (element_place c.store.held.objects (Vector id) at) heap c)
+        (λ later. number-row (element_of ty) row (changed (element_place c.store.held.objects (Vector id) at) later c)))
+        (g.does m.objects names c (element_place c.store.held.objects (Vector id) at) attempt h
         (subst (λ (f : Form). Writes m.objects now before after heap names (with_element heap (Vector id) at (kept_as (Some f) (Num z))) set) same wrote));
   }
 
@@ -128,13 +129,13 @@ module _ (before after : Outside Space) (m new : Machine) (now : area.Heap) (r :
     names = named;
     size = g.ends.size m.objects.size size;
     does = λ names c id ty w h d typed row denotes.
-        let heap = c.store.heap in
+        let heap = c.store.held.objects in
         let same = typed-form heap id ty typed in
         let attempt = with_element heap (Vector id) at w in
-        does-as before after m.objects.size (reference_put line at w ty (Vector id) c) (attempted line attempt (λ heap. changed heap c)) r new
-        (attempted-then line attempt (λ heap. when_reference (Some (element_of ty)) (changed heap c)) (λ heap. changed heap c)
-        (λ later. reference-row (element_of ty) row (changed later c)))
-        (g.does m.objects names c attempt h
+        does-as before after m.objects.size (reference_put line at w ty (Vector id) c) (attempted line attempt (λ heap. changed (element_place c.store.held.objects (Vector id) at) heap c)) r new
+        (attempted-then line attempt (λ heap. when_reference (Some (element_of ty)) (changed (element_place c.store.held.objects (Vector id) at) heap c)) (λ heap. changed (element_place c.store.held.objects (Vector id) at) heap c)
+        (λ later. reference-row (element_of ty) row (changed (element_place c.store.held.objects (Vector id) at) later c)))
+        (g.does m.objects names c (element_place c.store.held.objects (Vector id) at) attempt h
         (put heap names id w h.world d (reference-fits (form_in heap id) to (ap is_number_form same ∙ row)) denotes));
   }
 
@@ -152,22 +153,22 @@ module _ (before after : Outside Space) (m : Machine) (now : area.Heap) (vector 
     names = names-kept m now keeps n;
     size = keeps.size;
     does = λ names c id w h d.
-        let a = found c.store.heap names id h.world d in
-        ap (λ (x : Attempt Heap). attempted line x (λ heap. Stuck)) (put-yields c.store.heap id at a.0 w a.1).1;
+        let a = found c.store.held.objects names id h.world d in
+        ap (λ (x : Attempt Heap). attempted line x (λ heap. Stuck)) (put-yields c.store.held.objects id at a.0 w a.1).1;
   }
 
   -- it is outside
   pub refused-outside : (t : Trap) (new : Machine) (r : Stepped) → Keeps m.objects now → Found (Err (op.Trap t))
-      → Takes after after (λ c. Stops (Trapped t line)) (record m { objects = now }) new r → RefusesElement before after line at vector m new r
+      → Takes after after (λ c. Stops (Trapped t line) 0) (record m { objects = now }) new r → RefusesElement before after line at vector m new r
   refused-outside t new r keeps found stop = record {
     sound = stop.sound;
     names = stop.names (names-kept m now keeps n);
     size = size-behind r m.objects.size now.size new.objects.size keeps.size stop.size;
     does = λ names c id w h d.
-        let a = found c.store.heap names id h.world d in
-        does-as before after m.objects.size (refused line at w (Vector id) c) (Stops (Trapped t line)) r new
-        (ap (λ (x : Attempt Heap). attempted line x (λ heap. Stuck)) (put-fails c.store.heap id at t w a.0))
-        (does-behind before after after m.objects.size now.size (Stops (Trapped t line)) r new left keeps.size
+        let a = found c.store.held.objects names id h.world d in
+        does-as before after m.objects.size (refused line at w (Vector id) c) (Stops (Trapped t line) 0) r new
+        (ap (λ (x : Attempt Heap). attempted line x (λ heap. Stuck)) (put-fails c.store.held.objects id at t w a.0))
+        (does-behind before after after m.objects.size now.size (Stops (Trapped t line) 0) r new left keeps.size
         (stop.does c (record { names = names; held = read-holds m.objects now before after names (words_of m) c h a.1 })));
   }
 
@@ -178,7 +179,7 @@ module _ (before after : Outside Space) (m : Machine) (now : area.Heap) (vector 
     sound = off.sound;
     names = unless-breaks r (NamesObjects new) answer;
     size = unless-breaks r (new.objects.size ≡ m.objects.size) answer;
-    does = λ names c id w h d. off.off m.objects (refused line at w (Vector id) c) (found c.store.heap names id h.world d);
+    does = λ names c id w h d. off.off m.objects (refused line at w (Vector id) c) (found c.store.held.objects names id h.world d);
   }
 
 -- The form of the elements was told first.
@@ -189,12 +190,12 @@ module _ (before : Outside Space) (m : Machine) (vector : ℕ) where
       → Answers m.objects now before mid (λ is wanted. is ≡ wanted) of names (Yields (form_in of id)) told
 
   told-row : (mid : Outside Space) (now : area.Heap) (f : Form) → Told mid now (Ok f) → (names : List Reference) (c : Config) (id : ℕ) (ty : List ℕ)
-      → HeldBy before names m c → DenotesIn m.objects before names (Some vector) (Vector id) → type_of c.store.heap (Vector id) ≡ Some ty
-      → (element_of ty ≡ f) × Stands m.objects now before mid c.store.heap names
+      → HeldBy before names m c → DenotesIn m.objects before names (Some vector) (Vector id) → type_of c.store.held.objects (Vector id) ≡ Some ty
+      → (element_of ty ≡ f) × Stands m.objects now before mid c.store.held.objects names
   told-row mid now f told names c id ty h d typed =
-      let a = told c.store.heap names id h.world d in
-      let same : form_in c.store.heap id ≡ a.0 = let e : Yields (form_in c.store.heap id) ≡ Yields a.0 = a.1 in cc in
-      (sym (typed-form c.store.heap id ty typed) ∙ same ∙ sym a.2, a.3)
+      let a = told c.store.held.objects names id h.world d in
+      let same : form_in c.store.held.objects id ≡ a.0 = let e : Yields (form_in c.store.held.objects id) ≡ Yields a.0 = a.1 in cc in
+      (sym (typed-form c.store.held.objects id ty typed) ∙ same ∙ sym a.2, a.3)
 
   module _ (line : Line) (at : ℤ) (mid after : Outside Space) (now : area.Heap) (new : Machine) (r : Stepped) (left : LeavesOutside before mid)
       (keeps : Keeps m.objects now) (f : Form) (told : Told mid now (Ok f)) where
@@ -227,7 +228,7 @@ module _ (before : Outside Space) (m : Machine) (vector : ℕ) where
 
     module _ (t : RefusesElement mid after line at vector (record m { objects = now }) new r) where
       refuses : (names : List Reference) (c : Config) (id : ℕ) (ty : List ℕ) (w : Value) (s : Step) → HeldBy before names m c
-          → DenotesIn m.objects before names (Some vector) (Vector id) → type_of c.store.heap (Vector id) ≡ Some ty
+          → DenotesIn m.objects before names (Some vector) (Vector id) → type_of c.store.held.objects (Vector id) ≡ Some ty
           → s ≡ refused line at w (Vector id) c → Does before after m.objects.size s r new
       refuses names c id ty w s h d typed same =
           let a = told-row mid now f told names c id ty h d typed in
@@ -244,8 +245,8 @@ module _ (before : Outside Space) (m : Machine) (vector : ℕ) where
             let a = told-row mid now f told names c id ty h d typed in
             let w = kept_as (Some (element_of ty)) (Num z) in
             refuses names c id ty w (number_put line at z ty (Vector id) c) h d typed
-            (attempted-then line (with_element c.store.heap (Vector id) at w) (λ heap. when_number (Some (element_of ty)) (changed heap c)) (λ heap. Stuck)
-            (λ later. no-number-row (element_of ty) (ap is_number_form a.0 ∙ row) (changed later c)));
+            (attempted-then line (with_element c.store.held.objects (Vector id) at w) (λ heap. when_number (Some (element_of ty)) (changed (element_place c.store.held.objects (Vector id) at) heap c)) (λ heap. Stuck)
+            (λ later. no-number-row (element_of ty) (ap is_number_form a.0 ∙ row) (changed (element_place c.store.held.objects (Vector id) at) later c)));
       }
 
       pub reference-refused : (to : Option ℕ) → is_number_form f ≡ true → PutsReference before after anything line at to vector m new r
@@ -256,8 +257,8 @@ module _ (before : Outside Space) (m : Machine) (vector : ℕ) where
         does = λ names c id ty w h d typed such denotes.
             let a = told-row mid now f told names c id ty h d typed in
             refuses names c id ty w (reference_put line at w ty (Vector id) c) h d typed
-            (attempted-then line (with_element c.store.heap (Vector id) at w) (λ heap. when_reference (Some (element_of ty)) (changed heap c)) (λ heap. Stuck)
-            (λ later. no-reference-row (element_of ty) (ap is_number_form a.0 ∙ row) (changed later c)));
+            (attempted-then line (with_element c.store.held.objects (Vector id) at w) (λ heap. when_reference (Some (element_of ty)) (changed (element_place c.store.held.objects (Vector id) at) heap c)) (λ heap. Stuck)
+            (λ later. no-reference-row (element_of ty) (ap is_number_form a.0 ∙ row) (changed (element_place c.store.held.objects (Vector id) at) later c)));
       }
 
   -- It couldn't be told.
@@ -268,7 +269,7 @@ module _ (before : Outside Space) (m : Machine) (vector : ℕ) where
       sound = off.sound;
       names = unless-breaks r (NamesObjects new) answer;
       size = unless-breaks r (new.objects.size ≡ m.objects.size) answer;
-      does = λ names c id ty h d typed such. off.off m.objects (number_put line at z ty (Vector id) c) (told c.store.heap names id h.world d);
+      does = λ names c id ty h d typed such. off.off m.objects (number_put line at z ty (Vector id) c) (told c.store.held.objects names id h.world d);
     }
 
     pub reference-untold : (to : Option ℕ) → PutsReference before after anything line at to vector m new r
@@ -276,7 +277,7 @@ module _ (before : Outside Space) (m : Machine) (vector : ℕ) where
       sound = off.sound;
       names = unless-breaks r (NamesObjects new) answer;
       size = unless-breaks r (new.objects.size ≡ m.objects.size) answer;
-      does = λ names c id ty w h d typed such denotes. off.off m.objects (reference_put line at w ty (Vector id) c) (told c.store.heap names id h.world d);
+      does = λ names c id ty w h d typed such denotes. off.off m.objects (reference_put line at w ty (Vector id) c) (told c.store.held.objects names id h.world d);
     }
 
   -- Its telling has no trap.
@@ -291,7 +292,7 @@ module _ (before : Outside Space) (m : Machine) (vector : ℕ) where
       sound = sound-kept m now sound;
       names = names-kept m now keeps n;
       size = keeps.size;
-      does = λ names c id ty h d typed such. absurd (told-traps after now t told c.store.heap names id h.world d);
+      does = λ names c id ty h d typed such. absurd (told-traps after now t told c.store.held.objects names id h.world d);
     }
 
     pub reference-never : (to : Option ℕ) → PutsReference before after anything line at to vector m (record m { objects = now }) Damaged
@@ -299,7 +300,7 @@ module _ (before : Outside Space) (m : Machine) (vector : ℕ) where
       sound = sound-kept m now sound;
       names = names-kept m now keeps n;
       size = keeps.size;
-      does = λ names c id ty w h d typed such denotes. absurd (told-traps after now t told c.store.heap names id h.world d);
+      does = λ names c id ty w h d typed such denotes. absurd (told-traps after now t told c.store.held.objects names id h.world d);
     }
 
 -- The vector is known, so that its elements are of this form.
@@ -307,8 +308,8 @@ module _ (out after : Outside Space) (m new : Machine) (r : Stepped) (vector : �
     (known : (of : Heap) (names : List Reference) (id : ℕ) → IsWorld m.objects out of names → DenotesIn m.objects out names (Some vector) (Vector id)
     → f ≡ form_in of id) where
   known-row : (names : List Reference) (c : Config) (id : ℕ) (ty : List ℕ) → HeldBy out names m c → DenotesIn m.objects out names (Some vector) (Vector id)
-      → type_of c.store.heap (Vector id) ≡ Some ty → element_of ty ≡ f
-  known-row names c id ty h d typed = sym (known c.store.heap names id h.world d ∙ typed-form c.store.heap id ty typed)
+      → type_of c.store.held.objects (Vector id) ≡ Some ty → element_of ty ≡ f
+  known-row names c id ty h d typed = sym (known c.store.held.objects names id h.world d ∙ typed-form c.store.held.objects id ty typed)
 
   pub number-put-known : (z : ℤ) → is_number_form f ≡ true → TakesVector out after OfNumbers (number_put line at z) vector m new r
       → TakesVector out after anything (number_put line at z) vector m new r

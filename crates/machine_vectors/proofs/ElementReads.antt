@@ -18,20 +18,22 @@ use Rattle.machine_core.specs.heap_ops.Outcomes.{UnlessFault}
 use Rattle.machine_core.specs.heap_texts.declared.fault.OpFault.{OpFault}
 use Rattle.machine_core.specs.ps_heap.Values.{Value, Vector, word_of}
 use Rattle.machine_core.specs.ps_heap.Texts.{Attempt, Yields}
+use Rattle.machine_core.specs.ps_heap.Held.{reading, denoted}
 use Rattle.machine_core.specs.ps_heap.Objects.{Heap, Object, Structure, Elements, Scope, Keyed, object_at, type_in, element_of as element_at}
 use Rattle.machine_core.specs.ps_stepping.Config.{Config}
 use Rattle.machine_core.specs.ps_stepping.Steps.{Step, Stuck, attempted, push_num}
-use Rattle.machine_core.specs.ps_stepping.Objects.{type_of, type_of_object, pop_vector, when_number, when_reference}
+use Rattle.machine_core.specs.ps_stepping.Objects.{type_of, type_of_object, pop_vector, when_number, when_reference, having}
 use Rattle.machine_core.specs.joint_ops.World.{IsWorld, DenotesIn, IsForIn, IsOfForm, Answers}
 use Rattle.machine_core.specs.joint_ops.Operands.{form_in}
 use Rattle.machine_core.specs.objects.Vectors.{IsNumber}
 use Rattle.machine_core.specs.declared.machine.Machine.{Machine}
 use Rattle.machine_core.specs.declared.stepped.Stepped.{Stepped}
 use Rattle.machine_core.specs.declared.stepped.Stepped.TheVariants.{Damaged}
-use Rattle.machine_core.specs.Holding.{HeldBy}
+use Rattle.machine_core.specs.Holding.{HeldBy, words_of}
 use Rattle.machine_core.specs.Naming.{NamesObjects}
 use Rattle.machine_core.specs.Stepped.{Takes}
 use Rattle.machine_core.specs.inside.Taking.{Leaves}
+use Rattle.machine_core.proofs.Carrying.{touched-held}
 use Rattle.machine_operands.specs.Popping.{PopsVector, anything}
 use Rattle.machine_operands.specs.Giving.{GivesBound, GivesNumber, GivesReference}
 use Rattle.machine_vectors.specs.inside.Elements.{TakesVector, number_read, reference_read}
@@ -105,13 +107,14 @@ number-known out m new r vector line at place z number same_at same_z n known pu
   names = push.names n;
   size = push.size;
   does = λ names c id ty h d typed such.
-      let k = known c.store.heap names id h.world d in
+      let k = known c.store.held.objects names id h.world d in
       let f = element_of ty in
-      let row : is_number_form f ≡ true = ap is_number_form (sym (typed-form c.store.heap id ty typed)) ∙ k.row in
-      does-as out out m.objects.size (number_read line place ty (Vector id) c) (push_num number c) r new
-      (ap (λ (a : Attempt Value). attempted line a (λ w. when_number (Some f) (push_num (word_of w) c))) k.is
-      ∙ number-row f row (push_num (word_of k.value) c) ∙ ap (λ (x : ℤ). push_num x c) (k.word_is ∙ sym same_z))
-      (push.does c (record { names = names; held = h }));
+      let row : is_number_form f ≡ true = ap is_number_form (sym (typed-form c.store.held.objects id ty typed)) ∙ k.row in
+      let read = having (reading k.value) c in
+      does-as out out m.objects.size (number_read line place ty (Vector id) c) (push_num number read) r new
+      (ap (λ (a : Attempt Value). attempted line a (λ w. when_number (Some f) (push_num (word_of w) (having (reading w) c)))) k.is
+      ∙ number-row f row (push_num (word_of k.value) read) ∙ ap (λ (x : ℤ). push_num x read) (k.word_is ∙ sym same_z))
+      (push.does read (record { names = names; held = touched-held m.objects out names (words_of m) c (denoted k.value) h }));
 }
 
 -- An element that was read.
@@ -122,12 +125,12 @@ module _ (before after : Outside Space) (m new : Machine) (now : area.Heap) (r :
       → Answers m.objects now before after (λ c v. IsOfForm (form_in of id) c × IsForIn now after names c v) of names (element_at of (Vector id) at) got
 
   typed-got : Got → (names : List Reference) (c : Config) (id : ℕ) (ty : List ℕ) → HeldBy before names m c
-      → DenotesIn m.objects before names (Some vector) (Vector id) → type_of c.store.heap (Vector id) ≡ Some ty
-      → Answers m.objects now before after (λ k v. IsOfForm (element_of ty) k × IsForIn now after names k v) c.store.heap names
-      (element_at c.store.heap (Vector id) at) got
+      → DenotesIn m.objects before names (Some vector) (Vector id) → type_of c.store.held.objects (Vector id) ≡ Some ty
+      → Answers m.objects now before after (λ k v. IsOfForm (element_of ty) k × IsForIn now after names k v) c.store.held.objects names
+      (element_at c.store.held.objects (Vector id) at) got
   typed-got found names c id ty h d typed =
-      subst (λ (f : Form). Answers m.objects now before after (λ k v. IsOfForm f k × IsForIn now after names k v) c.store.heap names
-      (element_at c.store.heap (Vector id) at) got) (typed-form c.store.heap id ty typed) (found c.store.heap names id h.world d)
+      subst (λ (f : Form). Answers m.objects now before after (λ k v. IsOfForm f k × IsForIn now after names k v) c.store.held.objects names
+      (element_at c.store.held.objects (Vector id) at) got) (typed-form c.store.held.objects id ty typed) (found c.store.held.objects names id h.world d)
 
   pub number-found : Got → GivesNumber before after (record m { objects = now }) new r line got
       → TakesVector before after anything (number_read line at) vector m new r
@@ -136,7 +139,7 @@ module _ (before after : Outside Space) (m new : Machine) (now : area.Heap) (r :
     names = g.ends.names (names-after m now got n keeps) (whatever got);
     size = g.ends.size m.objects.size (size-after m now got keeps);
     does = λ names c id ty h d typed such.
-        g.does m.objects names c (element_of ty) (element_at c.store.heap (Vector id) at) left h (typed-got found names c id ty h d typed);
+        g.does m.objects names c (element_of ty) (element_at c.store.held.objects (Vector id) at) left h (typed-got found names c id ty h d typed);
   }
 
   pub reference-found : Got → IfOk got (IsNear now) → GivesReference before after (record m { objects = now }) new r line got
@@ -146,7 +149,7 @@ module _ (before after : Outside Space) (m new : Machine) (now : area.Heap) (r :
     names = g.ends.names (names-after m now got n keeps) near;
     size = g.ends.size m.objects.size (size-after m now got keeps);
     does = λ names c id ty h d typed such.
-        g.does m.objects names c (element_of ty) (element_at c.store.heap (Vector id) at) left h (typed-got found names c id ty h d typed);
+        g.does m.objects names c (element_of ty) (element_at c.store.held.objects (Vector id) at) left h (typed-got found names c id ty h d typed);
   }
 
 -- A bound that was read.
@@ -156,11 +159,11 @@ pub bound-found : (before after : Outside Space) (m new : Machine) (now : area.H
     → DenotesIn m.objects before names (Some vector) (Vector id)
     → Answers m.objects now before after (λ z wanted. z ≡ wanted) heap names (Yields (of heap (Vector id))) got)
     → GivesBound before after (record m { objects = now }) new r got
-    → TakesVector before after anything (λ ty v c. push_num (of c.store.heap v) c) vector m new r
+    → TakesVector before after anything (λ ty v c. push_num (of c.store.held.objects v) c) vector m new r
 bound-found before after m new now r vector of n left got keeps found g = record {
   sound = g.ends.sound;
   names = g.ends.names (names-after m now got n keeps) (whatever got);
   size = g.ends.size m.objects.size (size-after m now got keeps);
   does = λ names c id ty h d typed such.
-      g.does m.objects names c (of c.store.heap (Vector id)) left h (found c.store.heap names id h.world d);
+      g.does m.objects names c (of c.store.held.objects (Vector id)) left h (found c.store.held.objects names id h.world d);
 }

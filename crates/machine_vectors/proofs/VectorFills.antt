@@ -73,10 +73,10 @@ module _ (out : Outside Space) (ty : ℕ) (to : code.Value) (line : Line) (m one
               let i = p.gives names c h in
               let j = q.gives names i.0 i.2 in
               let s = attempted line (filled_vector text low high v) (λ object. make Vector object j.0) in
-              let did = makes j.0.store.heap names text v j.2.world (denotes-there m two left.objects out names (Some ty) (Text text) d) form
+              let did = makes j.0.store.held.objects names text v j.2.world (denotes-there m two left.objects out names (Some ty) (Text text) d) form
               (subst (λ (here : area.Heap). IsForIn here out names to v) (sym left.objects) for) in
-              let did = subst (λ (x : ℤ). Makes two.objects now out j.0.store.heap names Vector (filled_vector text x high v) made) same_low
-              (subst (λ (x : ℤ). Makes two.objects now out j.0.store.heap names Vector (filled_vector text lower x v) made) same_high did) in
+              let did = subst (λ (x : ℤ). Makes two.objects now out j.0.store.held.objects names Vector (filled_vector text x high v) made) same_low
+              (subst (λ (x : ℤ). Makes two.objects now out j.0.store.held.objects names Vector (filled_vector text lower x v) made) same_high did) in
               does-as out out m.objects.size (filled line text v c) s r new
               (i.1 (λ b d. pop_num d (λ a e. attempted line (filled_vector text a b v) (λ object. make Vector object e)))
               ∙ j.1 (λ a e. attempted line (filled_vector text a high v) (λ object. make Vector object e)))

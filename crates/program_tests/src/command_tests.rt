@@ -198,9 +198,9 @@ static FAULTS: [Fault<'static>; 7] = [
         13,
     ),
     ("z.ps", b"\n", 1_048_576, &[], b"", 0),
-    ("z.ps", SUM, 1, &[7], b"3", 8),
-    ("z.ps", SUM, 1, &[8], b"3\n", 0),
-    ("z.ps", b"write 1234, \"'n\"", 1, &[7], b"12", 8),
+    ("z.ps", SUM, 1, &[14], b"3", 8),
+    ("z.ps", SUM, 1, &[15], b"3\n", 0),
+    ("z.ps", b"write 1234, \"'n\"", 1, &[14], b"12", 8),
     ("x.ps", b"", 1, &[1], b"cannot read z.", 8),
 ];
 
@@ -212,7 +212,7 @@ fn repeated(alloc: Global, part: &[u8], times: usize) -> Result<Vec<u8>, AllocEr
     Ok(text)
 }
 
-// The calls of attaching are the first six.
+// The calls of attaching are the first fourteen, since the volume is attached twice: to be moved into the last form, and then with its store.
 fn is_fault(alloc: Global, fault: &Fault<'_>) -> bool {
     let (name, part, times, failing, told, status) = fault;
     let Ok(text) = repeated(alloc, part, *times) else {

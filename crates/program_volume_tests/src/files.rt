@@ -105,9 +105,10 @@ fn is_told(alloc: Global, call: u64) -> bool {
     }
 }
 
+// The volume is attached twice, by seven calls each: to be moved into the last form, and then with its store.
 #[test]
 fn a_device_that_fails_is_told(rt: HostRuntime) {
-    for call in 0..7 {
+    for call in 0..14 {
         assert!(rt; is_told(rt.alloc(), call), "call {call}");
     }
 }

@@ -9,3 +9,5 @@ mod files;
 mod kept;
 #[cfg(test)]
 mod making;
+#[cfg(test)]
+mod moved;

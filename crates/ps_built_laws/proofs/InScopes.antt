@@ -1,6 +1,6 @@
 -- A numbered tree runs inside its scopes when its names have their places.
 use Rattle.std.proofs.Common.{◌≡◌, ℕ, ◌+◌, List, [], ◌∷◌, map, inl, inr, refl, sym, subst}
-use Rattle.std.specs.Prelude.{Option, Some, None}
+use Rattle.std.specs.Prelude.{Option, Some}
 use Rattle.ps_built.specs.ps_base.TyView.{TyView}
 use Rattle.ps_built.specs.ps_base.TyView as types
 use Rattle.ps_built.specs.ps_base.declared.line.Line.{Line}
@@ -23,10 +23,6 @@ use Rattle.ps_typing_laws.proofs.Tracked.{clauses_of}
 use Rattle.ps_fit_laws.specs.ps_soundness.Running.{IsPlace, ArePlaces, RunsIn, AllRunIn, BodyRuns}
 use Rattle.ps_fit_laws.specs.Fitting.{Fits, AllFit}
 use Rattle.ps_fit_laws.proofs.ByCheck.{AllNamed}
-use Rattle.ps_built.specs.First.{or_else}
-use Rattle.ps_built.specs.Library.{library_in}
-use Rattle.ps_built_laws.proofs.Tests.{both, one, three}
-use Rattle.ps_built_laws.proofs.Built.{IsBuilt, AllBuilt, items_built, itself_and_parts, claims_built}
 use Rattle.ps_built_laws.proofs.ScopePlaces.{wholes_of, has_place, is_scope}
 use Rattle.ps_built_laws.proofs.RulesRun.{of_parts}
 
@@ -86,23 +82,20 @@ module _ (names : List Field) (named : AllNamed names) (kept : List ℕ) where
     unfolding then_give ◌>>=◌
 
     pub runs : {scope : List Entry} {depth n m : ℕ} {clause : Node} {ty : TyView} → Numbered names scope depth n clause ty m → AreTyped scope →
-        (scopes : List (List ℕ)) (l : Locals) → Fits (placed (around_of scopes) l clause).of → IsBuilt (placed (around_of scopes) l clause).of →
-        RunsIn (Within scopes) (placed (around_of scopes) l clause).of
-    runs (num.by_rule {clause = clause} r parts) typed scopes l f b =
+        (scopes : List (List ℕ)) (l : Locals) → Fits (placed (around_of scopes) l clause).of → RunsIn (Within scopes) (placed (around_of scopes) l clause).of
+    runs (num.by_rule r parts) typed scopes l f =
         let p = rule_placed (around_of scopes) l r in
-        let own = itself_and_parts (placed (around_of scopes) l clause).of b in
-        let h = of_parts (wholes_of names scopes) p.of_placed f own.0 in
-        h.runs (all_run parts typed scopes l h.fit (claims_built p.of_placed b))
-    runs (num.name {k = k} {d = d} {ty = ty} is below) typed scopes l f b = has_place names l.of k ty scopes (typed k d ty is)
-    runs (num.set_name {k = k} {d = d} {ty = ty} {e = e} is below t) typed scopes l f b =
-        (has_place names l.of k ty scopes (typed k d ty is), runs t typed scopes l f (one (library_in (placed (around_of scopes) l e).of) b))
-    runs (num.block {items = items} t) typed scopes l f b =
+        let h = of_parts (wholes_of names scopes) p.of_placed f in
+        h.runs (all_run parts typed scopes l h.fit)
+    runs (num.name {k = k} {d = d} {ty = ty} is below) typed scopes l f = has_place names l.of k ty scopes (typed k d ty is)
+    runs (num.set_name {k = k} {d = d} {ty = ty} is below t) typed scopes l f =
+        (has_place names l.of k ty scopes (typed k d ty is), runs t typed scopes l f)
+    runs (num.block {items = items} t) typed scopes l f =
         let ks = common (placing.declared items) kept in
-        subst (λ (inner : Around). AllFit (placed_all inner l items).of → AllBuilt (placed_all inner l items).of →
-        RunsIn (Within scopes) (node.Block (scope_text names ks) (placed_all inner l items).of)) (sym (around_inside scopes ks))
-        (λ fit built. block_runs ks scopes (placed_all (around_of (opened ks scopes)) l items).of (items_run t typed (opened ks scopes) l fit built))
-        f (items_built (placed_all (inside (around_of scopes) ks) l items).of b)
-    runs (num.loop {scope = scope} {depth = depth} {k = k} {a = a} {b = b} {c = c} {s = s} {line = line} claims is t) typed scopes l f built =
+        subst (λ (inner : Around). AllFit (placed_all inner l items).of → RunsIn (Within scopes) (node.Block (scope_text names ks) (placed_all inner l items).of))
+        (sym (around_inside scopes ks))
+        (λ fit. block_runs ks scopes (placed_all (around_of (opened ks scopes)) l items).of (items_run t typed (opened ks scopes) l fit)) f
+    runs (num.loop {scope = scope} {depth = depth} {k = k} {a = a} {b = b} {c = c} {s = s} {line = line} claims is t) typed scopes l f =
         let ks = common (k ∷ []) kept in
         let own : Locals = with_declared (around_of scopes) k types.Int (record l { nums = l.nums + 3 }) in
         let la : Locals = (placed (around_of scopes) own a).locals in
@@ -111,50 +104,47 @@ module _ (names : List Field) (named : AllNamed names) (kept : List ℕ) where
         let a' : Node = (placed (around_of scopes) own a).of in
         let b' : Node = (placed (around_of scopes) la b).of in
         let c' : Node = (placed (around_of scopes) lb c).of in
-        let s' : Node = (placed (inside (around_of scopes) ks) lc s).of in
-        let u = both (library_in a') (or_else (library_in b') (or_else (library_in c') (or_else (library_in s') None))) built in
-        let v = three (library_in b') (library_in c') (library_in s') u.1 in
-        let h = all_run claims typed scopes own (f.0, (f.1, (f.2, tt))) (u.0, (v.0, (v.1, tt))) in
-        subst (λ (inner : Around). Fits (placed inner lc s).of → IsBuilt (placed inner lc s).of → RunsIn (Within scopes)
+        let h = all_run claims typed scopes own (f.0, (f.1, (f.2, tt))) in
+        subst (λ (inner : Around). Fits (placed inner lc s).of → RunsIn (Within scopes)
         (node.For l.nums a' b' c' (scope_text names ks) (place_of inner own (Plain k)) (placed inner lc s).of line)) (sym (around_inside scopes ks))
-        (λ fit built. loop_runs ks scopes l.nums a' b' c' (placed (around_of (opened ks scopes)) lc s).of
+        (λ fit. loop_runs ks scopes l.nums a' b' c' (placed (around_of (opened ks scopes)) lc s).of
         (place_of (around_of (opened ks scopes)) own (Plain k)) line h.0 h.1.0 h.1.1.0 (has_place names own.of k types.Int (opened ks scopes) is)
-        (runs t (typed_more scope k depth types.Int is typed) (opened ks scopes) lc fit built))
-        f.3 v.2
-    runs (num.scan {line = line} claims) typed scopes l f b = absurd (let no : Some line ≡ None = b in cc)
-    runs (num.literal {params = params} {gives = gives_} {tree = tree} {line = line} ps t) typed scopes l f b =
+        (runs t (typed_more scope k depth types.Int is typed) (opened ks scopes) lc fit))
+        f.3
+    runs (num.scan claims) typed scopes l f =
+        let h = all_run claims typed scopes (record l { nums = l.nums + 3; refs = l.refs + 3 }) (f.0, (f.1, tt)) in (h.0, h.1.0)
+    runs (num.literal {params = params} {gives = gives_} {tree = tree} {line = line} ps t) typed scopes l f =
         let ks = common (numbers params) kept in
         let own : Locals = with_params params (record { nums = 0; refs = 0; of = l.of }) in
-        subst (λ (inner : Around). Fits (placed inner own tree).of → IsBuilt (placed inner own tree).of → BodyRuns (wholes_of names scopes)
+        subst (λ (inner : Around). Fits (placed inner own tree).of → BodyRuns (wholes_of names scopes)
         (body (map (λ (param : Param). record param { place = place_of inner own param.place }) params) gives_ (placed inner own tree).of
         (scope_text names ks) line)) (sym (around_inside scopes ks))
-        (λ fit built. literal_runs ks scopes (own_places (opened ks scopes) own params) gives_ (placed (around_of (opened ks scopes)) own tree).of line
-        (params_placed ps (opened ks scopes) own) (runs t (params_typed ps typed) (opened ks scopes) own fit built))
-        f.1 (one (library_in (placed (inside (around_of scopes) ks) own tree).of) b)
+        (λ fit. literal_runs ks scopes (own_places (opened ks scopes) own params) gives_ (placed (around_of (opened ks scopes)) own tree).of line
+        (params_placed ps (opened ks scopes) own) (runs t (params_typed ps typed) (opened ks scopes) own fit))
+        f.1
 
     all_run : {scope : List Entry} {depth n m : ℕ} {claims : List Claim} → AllNumbered names scope depth n claims m → AreTyped scope →
         (scopes : List (List ℕ)) (l : Locals) → Each Fits (clauses_of (placed_claims (around_of scopes) l claims).of) →
-        Each IsBuilt (clauses_of (placed_claims (around_of scopes) l claims).of) →
         Each (RunsIn (Within scopes)) (clauses_of (placed_claims (around_of scopes) l claims).of)
-    all_run num.no_more typed scopes l f b = tt
-    all_run (num.one_more {clause = clause} t ts) typed scopes l f b =
-        (runs t typed scopes l f.0 b.0, all_run ts typed scopes (placed (around_of scopes) l clause).locals f.1 b.1)
+    all_run num.no_more typed scopes l f = tt
+    all_run (num.one_more {clause = clause} t ts) typed scopes l f =
+        (runs t typed scopes l f.0, all_run ts typed scopes (placed (around_of scopes) l clause).locals f.1)
 
     items_run : {scope : List Entry} {depth n m : ℕ} {before ty : TyView} {items : Nodes} → ItemsNumbered names scope depth n before items ty m →
         AreTyped scope → (scopes : List (List ℕ)) (l : Locals) → AllFit (placed_all (around_of scopes) l items).of →
-        AllBuilt (placed_all (around_of scopes) l items).of → AllRunIn (Within scopes) (placed_all (around_of scopes) l items).of
-    items_run num.at_end typed scopes l f b = tt
-    items_run (num.a_clause {item = item} t ts) typed scopes l f b =
-        (runs t typed scopes l f.0 b.0, items_run ts typed scopes (placed (around_of scopes) l item).locals f.1 b.1)
-    items_run (num.a_value {scope = scope} {depth = depth} {k = k} {e = e} {of = of} isnt t is ts) typed scopes l f b =
+        AllRunIn (Within scopes) (placed_all (around_of scopes) l items).of
+    items_run num.at_end typed scopes l f = tt
+    items_run (num.a_clause {item = item} t ts) typed scopes l f =
+        (runs t typed scopes l f.0, items_run ts typed scopes (placed (around_of scopes) l item).locals f.1)
+    items_run (num.a_value {scope = scope} {depth = depth} {k = k} {e = e} {of = of} isnt t is ts) typed scopes l f =
         let own : Locals = with_declared (around_of scopes) k of l in (
-          (has_place names own.of k of scopes is, runs t typed scopes own f.0 (one (library_in (placed (around_of scopes) own e).of) b.0)),
-          items_run ts (typed_more scope k depth of is typed) scopes (placed (around_of scopes) own e).locals f.1 b.1,
+          (has_place names own.of k of scopes is, runs t typed scopes own f.0),
+          items_run ts (typed_more scope k depth of is typed) scopes (placed (around_of scopes) own e).locals f.1,
         )
-    items_run (num.a_literal {scope = scope} {depth = depth} {k = k} {procedure = procedure} {of = of} is t ts) typed scopes l f b =
+    items_run (num.a_literal {scope = scope} {depth = depth} {k = k} {procedure = procedure} {of = of} is t ts) typed scopes l f =
         let own : Locals = with_declared (around_of scopes) k of l in
         let typed_too = typed_more scope k depth of is typed in
         let e : Node = node.Proc procedure in (
-          (has_place names own.of k of scopes is, runs t typed_too scopes own f.0 (one (library_in (placed (around_of scopes) own e).of) b.0)),
-          items_run ts typed_too scopes (placed (around_of scopes) own e).locals f.1 b.1,
+          (has_place names own.of k of scopes is, runs t typed_too scopes own f.0),
+          items_run ts typed_too scopes (placed (around_of scopes) own e).locals f.1,
         )

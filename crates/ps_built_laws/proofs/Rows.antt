@@ -15,7 +15,6 @@ use Rattle.ps_typing_laws.specs.ps_typing.Placed as placed
 use Rattle.ps_typing_laws.specs.ps_typing.Program.{Typed, check_program}
 use Rattle.ps_fit_laws.specs.ps_soundness.Running.{BodyRuns, RunsIn}
 use Rattle.ps_fit_laws.specs.ps_leaf_laws.Leaves.{LeavesFit}
-use Rattle.ps_built.specs.Library.{first_unbuilt_library}
 use Rattle.ps_built_laws.proofs.OfProgram.{program_runs}
 
 abbrev one : Line
@@ -47,11 +46,8 @@ is_program : check_program tree ≡ Typed program
 unfolding checking.passes checking.◌>>=◌ checking.assigned placed.◌>>=◌ placed.then_give
 is_program = refl
 
-all_built : first_unbuilt_library program ≡ None
-all_built = refl
-
 runs : LetsAreItems tree → LeavesFit tree → BodyRuns [] program
-runs lets leaves = program_runs tree program lets is_program leaves all_built
+runs lets leaves = program_runs tree program lets is_program leaves
 
 -- the same literal doesn't run where no scope is round it
 nowhere : RunsIn (Some []) (node.Proc (assigns (Kept 0 0))) → ⊥

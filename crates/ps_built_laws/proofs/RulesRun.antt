@@ -1,6 +1,6 @@
 -- A clause with a rule runs inside scopes where its parts do.
-use Rattle.std.proofs.Common.{◌≡◌, List, [], ◌∷◌, ◌++◌}
-use Rattle.std.specs.Prelude.{Some, None}
+use Rattle.std.proofs.Common.{List, [], ◌∷◌, ◌++◌}
+use Rattle.std.specs.Prelude.{Some}
 use Rattle.ps_built.specs.ps_base.TyView.{TyView, TyViews}
 use Rattle.ps_built.specs.ps_program.Node.{Node, Nodes, none, more, Arms, no_arms, more_arms, arm}
 use Rattle.ps_typing_laws.specs.ps_type_text.Texts.{Field}
@@ -10,8 +10,6 @@ use Rattle.ps_typing_laws.specs.Counted.{Each}
 use Rattle.ps_typing_laws.proofs.Tracked.{clauses_of}
 use Rattle.ps_fit_laws.specs.ps_soundness.Running.{RunsIn, AllRunIn, ArmsRunIn}
 use Rattle.ps_fit_laws.specs.Fitting.{Fits, AllFit, ArmsFit}
-use Rattle.ps_built.specs.Library.{own_library}
-use Rattle.ps_built_laws.proofs.Built.{run_code}
 
 join : (P : Node → Type 0) (xs ys : List Claim) → Each P (clauses_of xs) → Each P (clauses_of ys) → Each P (clauses_of (xs ++ ys))
 join P [] ys h k = k
@@ -59,44 +57,42 @@ module _ (wholes : List (List Field)) where
     pub fit : Each Fits (clauses_of claims)
     pub runs : Each RunHere (clauses_of claims) → RunHere clause
 
-  pub of_parts : {clause : Node} {claims : List Claim} {ty : TyView} → Rule clause claims ty → Fits clause → own_library clause ≡ None →
-      OfParts clause claims
-  of_parts rule.int f own = record { fit = tt; runs = λ h. f }
-  of_parts rule.flag f own = record { fit = tt; runs = λ h. tt }
-  of_parts rule.text f own = record { fit = tt; runs = λ h. f }
-  of_parts rule.nil f own = record { fit = tt; runs = λ h. tt }
-  of_parts rule.class f own = record { fit = tt; runs = λ h. tt }
-  of_parts rule.empty f own = record { fit = tt; runs = λ h. tt }
-  of_parts rule.abort f own = record { fit = tt; runs = λ h. tt }
-  of_parts rule.if_do f own = record { fit = (f.0, (f.1, tt)); runs = λ h. (h.0, h.1.0) }
-  of_parts rule.if_else f own = record { fit = (f.0, (f.1, (f.2, tt))); runs = λ h. (h.0, h.1.0, h.1.1.0) }
-  of_parts rule.while f own = record { fit = (f.0, (f.1, tt)); runs = λ h. (h.0, h.1.0) }
-  of_parts rule.repeat f own = record { fit = (f.0, (f.1, (f.2, tt))); runs = λ h. (h.0, h.1.0, h.1.1.0) }
-  of_parts (rule.case {d = d} {arms = arms} {value = value} {t = t} is) f own = record {
+  pub of_parts : {clause : Node} {claims : List Claim} {ty : TyView} → Rule clause claims ty → Fits clause → OfParts clause claims
+  of_parts rule.int f = record { fit = tt; runs = λ h. f }
+  of_parts rule.flag f = record { fit = tt; runs = λ h. tt }
+  of_parts rule.text f = record { fit = tt; runs = λ h. f }
+  of_parts rule.nil f = record { fit = tt; runs = λ h. tt }
+  of_parts rule.class f = record { fit = tt; runs = λ h. tt }
+  of_parts rule.empty f = record { fit = tt; runs = λ h. tt }
+  of_parts rule.abort f = record { fit = tt; runs = λ h. tt }
+  of_parts rule.if_do f = record { fit = (f.0, (f.1, tt)); runs = λ h. (h.0, h.1.0) }
+  of_parts rule.if_else f = record { fit = (f.0, (f.1, (f.2, tt))); runs = λ h. (h.0, h.1.0, h.1.1.0) }
+  of_parts rule.while f = record { fit = (f.0, (f.1, tt)); runs = λ h. (h.0, h.1.0) }
+  of_parts rule.repeat f = record { fit = (f.0, (f.1, (f.2, tt))); runs = λ h. (h.0, h.1.0, h.1.1.0) }
+  of_parts (rule.case {d = d} {arms = arms} {value = value} {t = t} is) f = record {
     fit = (f.0, join Fits (arms_have value t arms) (d has t ∷ []) (arms_fit value t arms f.1) (f.2, tt));
     runs = λ h. let u = split RunHere (arms_have value t arms) (d has t ∷ []) h.1 in (h.0, arms_run value t arms u.0, u.1.0);
   }
-  of_parts rule.and f own = record { fit = (f.0, (f.1, tt)); runs = λ h. (h.0, h.1.0) }
-  of_parts rule.or f own = record { fit = (f.0, (f.1, tt)); runs = λ h. (h.0, h.1.0) }
-  of_parts rule.not f own = record { fit = (f, tt); runs = λ h. h.0 }
-  of_parts rule.neg f own = record { fit = (f, tt); runs = λ h. h.0 }
-  of_parts rule.plus f own = record { fit = (f, tt); runs = λ h. h.0 }
-  of_parts rule.arith f own = record { fit = (f.0, (f.1, tt)); runs = λ h. (h.0, h.1.0) }
-  of_parts (rule.compare is) f own = record { fit = (f.0, (f.1, tt)); runs = λ h. (h.0, h.1.0) }
-  of_parts (rule.is class) f own = record { fit = (f.1, tt); runs = λ h. (f.0, h.0) }
-  of_parts rule.join f own = record { fit = (f.0, (f.1, tt)); runs = λ h. (h.0, h.1.0) }
-  of_parts rule.part f own = record { fit = (f.0, (f.1, (f.2, tt))); runs = λ h. (h.0, h.1.0, h.1.1.0) }
-  of_parts (rule.make class args) f own = record { fit = args_fit args f.1; runs = λ h. (f.0, args_run args h) }
-  of_parts (rule.field is) f own = record { fit = (f.1, tt); runs = λ h. (f.0, h.0) }
-  of_parts (rule.set_field is) f own = record { fit = (f.1, (f.2, tt)); runs = λ h. (f.0, h.0, h.1.0) }
-  of_parts (rule.fill is) f own = record { fit = (f.0, (f.1, (f.2, tt))); runs = λ h. (h.0, h.1.0, h.1.1.0) }
-  of_parts (rule.elems {items = items} {t = t}) f own =
+  of_parts rule.and f = record { fit = (f.0, (f.1, tt)); runs = λ h. (h.0, h.1.0) }
+  of_parts rule.or f = record { fit = (f.0, (f.1, tt)); runs = λ h. (h.0, h.1.0) }
+  of_parts rule.not f = record { fit = (f, tt); runs = λ h. h.0 }
+  of_parts rule.neg f = record { fit = (f, tt); runs = λ h. h.0 }
+  of_parts rule.plus f = record { fit = (f, tt); runs = λ h. h.0 }
+  of_parts rule.arith f = record { fit = (f.0, (f.1, tt)); runs = λ h. (h.0, h.1.0) }
+  of_parts (rule.compare is) f = record { fit = (f.0, (f.1, tt)); runs = λ h. (h.0, h.1.0) }
+  of_parts (rule.is class) f = record { fit = (f.1, tt); runs = λ h. (f.0, h.0) }
+  of_parts rule.join f = record { fit = (f.0, (f.1, tt)); runs = λ h. (h.0, h.1.0) }
+  of_parts rule.part f = record { fit = (f.0, (f.1, (f.2, tt))); runs = λ h. (h.0, h.1.0, h.1.1.0) }
+  of_parts (rule.make class args) f = record { fit = args_fit args f.1; runs = λ h. (f.0, args_run args h) }
+  of_parts (rule.field is) f = record { fit = (f.1, tt); runs = λ h. (f.0, h.0) }
+  of_parts (rule.set_field is) f = record { fit = (f.1, (f.2, tt)); runs = λ h. (f.0, h.0, h.1.0) }
+  of_parts (rule.fill is) f = record { fit = (f.0, (f.1, (f.2, tt))); runs = λ h. (h.0, h.1.0, h.1.1.0) }
+  of_parts (rule.elems {items = items} {t = t}) f =
       record { fit = (f.1, all_fit t items f.2); runs = λ h. (f.0, h.0, all_run t items h.1) }
-  of_parts rule.element f own = record { fit = (f.0, (f.1, tt)); runs = λ h. (h.0, h.1.0) }
-  of_parts rule.set_element f own = record { fit = (f.0, (f.1, (f.2, tt))); runs = λ h. (h.0, h.1.0, h.1.1.0) }
-  of_parts rule.bound f own = record { fit = (f, tt); runs = λ h. h.0 }
-  of_parts (rule.call args) f own = record { fit = (f.0, args_fit args f.1); runs = λ h. (h.0, args_run args h.1) }
-  of_parts (rule.lib {code = code} {line = line} known args) f own =
-      record { fit = args_fit args f; runs = λ h. (run_code wholes code line own, args_run args h) }
-  of_parts (rule.write is) f own = record { fit = (f.0, (f.1, tt)); runs = λ h. (h.0, h.1.0) }
-  of_parts (rule.write_wide is) f own = record { fit = (f.0, (f.1, tt)); runs = λ h. (h.0, h.1.0) }
+  of_parts rule.element f = record { fit = (f.0, (f.1, tt)); runs = λ h. (h.0, h.1.0) }
+  of_parts rule.set_element f = record { fit = (f.0, (f.1, (f.2, tt))); runs = λ h. (h.0, h.1.0, h.1.1.0) }
+  of_parts rule.bound f = record { fit = (f, tt); runs = λ h. h.0 }
+  of_parts (rule.call args) f = record { fit = (f.0, args_fit args f.1); runs = λ h. (h.0, args_run args h.1) }
+  of_parts (rule.lib known args) f = record { fit = args_fit args f; runs = λ h. args_run args h }
+  of_parts (rule.write is) f = record { fit = (f.0, (f.1, tt)); runs = λ h. (h.0, h.1.0) }
+  of_parts (rule.write_wide is) f = record { fit = (f.0, (f.1, tt)); runs = λ h. (h.0, h.1.0) }

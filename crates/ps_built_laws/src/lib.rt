@@ -1,6 +1,6 @@
-//! Laws of the forms that run: no code stands on them.
+//! The law that what fits the typing rules runs: no code stands on it.
 #![tactic(auto)]
 
 mod laws;
 
-pub use laws::built_program_runs;
+pub use laws::typed_program_runs;

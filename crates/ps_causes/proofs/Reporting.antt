@@ -1,23 +1,23 @@
 -- What is due stays so where the output alone is called after it, so that the end of a command is told last.
-use Rattle.std.proofs.Common.{◌≡◌, ℕ, List, Some, None, Option, sym, ap, subst}
+use Rattle.std.proofs.Common.{ℕ, List, Some, None, Option, sym, subst}
 use Rattle.std.specs.Prelude.{Result, Ok, Err}
 use Rattle.ps_port.specs.ps_outside.Outside.{Outside, Rose}
 use Rattle.ps_port.specs.ps_outside.Past.{KeepsTold}
 use Rattle.ps_port.specs.Telling.{LeavesDevice}
-use Rattle.ps_port.proofs.of_ps_outside.Moments.{along_then, along_now, settles_then}
+use Rattle.ps_port.proofs.of_ps_outside.Moments.{along_then, along_now}
 use Rattle.ps_port.proofs.Telling.{device_then}
 use Rattle.ps_volumes.proofs.of_paged_volume.Opening.{shuts_then, opens_then}
 use Rattle.ps_volumes.specs.volume_parts.declared.open_fault.OpenFault.{OpenFault}
 use Rattle.ps_volumes.specs.ps_reports.declared.status.Status.{Status}
 use Rattle.ps_volumes.specs.ps_reports.declared.report.Report.{Report}
-use Rattle.ps_volumes.specs.ps_reports.Answering.{Answers, EndsIn, Tells}
+use Rattle.ps_volumes.specs.ps_reports.Answering.{Tells}
 use Rattle.ps_volumes.specs.ps_reports.Reporting.{line_of, status_of}
 use Rattle.ps_volumes.specs.ps_reports.Statuses.{number_of}
 use Rattle.ps_volumes.proofs.of_ps_reports.Behind.{ended_answers, reported_answers}
-use Rattle.ps_volumes.specs.Attaching.{Keeps, KeepsVolume, IsWhyNone}
+use Rattle.ps_volumes.specs.Attaching.{Keeps, KeepsHeld, KeepsVolume, IsWhyNone}
 use Rattle.ps_volumes.specs.Making.{IsMade, IsMakingDue}
 use Rattle.ps_volumes.specs.Making as making
-use Rattle.ps_volumes.proofs.Settled.{keeps_then, device_kept, answers_keep}
+use Rattle.ps_volumes.proofs.Settled.{keeps_then, held_then, from_then, device_kept, answers_keep}
 use Rattle.ps_words.specs.Words.{CommandOf, a_run, a_volume}
 use Rattle.ps_causes.specs.Command.{Due, LeavesAsAsked, Why, WhyEnds}
 
@@ -25,8 +25,11 @@ module _ (old mid new : Outside (List ℕ)) (left : LeavesDevice mid new) (told 
   still_kept : Keeps old mid → Keeps old new
   still_kept is = keeps_then old mid new is (device_kept mid new left)
 
+  still_held : KeepsHeld old mid → KeepsHeld old new
+  still_held is = held_then old mid new is (device_kept mid new left)
+
   still_attached : KeepsVolume old mid → KeepsVolume old new
-  still_attached is = record { keeps = still_kept is.keeps; settles = settles_then old mid new is.settles left.images told; found = is.found }
+  still_attached is = record { keeps = still_held is.keeps; from = from_then old mid new is.from left.images told; found = is.found }
 
   still_none : (cause : OpenFault) → IsWhyNone old mid cause → IsWhyNone old new cause
   still_none cause is = record { device = λ e. subst (λ (n : ℕ). Rose old.device_faults n) (sym left.faults) (is.device e); found = is.found }
@@ -47,13 +50,13 @@ module _ (old mid new : Outside (List ℕ)) (left : LeavesDevice mid new) (told 
     pub still_due : (bytes : List ℕ) (status : ℕ) → Due asked holds lacks may_fail failed old mid bytes status → Due asked holds lacks may_fail failed old new bytes status
     still_due bytes status (Due.no_command none was) = Due.no_command none (device_then old mid new was left)
     still_due bytes status (Due.unready is why was) = Due.unready is why (device_then old mid new was left)
-    still_due bytes status (Due.unattached input {cause = cause} is g given none kept) = Due.unattached input is g given (still_none cause none) (still_kept kept)
+    still_due bytes status (Due.unattached input {cause = cause} is g given none kept) = Due.unattached input is g given (still_none cause none) (still_held kept)
     still_due bytes status (Due.ran is g given comes kept) = Due.ran is g given comes (still_attached kept)
     still_due bytes status (Due.making {pages = pages} is due) = Due.making is (still_making pages bytes status due)
 
   still_left : (asked : Option CommandOf) → LeavesAsAsked asked old mid → LeavesAsAsked asked old new
   still_left None is = still_kept is
-  still_left (Some (a_run run)) is = still_kept is
+  still_left (Some (a_run run)) is = still_held is
   still_left (Some (a_volume pages)) is = (along_then is.0 left.images (along_now is.0), shuts_then pages old mid new is.1 left.images)
 
 module _ {H : Type 0} (outside : H → Outside (List ℕ)) (old mid new : H) (asked : Option CommandOf) (holds : List ℕ → List ℕ → Type 0) (lacks may_fail : List ℕ → Type 0)

@@ -14,11 +14,11 @@ use Rattle.ps_volumes.specs.ps_reports.Reports.{usage_line, memory_line, unreada
 use Rattle.ps_volumes.specs.ps_reports.declared.status.Status.{Status}
 use Rattle.ps_volumes.specs.ps_reports.declared.report.Report.{Report}
 use Rattle.ps_volumes.specs.ps_reports.Answering.{Answers, EndsIn}
-use Rattle.ps_volumes.specs.Attaching.{Keeps, KeepsVolume, IsWhyNone, line_of, status_of as status_of_cause}
+use Rattle.ps_volumes.specs.Attaching.{Keeps, KeepsHeld, KeepsVolume, IsWhyNone, line_of, status_of as status_of_cause}
 use Rattle.ps_volumes.specs.Making.{IsMakingDue}
 use Rattle.ps_meaning.specs.ps_heap.Ends.{status_of}
-use Rattle.ps_meaning.specs.Event.{Event, outputs}
-use Rattle.ps_meaning.specs.Runs.{run_events, run_end}
+use Rattle.ps_meaning.specs.ps_heap.Events.{Event, outputs}
+use Rattle.ps_meaning.specs.Runs.{over_nothing, run_events, run_end}
 use Rattle.ps_causes.specs.Source.{IsProgram, IsSourceFault}
 use Rattle.ps_causes.specs.Filling.{area_size, FillsArea}
 
@@ -46,7 +46,7 @@ HoldsInput holds (Some name) input = holds name input × (length input ≤ LONGE
 
 -- What a program outputs in a run with this input, and the status of its end: it reaches its end, or its area is full.
 pub data RunsTo (run : RunOf) (input : List ℕ) (program : BodyNode) : List ℕ → ℕ → Type 0 where
-  its_end : RunsTo run input program (outputs (run_events run.turns input program)) (status_of (run_end run.turns input program))
+  its_end : RunsTo run input program (outputs (run_events (over_nothing run.turns input) program)) (status_of (run_end (over_nothing run.turns input) program))
   area_full : {before : List Event} {top wanted : ℕ} → FillsArea run input program before top wanted →
       RunsTo run input program (outputs before ++ area_full_line top wanted (area_size run)) 11
 
@@ -77,7 +77,7 @@ pub data Unready (run : RunOf) (holds : List ℕ → List ℕ → Type 0) (lacks
 
 -- What the words ask for, over a shelf that holds these texts, lacks these names, and may fail to read texts of those, and over this device, calls for
 -- these bytes to be output and this status to be answered. `failed` says that the shelf's faults rose in this call. A refusal before the volume is
--- attached makes no call of the device, and a run leaves the device as it is.
+-- attached makes no call of the device, and a run leaves in the volume what was held: the same words under the same directory.
 pub data Due (asked : Option CommandOf) (holds : List ℕ → List ℕ → Type 0) (lacks may_fail : List ℕ → Type 0) (failed : Type 0) (old new : Outside (List ℕ)) : List ℕ → ℕ → Type 0 where
   -- the words are no command
   no_command : asked ≡ None → LeavesDevice old new → Due asked holds lacks may_fail failed old new usage_line 1
@@ -86,18 +86,18 @@ pub data Due (asked : Option CommandOf) (holds : List ℕ → List ℕ → Type 
       Due asked holds lacks may_fail failed old new bytes status
   -- the program and its input were given, and there is no volume to run over: why. One cause is that there was no memory to attach it.
   unattached : {run : RunOf} {program : BodyNode} (input : List ℕ) {cause : OpenFault} → asked ≡ Some (a_run run) → GivesProgram holds lacks run program →
-      GivesInput holds lacks run.input input → IsWhyNone old new cause → Keeps old new →
+      GivesInput holds lacks run.input input → IsWhyNone old new cause → KeepsHeld old new →
       Due asked holds lacks may_fail failed old new (line_of cause) (status_of_cause cause)
-  -- the program was run over the volume that was found at the start, and from some moment on a crash leaves only that
+  -- the program was run over the volume that was found at the start, and from some moment on a crash leaves only files that hold what that held
   ran : {run : RunOf} {program : BodyNode} {input bytes : List ℕ} {status : ℕ} → asked ≡ Some (a_run run) → GivesProgram holds lacks run program →
       GivesInput holds lacks run.input input → RunsTo run input program bytes status → KeepsVolume old new → Due asked holds lacks may_fail failed old new bytes status
   -- a volume was to be made
   making : {pages : ℕ} {bytes : List ℕ} {status : ℕ} → asked ≡ Some (a_volume pages) → IsMakingDue pages old new bytes status →
       Due asked holds lacks may_fail failed old new bytes status
 
--- what a command leaves of the device: all of it, but where it makes a volume
+-- what a command leaves of the device: a run leaves in the volume what was held, the same words under the same directory, and words that are no command leave it as it is
 abbrev pub LeavesBy : CommandOf → Outside (List ℕ) → Outside (List ℕ) → Type 0
-LeavesBy (a_run run) old new = Keeps old new
+LeavesBy (a_run run) old new = KeepsHeld old new
 LeavesBy (a_volume pages) old new = Leaves old new (IsMaking old pages) × ShutsAt pages old new
 
 abbrev pub LeavesAsAsked : Option CommandOf → Outside (List ℕ) → Outside (List ℕ) → Type 0

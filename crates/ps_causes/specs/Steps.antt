@@ -30,7 +30,7 @@ pub record EndsRun (old new : Outside (List ℕ)) (run : RunOf) (input : List �
   pub comes : RunsTo run input program bytes status
   pub ends : EndsIn old new bytes status end
 
--- It ran over a volume, and the device was left as it is; or there was no memory, and nothing was done; or there was no volume.
+-- It ran over a volume, and left in it what was held, the same words under the same directory; or there was no memory, and nothing was done; or there was no volume.
 pub data ProgramWhy {H : Type 0} (outside : H → Outside (List ℕ)) (old new : H) (run : RunOf) (input : List ℕ) (program : BodyNode) : Result Status Report → Type 0 where
   ran : {end : Result Status Report} → EndsRun (outside old) (outside new) run input program end → KeepsVolume (outside old) (outside new) →
       ProgramWhy outside old new run input program end

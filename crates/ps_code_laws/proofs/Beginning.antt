@@ -4,9 +4,10 @@ use Rattle.std.specs.Prelude.{if◌then◌else◌}
 use Rattle.ps_gen.specs.ps_base.TyView.{TyView}
 use Rattle.ps_gen.specs.ps_base.TyView as types
 use Rattle.ps_gen.specs.ps_base.CodeUnit.{UnitView}
+use Rattle.ps_gen.specs.ps_base.declared.instr.Instr.{Instr}
 use Rattle.ps_gen.specs.ps_base.declared.instr.Instr.TheVariants as instr
 use Rattle.ps_gen.specs.ps_program.declared.place.Place.TheVariants.{Plain, Kept}
-use Rattle.ps_gen.specs.ps_program.Node.{Param}
+use Rattle.ps_gen.specs.ps_program.Node.{Param, BodyNode}
 use Rattle.ps_type_text.specs.Texts.{Field}
 use Rattle.ps_typing_laws.specs.ps_typing.Placing.{is_number}
 use Rattle.ps_typing_laws.specs.ps_typing.Locals.{one_on, taken_by_params}
@@ -14,7 +15,7 @@ use Rattle.ps_typing_laws.specs.ps_typing.WellTyped.{Env, Free, Local, behind_on
 use Rattle.ps_typing_laws.specs.ps_typing.WellTyped as typed
 use Rattle.ps_stepping.specs.ps_heap.Values.{Value, Nothing, word_of}
 use Rattle.ps_stepping.specs.ps_heap.Objects.{Heap}
-use Rattle.ps_stepping.specs.ps_meaning.Meaning.{Frame, give, ◌>>=◌, set}
+use Rattle.ps_stepping.specs.ps_meaning.Meaning.{Frame, give, ◌>>=◌, set, change}
 use Rattle.ps_stepping.specs.ps_meaning.Frames.{arguments_on, keep, keep_all}
 use Rattle.ps_gen.specs.Units.{kept_at, keeps, size_keeps}
 use Rattle.ps_stepping.specs.Config.{frame_in}
@@ -24,7 +25,6 @@ use Rattle.ps_soundness.proofs.Combining.{Standing, Sound, sound_then, sound_not
 use Rattle.ps_soundness.proofs.Calling.{ValuesOf, values_kept}
 use Rattle.ps_soundness.proofs.Declaring.{declare_kept}
 use Rattle.ps_code_laws.specs.Compiled.{compiled}
-use Rattle.ps_code_laws.specs.Literals.{Fits}
 use Rattle.ps_code_laws.proofs.Standing.{Ahead}
 use Rattle.ps_code_laws.proofs.Known.{HasPlace}
 use Rattle.ps_code_laws.proofs.Clauses.{IsNum, IsRef, int, bool, str, pntr, vector, proc, Kind, of_num, of_ref}
@@ -61,14 +61,14 @@ keep_sound told wholes (typed.Takes.as_kept {position = position} {ty = ty} {res
 abbrev pub begun : ℕ → Heap → List Local → List (List Field) → List (List Field) → Origin
 begun turns heap locals wholes scopes = record { turns = turns; heap = heap; known = known_in locals wholes scopes }
 
-pub keep_leads : (told : Told) (wholes : List (List Field)) {env last : Env} {free behind : Free} {params : List Param} →
+pub keep_leads : (P : BodyNode → Type 0) (told : Told) (wholes : List (List Field)) {env last : Env} {free behind : Free} {params : List Param} →
     Takes env free params last behind → (locals : List Local) (args : List Value) → ArePlaces wholes params → (turns : ℕ) (heap : Heap) →
-    ValuesOf heap (types_of_params params) args → AreLiterals Fits args →
-    Leads (begun turns heap locals wholes env.scopes) (known_in locals wholes last.scopes) types.Void (keep_all params args)
-keep_leads told wholes {params = params} takes locals args places turns heap are literals = record {
+    ValuesOf heap (types_of_params params) args → AreLiterals P args →
+    Leads P (begun turns heap locals wholes env.scopes) (known_in locals wholes last.scopes) types.Void (keep_all params args)
+keep_leads P told wholes {params = params} takes locals args places turns heap are literals = record {
   falls = falls_keep_all params args;
   sound = keep_sound told wholes takes locals args places heap are;
-  holds = holds_keep_all Fits params args literals;
+  holds = holds_keep_all P params args literals;
 }
 
 -- the locals of the next parameter and of those after it are among those of the body
@@ -79,13 +79,13 @@ room_next : (number : Bool) (free : Free) (nums refs n r : ℕ) → free.nums + 
 room_next true free nums refs n r h k = (omega arith, omega arith)
 room_next false free nums refs n r h k = (omega arith, omega arith)
 
-plain_ahead : (u : UnitView) (number : Bool) (p slot : ℕ) (rest : List Param) (free : Free) →
-    Ahead u p (if number then kept_at (Plain slot) (instr.GetM free.nums) (λ u i. instr.KeepM u i) ++ keeps rest (free.nums + 1) free.refs
+plain_ahead : (Allows : Instr → Type 0) (u : UnitView) (number : Bool) (p slot : ℕ) (rest : List Param) (free : Free) →
+    Ahead Allows u p (if number then kept_at (Plain slot) (instr.GetM free.nums) (λ u i. instr.KeepM u i) ++ keeps rest (free.nums + 1) free.refs
     else kept_at (Plain slot) (instr.GetP free.refs) (λ u i. instr.KeepP u i) ++ keeps rest free.nums (free.refs + 1)) →
-    Ahead u p (keeps rest (if number then record free { nums = free.nums + 1 } else record free { refs = free.refs + 1 }).nums
+    Ahead Allows u p (keeps rest (if number then record free { nums = free.nums + 1 } else record free { refs = free.refs + 1 }).nums
     (if number then record free { nums = free.nums + 1 } else record free { refs = free.refs + 1 }).refs)
-plain_ahead u true p slot rest free h = h
-plain_ahead u false p slot rest free h = h
+plain_ahead Allows u true p slot rest free h = h
+plain_ahead Allows u false p slot rest free h = h
 
 module _ (w : Way) where
   -- a kept parameter is moved from its local
@@ -111,11 +111,11 @@ module _ (w : Way) where
   -- which it stands in by its type; those after it follow
   abbrev KeptAhead : Bool → ℕ → ℕ → List Param → Free → Type 0
   KeptAhead number p position rest free =
-      Ahead w.unit p (if number then kept_at (Kept 0 position) (instr.GetM free.nums) (λ u i. instr.KeepM u i) ++ keeps rest (free.nums + 1) free.refs
+      Ahead w.Allows w.unit p (if number then kept_at (Kept 0 position) (instr.GetM free.nums) (λ u i. instr.KeepM u i) ++ keeps rest (free.nums + 1) free.refs
       else kept_at (Kept 0 position) (instr.GetP free.refs) (λ u i. instr.KeepP u i) ++ keeps rest free.nums (free.refs + 1))
 
   kept_behind : (number : Bool) (p position : ℕ) (rest : List Param) (free : Free) → KeptAhead number p position rest free →
-      Ahead w.unit (p + 5 + 9) (keeps rest (if number then record free { nums = free.nums + 1 } else record free { refs = free.refs + 1 }).nums
+      Ahead w.Allows w.unit (p + 5 + 9) (keeps rest (if number then record free { nums = free.nums + 1 } else record free { refs = free.refs + 1 }).nums
       (if number then record free { nums = free.nums + 1 } else record free { refs = free.refs + 1 }).refs)
   kept_behind true p position rest free h = h.1.1
   kept_behind false p position rest free h = h.1.1
@@ -134,12 +134,12 @@ module _ (w : Way) where
 
   pub keeps_do : (told : Told) (wholes : List (List Field)) {env last : Env} {free behind : Free} {params : List Param} →
       Takes env free params last behind → (locals : List Local) (args : List Value) → KindsAre params → ArePlaces wholes params → (turns : ℕ)
-      (heap : Heap) (p : ℕ) → ValuesOf heap (types_of_params params) args → AreLiterals Fits args →
+      (heap : Heap) (p : ℕ) → ValuesOf heap (types_of_params params) args → AreLiterals w.Body args →
       free.nums + taken_by_params true params ≤ (frame_in w.unit).nums → free.refs + taken_by_params false params ≤ (frame_in w.unit).refs →
-      Ahead w.unit p (keeps params free.nums free.refs) →
+      Ahead w.Allows w.unit p (keeps params free.nums free.refs) →
       From w (begun turns heap locals wholes env.scopes) (Passed free (arguments_on true params args) (arguments_on false params args)) [] []
       (keep_all params args) types.Void 1 p (p + size_keeps params)
-  unfolding keep_all keep arguments_on give set
+  unfolding keep_all keep arguments_on give set change
   keeps_do told wholes (typed.Takes.no_more {env = env} {free = free}) locals args kinds places turns heap p are literals nums refs h =
       let same : p ≡ p + 0 = omega arith in
       let pre : Frame → Type 0 = Passed free (arguments_on true [] args) (arguments_on false [] args) in
@@ -157,12 +157,12 @@ module _ (w : Way) where
       (give Nothing >>= λ u. keep_all params args) types.Void 1 p q) same
       (then_from w (λ u. keep_all params args)
       (λ v f. Passed (behind_one ty free) (arguments_on true params args) (arguments_on false params args) f) 0 1 p p (p + size_keeps params)
-      (omega arith) (record { falls = falls_give Nothing; sound = sound_nothing; holds = holds_give Fits Nothing tt })
+      (omega arith) (record { falls = falls_give Nothing; sound = sound_nothing; holds = holds_give w.Body Nothing tt })
       (λ f s is. (passed_next (is_number ty) f free arg (arguments_on true params args) (arguments_on false params args) is).0)
       (from_does w _ (does_nothing w n 0 p))
       (λ new u g done. keeps_do told wholes rest locals args kinds.1 places.1 turns new p
       (values_kept heap new g (types_of_params params) args are.1) literals.1 room.0 room.1
-      (plain_ahead w.unit (is_number ty) p slot params free h)))
+      (plain_ahead w.Allows w.unit (is_number ty) p slot params free h)))
   keeps_do told wholes (typed.Takes.as_kept name scopes is rest) locals [] kinds places turns heap p are literals nums refs h = absurd are
   keeps_do told wholes {env = env} (typed.Takes.as_kept {free = free} {position = position} {ty = ty} {rest = params} name scopes is rest) locals
       (arg ∷ args) kinds places turns heap p are literals nums refs h =
@@ -180,7 +180,7 @@ module _ (w : Way) where
       (record {
         falls = falls_set (Kept 0 position) ty arg;
         sound = declare_kept told wholes position name ty arg scopes is places.0 are.0;
-        holds = holds_set Fits (Kept 0 position) ty arg literals.0;
+        holds = holds_set w.Body (Kept 0 position) ty arg literals.0;
       })
       (λ f s so. (passed_next (is_number ty) f free arg (arguments_on true params args) (arguments_on false params args) so).0)
       (record {

@@ -1,10 +1,12 @@
 -- Bodies do what they mean, inside any bodies that wait, and so does a program.
-use Rattle.std.proofs.Common.{◌≡◌, ℕ, zero, suc, ◌+◌, ◌≤◌, List, [], ◌∷◌, ◌++◌, length, Option, Some, None, refl, sym, ◌∙◌, subst, append_assoc, append-nil, arith}
+use Rattle.std.proofs.Common.{◌≡◌, Bool, true, ℕ, zero, suc, ◌+◌, ◌≤◌, List, [], ◌∷◌, ◌++◌, length, Option, Some, None, refl, sym, ap, ◌∙◌, subst, append_assoc, append-nil, arith}
 use Rattle.std.specs.List.{AllByRecursion}
+use Rattle.std.proofs.lemmas.List.{map-append}
 use Rattle.ps_gen.specs.ps_base.TyView.{TyView, TyViews}
 use Rattle.ps_gen.specs.ps_base.TyView as types
 use Rattle.ps_gen.specs.ps_base.CodeUnit.{UnitView}
 use Rattle.ps_gen.specs.ps_base.declared.line.Line.{Line}
+use Rattle.ps_gen.specs.ps_base.declared.instr.Instr.{Instr}
 use Rattle.ps_gen.specs.ps_base.declared.instr.Instr.TheVariants as instr
 use Rattle.ps_gen.specs.ps_program.Node.{Param, Node, BodyNode, body}
 use Rattle.ps_type_text.specs.Texts.{Field}
@@ -14,28 +16,28 @@ use Rattle.ps_typing_laws.specs.ps_typing.WellTyped as typed
 use Rattle.ps_stepping.specs.ps_heap.Objects.{Heap}
 use Rattle.ps_stepping.specs.ps_heap.Weights.{code_weight}
 use Rattle.ps_stepping.specs.ps_heap.Ends.{End, Done}
-use Rattle.ps_stepping.specs.ps_meaning.Event.{Event, Finish}
-use Rattle.ps_stepping.specs.ps_heap.Values.{Value}
+use Rattle.ps_stepping.specs.ps_heap.Events.{Event, Finish}
+use Rattle.ps_stepping.specs.ps_heap.Values.{Value, Routine}
 use Rattle.ps_stepping.specs.ps_meaning.Meaning.{Frame, Store, State, Outcome, Value_is, Ends, give, after, ◌>>=◌}
 use Rattle.ps_stepping.specs.ps_meaning.Frames.{arguments_on, frame_of_call, keep_all}
 use Rattle.ps_stepping.specs.ps_meaning.Calls.{body_meant, context}
-use Rattle.ps_stepping.specs.ps_meaning.Runs.{fresh_frame, fresh_store, fresh_state, outcome_of, all_events, run_events}
+use Rattle.ps_stepping.specs.ps_meaning.Runs.{Given, fresh_frame, fresh_store, fresh_state, outcome_with, all_events, events_with}
 use Rattle.ps_gen.specs.ps_emitter.Choices as choice
 use Rattle.ps_gen.specs.Units.{HasUnit, unit_of}
 use Rattle.ps_stepping.specs.Config.{frame_words, Caller, Config, code_in, frame_in, IsAt, start}
-use Rattle.ps_stepping.specs.Machine.{Step, Goes, Stops, act, Steps, at_instruction, resumed}
+use Rattle.ps_stepping.specs.Machine.{Step, Goes, Stops, and_touched, act, Steps, at_instruction, resumed, RunsBy, goes_by, stops_by}
 use Rattle.ps_stepping.specs.Machine as machine
 use Rattle.ps_stepping.specs.Path.{Reaches, Finishes}
 use Rattle.ps_stepping.specs.Path as path
 use Rattle.ps_soundness.specs.Running.{BodyRuns}
 use Rattle.ps_soundness.specs.Valued.{IsValued}
-use Rattle.ps_soundness.specs.Shapes.{type_of_body, IsTypedHeap}
+use Rattle.ps_soundness.specs.Shapes.{type_of_body}
 use Rattle.ps_soundness.proofs.Telling.{Told}
 use Rattle.ps_soundness.proofs.Calling.{ValuesOf}
-use Rattle.ps_code_laws.specs.Literals.{AreScopesValued, Fits}
-use Rattle.ps_code_laws.specs.Meets.{nums_left, refs_left, standing, ComesBack, Follows, AreHanded, HasRoom, Meets}
-use Rattle.ps_code_laws.specs.Compiled.{compiled_store}
-use Rattle.ps_code_laws.proofs.Doing.{Way, if_lt, quiet}
+use Rattle.ps_code_laws.specs.Literals.{AreScopesValued, Fits, FitsBy, instrs_of}
+use Rattle.ps_code_laws.specs.Meets.{nums_left, refs_left, standing, ComesBack, Follows, AreHanded, HasRoom, IsFittingHeap, Meets}
+use Rattle.ps_code_laws.specs.Compiled.{compiled_store, compiled_event, compiled_events, WeighsUnits}
+use Rattle.ps_code_laws.proofs.Doing.{Way, if_lt, quiet, halt}
 use Rattle.ps_code_laws.proofs.CallForms.{Returned}
 use Rattle.ps_code_laws.proofs.Calls.{Enters, Entered}
 use Rattle.ps_code_laws.proofs.Called.{within, Closes, Returns, body_does}
@@ -43,52 +45,70 @@ use Rattle.ps_code_laws.proofs.Naming.{names_in_body}
 use Rattle.ps_code_laws.proofs.Inside.{bodies_inside, bodies_fit}
 
 -- one step more before what follows
-back_goes : {c next : Config} {events : List Event} (later : List Event) (callers : List Caller) (gives : TyView) (v : Value) (store : Store) →
-    Steps c (Goes events next) → ComesBack next later callers gives v store → ComesBack c (events ++ later) callers gives v store
-back_goes {c = c} {events = events} later [] gives v store s h =
-    subst (λ (es : List Event). Finishes c es) (sym (append_assoc events later (Finish Done store.counted ∷ []))) (path.goes s h)
-back_goes later (caller ∷ callers) gives v store s h = path.more s h
+with_end : (c : Config) (events later rest : List Event) → Finishes c (compiled_events events ++ (compiled_events later ++ rest)) →
+    Finishes c (compiled_events (events ++ later) ++ rest)
+with_end c events later rest h =
+    subst (λ (es : List Event). Finishes c (es ++ rest)) (sym (map-append compiled_event events later))
+    (subst (λ (es : List Event). Finishes c es) (sym (append_assoc (compiled_events events) (compiled_events later) rest)) h)
 
-follows_goes : {c next : Config} {events : List Event} (so_far : List Event) (callers : List Caller) (gives : TyView) (o : Outcome) →
-    Steps c (Goes events next) →
+back_goes : {c next : Config} (events later : List Event) (callers : List Caller) (gives : TyView) (v : Value) (store : Store) →
+    Steps c (Goes (compiled_events events) next) → ComesBack next later callers gives v store → ComesBack c (events ++ later) callers gives v store
+back_goes {c = c} events later [] gives v store s h = with_end c events later (Finish Done store.held.counted ∷ []) (path.goes s h)
+back_goes {c = c} events later (caller ∷ callers) gives v store s h =
+    subst (λ (es : List Event). Reaches c es (resumed caller (nums_left gives v ++ caller.nums) (refs_left gives v ++ caller.refs) callers (compiled_store store)))
+    (sym (map-append compiled_event events later)) (path.more s h)
+
+follows_goes : {c next : Config} (events so_far : List Event) (callers : List Caller) (gives : TyView) (o : Outcome) →
+    Steps c (Goes (compiled_events events) next) →
     Follows next (so_far ++ events) callers gives o → Follows c so_far callers gives o
-follows_goes {events = events} so_far callers gives (Value_is v f state) s h =
-    (events ++ h.0, h.1 ∙ append_assoc so_far events h.0, back_goes h.0 callers gives v state.store s h.2)
-follows_goes {c = c} {events = events} so_far callers gives (Ends e state) s h = (
+follows_goes events so_far callers gives (Value_is v f state) s h =
+    (events ++ h.0, h.1 ∙ append_assoc so_far events h.0, back_goes events h.0 callers gives v state.store s h.2)
+follows_goes {c = c} events so_far callers gives (Ends e state) s h = (
   events ++ h.0,
   h.1 ∙ append_assoc so_far events h.0,
-  subst (λ (es : List Event). Finishes c es) (sym (append_assoc events h.0 (Finish e state.store.counted ∷ []))) (path.goes s h.2),
+  with_end c events h.0 (Finish e state.store.held.counted ∷ []) (path.goes s h.2),
 )
 
 -- the end that an outcome has, where so many bytes are counted
 abbrev EndsSo : Outcome → End → ℕ → List Event → Type 0
 EndsSo (Value_is v f state) e counted so_far = ⊥
-EndsSo (Ends end state) e counted so_far = (e ≡ end) × (counted ≡ state.store.counted) × (state.events ≡ so_far)
+EndsSo (Ends end state) e counted so_far = (e ≡ end) × (counted ≡ state.store.held.counted) × (state.events ≡ so_far)
 
-follows_stops : {c : Config} {e : End} (so_far : List Event) (callers : List Caller) (gives : TyView) (o : Outcome) → Steps c (Stops e) →
-    EndsSo o e c.store.counted so_far → Follows c so_far callers gives o
+follows_stops : {c : Config} {e : End} {touched : ℕ} (so_far : List Event) (callers : List Caller) (gives : TyView) (o : Outcome) →
+    Steps c (Stops e touched) → EndsSo o e (and_touched touched c.store.held.counted) so_far → Follows c so_far callers gives o
 follows_stops so_far callers gives (Value_is v f state) s h = absurd h
-follows_stops {c = c} {e = e} so_far callers gives (Ends end state) s h = (
+follows_stops {c = c} {e = e} {touched = touched} so_far callers gives (Ends end state) s h = (
   [],
   h.2 ∙ sym (append-nil so_far),
   subst (λ (counted : ℕ). Finishes c (Finish end counted ∷ [])) h.1
-      (subst (λ (e : End). Finishes c (Finish e c.store.counted ∷ [])) h.0 (path.stops s)),
+      (subst (λ (e : End). Finishes c (Finish e (and_touched touched c.store.held.counted) ∷ [])) h.0 (path.stops s)),
 )
+
+-- each instruction may run
+any_may : (is : List Instr) → AllByRecursion (λ (i : Instr). Unit {0}) is
+any_may [] = tt
+any_may (i ∷ is) = (tt, any_may is)
 
 -- the way to what an outcome says
 abbrev way_to : UnitView → List Caller → TyView → Outcome → Way
 way_to u callers gives o = record {
   unit = u;
   callers = callers;
+  Body = Fits;
+  Allows = λ i. Unit {0};
+  fits = λ of h. h;
+  allowed = λ of h. any_may (instrs_of of);
   Holds = λ c so_far. Follows c so_far callers gives o;
   Final = λ e counted so_far. EndsSo o e counted so_far;
-  goes = λ {c} {next} {so_far} {events} s h. follows_goes so_far callers gives o s h;
-  stops = λ {c} {so_far} {e} s h. follows_stops so_far callers gives o s h;
+  goes = λ {c} {next} {so_far} events {i} at ok acts h.
+      follows_goes events so_far callers gives o (subst (λ (s : Step). Steps c s) acts (at_instruction at)) h;
+  stops = λ {c} {so_far} {e} {touched} {i} at ok acts h.
+      follows_stops so_far callers gives o (subst (λ (s : Step). Steps c s) acts (at_instruction at)) h;
 }
 
 -- the last instruction of a body
 return_stops : (u : UnitView) (k : ℕ) (gives : TyView) (v : Value) (f : Frame) (store : Store) →
-    act (instr.Return (choice.kind_of gives)) (standing u [] k (nums_left gives v ++ []) (refs_left gives v ++ []) f store) ≡ Stops Done
+    act (instr.Return (choice.kind_of gives)) (standing u [] k (nums_left gives v ++ []) (refs_left gives v ++ []) f store) ≡ Stops Done 0
 return_stops u k types.Int v f store = refl
 return_stops u k types.Bool v f store = refl
 return_stops u k types.Void v f store = refl
@@ -130,9 +150,9 @@ returns_to w of caller g room k at v f s h =
 
 -- where the bodies that are called inside it do what they mean
 enters_by : (told : Told) (m : ℕ) → ((v : Way) → Entered v m) → (w : Way) → Enters w m
-enters_by told m entered w caller of scope args ps g s few room typed_heap is are fits literals held reach =
+enters_by told m entered w caller of scope args ps g s few room typed_heap weighs is are fits literals held reach =
     body_does told w (caller ∷ w.callers) m scope args s is.wholes is.scopes of ps g (comes_to w caller g) is.ty_is is.typed is.runs is.stand fits few
-    (entered (within w of (caller ∷ w.callers))) typed_heap are literals held (returns_to w of caller g room) (closed_by w of caller g _ reach)
+    (entered (within w of (caller ∷ w.callers))) typed_heap weighs are literals held (returns_to w of caller g room) (closed_by w of caller g _ reach)
 
 -- by induction on the turns that may be left
 enters_up_to : (told : Told) (n m : ℕ) → m ≤ n → (w : Way) → Enters w m
@@ -172,62 +192,99 @@ pub body_meets : (told : Told) (wholes scopes : List (List Field)) (of : BodyNod
     AreScopesValued scopes → AllByRecursion Fits (bodies of) → Meets n wholes scopes of
 body_meets told wholes scopes (body params gives tree text line) n typed_body runs valued fit =
     let of : BodyNode = body params gives tree text line in
-    let fits = names_in_body wholes typed_body runs (bodies_inside Fits of fit) valued in
+    let fits = names_in_body Fits (λ b h. h.valued) wholes typed_body runs (bodies_inside Fits of fit) valued in
     record {
-      follows = λ callers scope args state turns room typed_heap stand are literals held.
+      follows = λ callers scope args state turns room fitting stand are literals.
           let o = body_meant (context n (length callers)) of args (frame_of_call of scope args) state in
           let w = way_to (unit_of of) callers gives o in
           body_does told w callers n scope args state wholes scopes of (types_of_params params) gives (HasSo o) refl typed_body runs stand fits turns
-          (all_enter told n (within w of callers)) typed_heap (handed state.store.heap params args are) literals held
-          (λ k at v f s h. comes_so (unit_of of) callers gives o room k at v f s h) (has_so (unit_of of) callers gives o);
+          (all_enter told n (within w of callers)) fitting.typed fitting.weighs (handed state.store.held.objects params args are) literals fitting.fit
+          (λ k at v f s h. comes_so (unit_of of) callers gives o room k at.0 v f s h) (has_so (unit_of of) callers gives o);
     }
 
--- A run has the events of its way to the end.
-finishes_runs : {c : Config} {events : List Event} → Finishes c events → (so_far : List Event) → machine.Runs (so_far ++ events) c so_far
-finishes_runs (path.stops s) so_far = machine.stops s refl
-finishes_runs (path.goes {next = next} {events = events} {behind = behind} s rest) so_far =
-    machine.goes s (subst (λ (all : List Event). machine.Runs all next (so_far ++ events)) (append_assoc so_far events behind)
-    (finishes_runs rest (so_far ++ events)))
+-- Programs.
 
-runs_by : (c : Config) (gives : TyView) (o : Outcome) → Follows c [] [] gives o → machine.Runs (all_events o) c []
+-- the way of a run that has all these events in the end
+abbrev run_to : (may : Instr → Bool) → UnitView → List Event → Way
+run_to may u total = record {
+  unit = u;
+  callers = [];
+  Body = FitsBy may;
+  Allows = λ i. may i ≡ true;
+  fits = λ of h. h.fits;
+  allowed = λ of h. h.each_may;
+  Holds = λ c so_far. RunsBy may (compiled_events total) c (compiled_events so_far);
+  Final = λ e counted so_far. total ≡ so_far ++ Finish e counted ∷ [];
+  goes = λ {c} {next} {so_far} events {i} at ok acts h. goes_by at ok acts
+      (subst (λ (es : List Event). RunsBy may (compiled_events total) next es) (map-append compiled_event so_far events) h);
+  stops = λ {c} {so_far} {e} {touched} {i} at ok acts h.
+      stops_by at ok acts
+      (ap compiled_events h ∙ map-append compiled_event so_far (Finish e (and_touched touched c.store.held.counted) ∷ []));
+}
+
+-- what is so where a program has its value
+abbrev EndsIn : List Event → Value → State → Type 0
+EndsIn total v s = total ≡ s.events ++ Finish Done s.store.held.counted ∷ []
+
+ends_so : (may : Instr → Bool) (u : UnitView) (o : Outcome) → Closes (run_to may u (all_events o)) (EndsIn (all_events o)) o
 unfolding all_events
-runs_by c gives (Value_is v f state) h =
-    subst (λ (es : List Event). machine.Runs (es ++ Finish Done state.store.counted ∷ []) c []) (sym h.1) (finishes_runs h.2 [])
-runs_by c gives (Ends e state) h =
-    subst (λ (es : List Event). machine.Runs (es ++ Finish e state.store.counted ∷ []) c []) (sym h.1) (finishes_runs h.2 [])
+ends_so may u (Value_is v f s) = refl
+ends_so may u (Ends e s) = refl
 
--- an empty heap is typed
-empty_typed : IsTypedHeap []
-empty_typed id object e = absurd cc
+ends_at : (may : Instr → Bool) (of : BodyNode) (gives : TyView) (total : List Event) → Returns (within (run_to may (unit_of of) total) of []) gives (EndsIn total)
+ends_at may of gives total k at v f s is =
+    halt (within (run_to may (unit_of of) total) of []) (instr.Return (choice.kind_of gives)) at (return_stops (unit_of of) k gives v f s.store) is
+
+-- what the law of programs says of one
+abbrev pub RunsAsMeant : (Instr → Bool) → (Routine → ℕ) → Given → BodyNode → Type 0
+RunsAsMeant may weigh given program =
+    RunsBy may (compiled_events (events_with weigh given program))
+    (start (unit_of program) (compiled_store (fresh_store weigh given (code_weight program)))) []
 
 -- a program is a body that is called with nothing
-program_by : (told : Told) (gives : TyView) (tree : Node) (line : Line) (turns : ℕ) (input : List ℕ) → IsBody [] (body [] gives tree None line) →
-    BodyRuns [] (body [] gives tree None line) → AllByRecursion Fits (bodies (body [] gives tree None line)) →
-    machine.Runs (run_events turns input (body [] gives tree None line))
-    (start (unit_of (body [] gives tree None line)) (fresh_store turns input (code_weight (body [] gives tree None line)))) []
-unfolding run_events outcome_of fresh_state fresh_frame body_meant keep_all ◌>>=◌ after give frame_of_call arguments_on
-program_by told gives tree line turns input typed_body runs fit =
+program_by : (told : Told) (may : Instr → Bool) (gives : TyView) (tree : Node) (line : Line) (weigh : Routine → ℕ) (given : Given) → WeighsUnits weigh →
+    IsFittingHeap may given.heap → IsBody [] (body [] gives tree None line) → BodyRuns [] (body [] gives tree None line) →
+    AllByRecursion (FitsBy may) (bodies (body [] gives tree None line)) → RunsAsMeant may weigh given (body [] gives tree None line)
+unfolding events_with outcome_with fresh_state fresh_frame body_meant keep_all ◌>>=◌ after give frame_of_call arguments_on
+program_by told may gives tree line weigh given weighs heap typed_body runs fit =
     let of : BodyNode = body [] gives tree None line in
-    let m = body_meets told [] [] of turns typed_body runs tt fit in
-    runs_by (start (unit_of of) (fresh_store turns input (code_weight of))) gives (outcome_of turns input of)
-    (m.follows [] None [] (fresh_state turns input (code_weight of)) (omega arith) tt empty_typed tt tt tt tt)
+    let o = outcome_with weigh given of in
+    let w = run_to may (unit_of of) (all_events o) in
+    let fits = names_in_body (FitsBy may) (λ b h. h.fits.valued) [] typed_body runs (bodies_inside (FitsBy may) of fit) tt in
+    body_does told w [] given.turns None [] (fresh_state weigh given (code_weight of)) [] [] of types.none gives (EndsIn (all_events o)) refl typed_body runs tt
+    fits (omega arith) (all_enter told given.turns (within w of [])) (heap.typed, heap.roots) weighs tt tt heap.fit (ends_at may of gives (all_events o))
+    (ends_so may (unit_of of) o)
 
 -- and has no scope of its own
 no_scope : (gives : TyView) (tree : Node) (bytes : List ℕ) (line : Line) → IsBody [] (body [] gives tree (Some bytes) line) → ⊥
 no_scope gives tree bytes line (typed.of_params typed.scoped typed.Takes.no_more ended t) = cc
 
-pub program_runs : (told : Told) (program : BodyNode) (turns : ℕ) (input : List ℕ) → IsWellTyped program → BodyRuns [] program →
+-- where each instruction may run
+each_true : (is : List Instr) → AllByRecursion (λ (i : Instr). true ≡ true) is
+each_true [] = tt
+each_true (i ∷ is) = (refl, each_true is)
+
+pub all_true : (all : List BodyNode) → AllByRecursion (λ (of : BodyNode). AllByRecursion (λ (i : Instr). true ≡ true) (instrs_of of)) all
+all_true [] = tt
+all_true (of ∷ all) = (each_true (instrs_of of), all_true all)
+
+-- bodies that fit, and whose instructions may run
+both_fit : (may : Instr → Bool) (all : List BodyNode) → AllByRecursion Fits all →
+    AllByRecursion (λ (of : BodyNode). AllByRecursion (λ (i : Instr). may i ≡ true) (instrs_of of)) all → AllByRecursion (FitsBy may) all
+both_fit may [] h k = tt
+both_fit may (of ∷ all) h k = (record { fits = h.0; each_may = k.0 }, both_fit may all h.1 k.1)
+
+pub program_runs : (told : Told) (may : Instr → Bool) (program : BodyNode) (weigh : Routine → ℕ) (given : Given) → WeighsUnits weigh →
+    IsFittingHeap may given.heap → IsWellTyped program → BodyRuns [] program →
     AllByRecursion (λ (of : BodyNode). IsValued (type_of_body of)) (bodies program) → first_complex (bodies program) ≡ None →
     AllByRecursion HasUnit (bodies program) →
-    machine.Runs (run_events turns input program) (start (unit_of program) (fresh_store turns input (code_weight program))) []
-program_runs told (body params gives tree text line) turns input (no_params, is_void, typed_body) runs valued few units =
+    AllByRecursion (λ (of : BodyNode). AllByRecursion (λ (i : Instr). may i ≡ true) (instrs_of of)) (bodies program) → RunsAsMeant may weigh given program
+program_runs told may (body params gives tree text line) weigh given weighs heap (no_params, is_void, typed_body) runs valued few units instrs =
     let Done : List Param → Option (List ℕ) → Type 0 = λ ps scope. IsBody [] (body ps gives tree scope line) → BodyRuns [] (body ps gives tree scope line) →
-    AllByRecursion Fits (bodies (body ps gives tree scope line)) →
-    machine.Runs (run_events turns input (body ps gives tree scope line))
-    (start (unit_of (body ps gives tree scope line)) (fresh_store turns input (code_weight (body ps gives tree scope line)))) [] in
+    AllByRecursion (FitsBy may) (bodies (body ps gives tree scope line)) → RunsAsMeant may weigh given (body ps gives tree scope line) in
     let by_scope : (scope : Option (List ℕ)) → Done [] scope = λ scope. elim scope as (λ s. Done [] s) [
-      | None ↦ program_by told gives tree line turns input
+      | None ↦ program_by told may gives tree line weigh given weighs heap
       | Some bytes ↦ λ is r f. absurd (no_scope gives tree bytes line is)
     ] in
-    subst (λ (ps : List Param). Done ps text) (sym no_params) (by_scope text) typed_body runs
-    (bodies_fit (bodies (body params gives tree text line)) valued few units)
+    let all = bodies (body params gives tree text line) in
+    subst (λ (ps : List Param). Done ps text) (sym no_params) (by_scope text) typed_body runs (both_fit may all (bodies_fit all valued few units) instrs)

@@ -7,7 +7,7 @@ use Rattle.ps_gen.specs.ps_base.declared.instr.Instr.TheVariants as instr
 use Rattle.ps_stepping.specs.ps_heap.Values.{Value, Flag, number_of, word_of, is_one}
 use Rattle.ps_stepping.specs.ps_heap.Objects.{Heap}
 use Rattle.ps_stepping.specs.ps_meaning.Meaning.{Frame, Store, State, Outcome, Value_is, Ends, Meaning, give, after, ◌>>=◌, choose}
-use Rattle.ps_stepping.specs.ps_meaning.Evaluation.{is_equal}
+use Rattle.ps_stepping.specs.ps_meaning.Operations.{is_equal}
 use Rattle.ps_gen.specs.ps_emitter.Choices as choice
 use Rattle.ps_stepping.specs.Config.{code_in, IsAt}
 use Rattle.ps_stepping.specs.Machine.{on, act}
@@ -17,6 +17,7 @@ use Rattle.ps_code_laws.specs.Compiled.{compiled}
 use Rattle.ps_code_laws.specs.Meets.{nums_left, refs_left}
 use Rattle.ps_code_laws.proofs.Clauses.{int, bool, IsCompared}
 use Rattle.ps_code_laws.proofs.Clauses as clause
+use Rattle.ps_code_laws.proofs.Standing.{AtBy}
 use Rattle.ps_code_laws.proofs.Doing.{Origin, after_it, Leads, Way, if_true, if_false, nums_few, refs_few, place, Room, room_above, Does, quiet, moved, does_over, does_jump, jump_goes, push_goes, push_ref_goes, does_same}
 use Rattle.ps_code_laws.proofs.Comparing.{compare_acts}
 
@@ -36,7 +37,7 @@ one_of false = refl
 module _ (w : Way) where
   -- the value that waited is let go
   drop_does : {n : Origin} {a : Meaning} {t ty : TyView} {need k : ℕ} → IsCompared relation.Equal ty → (p : ℕ) (v : Value) →
-      IsAt (code_in w.unit) p (choice.by_type ty instr.DropM instr.DropP) → Does w n [] [] a t need (p + 1) k →
+      AtBy w.Allows w.unit p (choice.by_type ty instr.DropM instr.DropP) → Does w n [] [] a t need (p + 1) k →
       Does w n (nums_left ty v) (refs_left ty v) a t need p k
   drop_does (clause.numbers int) p v at d = record {
     by =
@@ -56,7 +57,7 @@ module _ (w : Way) where
       record { by = λ nums refs f s room since reach. quiet w instr.DropP at refl (d.by nums refs f s room since reach) }
 
   -- the same value is pushed once more
-  twice_num : {n : Origin} {a : Meaning} {t : TyView} {need k : ℕ} (p : ℕ) (x : ℤ) → 2 ≤ need → IsAt (code_in w.unit) p instr.DupM →
+  twice_num : {n : Origin} {a : Meaning} {t : TyView} {need k : ℕ} (p : ℕ) (x : ℤ) → 2 ≤ need → AtBy w.Allows w.unit p instr.DupM →
       Does w n (x ∷ x ∷ []) [] a t need (p + 1) k → Does w n (x ∷ []) [] a t need p k
   twice_num {need = need} p x le at d = record {
     by = λ nums refs f s room since reach.
@@ -68,7 +69,7 @@ module _ (w : Way) where
         quiet w instr.DupM at (push_goes w (p + 1) x (x ∷ nums) refs f s.store one_more) (d.by nums refs f s room since reach);
   }
 
-  twice_ref : {n : Origin} {a : Meaning} {t : TyView} {need k : ℕ} (p : ℕ) (v : Value) → 2 ≤ need → IsAt (code_in w.unit) p instr.DupP →
+  twice_ref : {n : Origin} {a : Meaning} {t : TyView} {need k : ℕ} (p : ℕ) (v : Value) → 2 ≤ need → AtBy w.Allows w.unit p instr.DupP →
       Does w n [] (v ∷ v ∷ []) a t need (p + 1) k → Does w n [] (v ∷ []) a t need p k
   twice_ref {need = need} p v le at d = record {
     by = λ nums refs f s room since reach.
@@ -81,7 +82,7 @@ module _ (w : Way) where
   }
 
   twice_does : {n : Origin} {a : Meaning} {t ty : TyView} {need k : ℕ} → IsCompared relation.Equal ty → (p : ℕ) (v : Value) → 2 ≤ need →
-      IsAt (code_in w.unit) p (choice.by_type ty instr.DupM instr.DupP) →
+      AtBy w.Allows w.unit p (choice.by_type ty instr.DupM instr.DupP) →
       Does w n (nums_left ty v ++ nums_left ty v) (refs_left ty v ++ refs_left ty v) a t need (p + 1) k →
       Does w n (nums_left ty v) (refs_left ty v) a t need p k
   twice_does (clause.numbers int) p v le at d = twice_num p (word_of v) le at d
@@ -113,8 +114,8 @@ module _ (w : Way) where
 
   test_label : {n : Origin} {t ty : TyView} → IsCompared relation.Equal ty →
       (need q chosen k : ℕ) (v u : Value) (rest : Meaning) (next : Value → Meaning) →
-      2 ≤ need → IsOf n.heap ty v → IsOf n.heap ty u → IsAt (code_in w.unit) q (choice.compare relation.Equal ty) →
-      IsAt (code_in w.unit) (q + 1) (instr.JumpTrue chosen) → q + 1 < chosen →
+      2 ≤ need → IsOf n.heap ty v → IsOf n.heap ty u → AtBy w.Allows w.unit q (choice.compare relation.Equal ty) →
+      AtBy w.Allows w.unit (q + 1) (instr.JumpTrue chosen) → q + 1 < chosen →
       Does w n (nums_left ty v) (refs_left ty v) (next (Flag true)) t need chosen k →
       Does w n (nums_left ty v) (refs_left ty v) (rest >>= next) t need (q + 1 + 5) k →
       (b : Bool) → is_equal ty v u ≡ b →
@@ -144,10 +145,10 @@ module _ (w : Way) where
 
   -- a label and those after it, and then what follows
   pub does_label : {n : Origin} {t ty : TyView} → IsCompared relation.Equal ty → (need nl p q chosen k : ℕ) (v : Value) (label rest : Meaning)
-      (next : Value → Meaning) → 2 + nl ≤ need → IsOf n.heap ty v → Leads n n.known ty label →
-      IsAt (code_in w.unit) p (choice.by_type ty instr.DupM instr.DupP) → Does w n [] [] label ty nl (p + 1) q →
-      IsAt (code_in w.unit) q (choice.compare relation.Equal ty) →
-      IsAt (code_in w.unit) (q + 1) (instr.JumpTrue chosen) → q + 1 < chosen →
+      (next : Value → Meaning) → 2 + nl ≤ need → IsOf n.heap ty v → Leads w.Body n n.known ty label →
+      AtBy w.Allows w.unit p (choice.by_type ty instr.DupM instr.DupP) → Does w n [] [] label ty nl (p + 1) q →
+      AtBy w.Allows w.unit q (choice.compare relation.Equal ty) →
+      AtBy w.Allows w.unit (q + 1) (instr.JumpTrue chosen) → q + 1 < chosen →
       ((new : Heap) → Grows n.heap new → Does w (after_it n new n.known) (nums_left ty v) (refs_left ty v) (next (Flag true)) t need chosen k) →
       ((new : Heap) → Grows n.heap new → Does w (after_it n new n.known) (nums_left ty v) (refs_left ty v) (rest >>= next) t need (q + 1 + 5) k) →
       Does w n (nums_left ty v) (refs_left ty v) ((label >>= λ u. choose (is_equal ty v u) (give (Flag true)) rest) >>= next) t need p k
@@ -163,14 +164,14 @@ module _ (w : Way) where
 
   -- an arm that is chosen
   pub does_chosen : {n : Origin} {t ty : TyView} {a : Meaning} → IsCompared relation.Equal ty → (need na chosen q k : ℕ) (v : Value) → na ≤ need →
-      IsAt (code_in w.unit) chosen (choice.by_type ty instr.DropM instr.DropP) →
-      Does w n [] [] a t na (chosen + 1) q → IsAt (code_in w.unit) q (instr.Jump k) → q < k →
+      AtBy w.Allows w.unit chosen (choice.by_type ty instr.DropM instr.DropP) →
+      Does w n [] [] a t na (chosen + 1) q → AtBy w.Allows w.unit q (instr.Jump k) → q < k →
       Does w n (nums_left ty v) (refs_left ty v) a t need chosen k
   does_chosen h need na chosen q k v le at_drop da at_jump lt =
       drop_does h chosen v at_drop (does_jump w q k lt at_jump (moved w na need (chosen + 1) q q le refl da))
 
   -- the default
   pub does_default : {n : Origin} {t ty : TyView} {a : Meaning} → IsCompared relation.Equal ty → (need na p k : ℕ) (v : Value) → na ≤ need →
-      IsAt (code_in w.unit) p (choice.by_type ty instr.DropM instr.DropP) →
+      AtBy w.Allows w.unit p (choice.by_type ty instr.DropM instr.DropP) →
       Does w n [] [] a t na (p + 1) k → Does w n (nums_left ty v) (refs_left ty v) a t need p k
   does_default h need na p k v le at_drop da = drop_does h p v at_drop (moved w na need (p + 1) k k le refl da)

@@ -1,5 +1,5 @@
 -- The typed clauses that run in some scopes are such as the machine does, where their bodies fit.
-use Rattle.std.proofs.Common.{◌≡◌, ℕ, ◌+◌, ◌<◌, ◌≤◌, Bool, true, false, List, [], ◌∷◌, ◌++◌, length, Option, Some, None, inl, inr, refl, sym, ◌∙◌, ap, subst, arith as by_arith}
+use Rattle.std.proofs.Common.{◌≡◌, ℕ, suc, ◌+◌, ◌<◌, ◌≤◌, Bool, true, false, List, [], ◌∷◌, ◌++◌, length, Option, Some, None, inl, inr, refl, sym, ◌∙◌, ap, subst, arith as by_arith}
 use Rattle.std.specs.Prelude.{if◌then◌else◌}
 use Rattle.std.specs.List.{AllByRecursion}
 use Rattle.ps_gen.specs.ps_base.TyView.{TyView, TyViews}
@@ -10,10 +10,10 @@ use Rattle.ps_gen.specs.ps_program.declared.place.Place.TheVariants.{Plain, Kept
 use Rattle.ps_gen.specs.ps_program.Node.{Param, Node, Nodes, none, more, Arms, no_arms, more_arms, arm, BodyNode, body}
 use Rattle.ps_gen.specs.ps_program.Node as node
 use Rattle.ps_typing_laws.specs.ps_typing.Names.{lookup, plain, library}
-use Rattle.ps_typing_laws.specs.ps_typing.Library.{procedures}
+use Rattle.ps_typing_laws.specs.ps_typing.Library.{procedures, caller, two}
 use Rattle.ps_type_text.specs.Texts.{Field}
 use Rattle.ps_typing_laws.specs.ps_typing.Placing.{is_number}
-use Rattle.ps_typing_laws.specs.ps_typing.WellTyped.{At, IsOfType, Some_is, Env, Free, Local, IsLocal, IsAt, behind_one, with_local, with_scopes, and_kept, Claim, ◌has◌, all_have, arms_have, behind_loop, types_of_fields, types_of_params, IsClass, Arguments, Rule, Opens, Declares, IsTyped, AreTyped, AreItems}
+use Rattle.ps_typing_laws.specs.ps_typing.WellTyped.{At, IsOfType, Some_is, Env, Free, Local, IsLocal, IsAt, next_slot, behind_one, with_local, with_scopes, and_kept, Claim, ◌has◌, all_have, arms_have, behind_loop, types_of_fields, types_of_params, IsClass, Arguments, Rule, Opens, Declares, IsTyped, AreTyped, AreItems}
 use Rattle.ps_typing_laws.specs.ps_typing.WellTyped as typed
 use Rattle.ps_typing_laws.specs.Counted.{Each}
 use Rattle.ps_typing_laws.proofs.Tracked.{limit, Grows, tree_grows, LocalsBelow, locals_grow, declared, track, track_all, track_items, all_grows}
@@ -22,33 +22,36 @@ use Rattle.ps_stepping.specs.ps_heap.Values.{Num}
 use Rattle.ps_stepping.specs.ps_meaning.Evaluation.{eval}
 use Rattle.ps_stepping.specs.ps_meaning.Meaning.{Outcome, Value_is, Ends}
 use Rattle.ps_stepping.specs.ps_meaning.Calls.{context}
-use Rattle.ps_soundness.specs.Running.{IsPlace, HasAsMany, RunsIn, AllRunIn, IsRunLibrary}
+use Rattle.ps_soundness.specs.Running.{IsPlace, HasAsMany, RunsIn, AllRunIn}
 use Rattle.ps_soundness.specs.Free.{AllBelow}
 use Rattle.ps_soundness.specs.Valued.{IsValued, AllValued}
-use Rattle.ps_soundness.specs.Shapes.{ComesToInside}
+use Rattle.ps_soundness.specs.Shapes.{ComesToInside, type_of_body}
 use Rattle.ps_soundness.proofs.Telling.{Told}
 use Rattle.ps_soundness.proofs.Places.{free_slot}
 use Rattle.ps_soundness.proofs.Combining.{Standing, AreAround, IsStanding, stand, Comes, sound_then, sound_set}
 use Rattle.ps_soundness.proofs.Reading.{same_types}
-use Rattle.ps_soundness.proofs.Sequences.{library_says}
+use Rattle.ps_stepping.specs.ps_heap.Library.{CreateDatabase, OpenDatabase, Commit, MakeTable, EnterString, LookUpString, EnterInt, LookUpInt, Cardinality, LibraryProcedure, OnHeap, ReadLine, AtEnd, Length, IntText}
+use Rattle.ps_soundness.proofs.Library.{parameters_of, library_says}
 use Rattle.ps_soundness.proofs.Rules.{as_many}
-use Rattle.ps_soundness.proofs.Calling.{sound_opened}
+use Rattle.ps_soundness.proofs.Calling.{sound_opened, sound_call}
+use Rattle.ps_soundness.proofs.Scans.{key_type, SparesAll}
 use Rattle.ps_soundness.proofs.Declaring.{declared_less, scope_same, sound_set_local, declared_sound, literal_sound}
-use Rattle.ps_soundness.proofs.Bodies.{comes_to_inside}
+use Rattle.ps_soundness.proofs.Bodies.{within_answers, comes_to_inside}
 use Rattle.ps_soundness.proofs.Valued.{valued_by, field_valued}
-use Rattle.ps_code_laws.specs.Literals.{BodiesAre, AllBodiesAre, Fits}
+use Rattle.ps_code_laws.specs.Literals.{BodiesAre, AllBodiesAre}
 use Rattle.ps_code_laws.proofs.Known.{HasPlace, IsNext, opened}
 use Rattle.ps_code_laws.proofs.Known as kept
-use Rattle.ps_code_laws.proofs.Keeps.{Keeps, KeepClaim, keeps, keeps_each, Unnamed, each_left, each_right, locals_in_loop, declared_unnamed}
-use Rattle.ps_code_laws.proofs.InputCalls.{input_says}
+use Rattle.ps_code_laws.proofs.Keeps.{Spot, on_nums, on_refs, Keeps, KeepClaim, keeps, keeps_each, Unnamed, each_left, each_right, locals_in_loop, locals_in_scan, declared_unnamed}
+use Rattle.ps_code_laws.proofs.LibraryResults.{result_is}
 use Rattle.ps_code_laws.proofs.Giving.{Stands, parts_stand, GivesClaim, gives_each}
-use Rattle.ps_code_laws.proofs.Clauses.{IsNum, int, bool, IsRef, str, pntr, vector, proc, Kind, of_num, of_ref, IsLoop, Sounds, KeepsTypes, Controls, fields_by, Clause, flag, text, get_num, get_ref, set_num, set_ref, let_num, let_ref, empty, block, if_do, if_else, while, repeat, loop, kept_loop, case, and, or, not, neg, plus, arith, compare, write, write_wide, abort, nil, a_class, is_of, join, substring, structure, get_field, put_field, filled, listed, get_element, put_element, a_bound, text_length, iformat, get_kept_num, get_kept_ref, set_kept_num, set_kept_ref, let_kept_num, let_kept_ref, scoped_block, literal, let_literal, let_kept_literal, call, a_line, at_eof, Part, that, Items, at_end, an_item, ArmsAre, no_more, one_arm, AllAre, none_is, one_is, Args, no_arg, one_arg, clause_in, sounds_in, is_shown, kind_of, equal_by, compared}
+use Rattle.ps_code_laws.proofs.Clauses as clause_of
+use Rattle.ps_code_laws.proofs.Clauses.{IsNum, int, bool, IsRef, str, pntr, vector, proc, Kind, of_num, of_ref, IsLoop, Sounds, KeepsTypes, Controls, IsScan, fields_by, Clause, flag, text, get_num, get_ref, set_num, set_ref, let_num, let_ref, empty, block, if_do, if_else, while, repeat, loop, kept_loop, case, and, or, not, neg, plus, arith, compare, write, write_wide, abort, nil, a_class, is_of, join, substring, structure, get_field, put_field, filled, listed, get_element, put_element, a_bound, scan, get_kept_num, get_kept_ref, set_kept_num, set_kept_ref, let_kept_num, let_kept_ref, scoped_block, literal, let_literal, let_kept_literal, call, Part, that, Items, at_end, an_item, ArmsAre, no_more, one_arm, AllAre, none_is, one_is, Args, no_arg, one_arg, clause_in, sounds_in, is_shown, kind_of, equal_by, compared}
 use Rattle.ps_soundness.proofs.Loops.{Turns}
 
 -- a local of a type that isn't void, on the stack of its type
 pub data IsSlot (nums refs slot : ℕ) (ty : TyView) : Type 0 where
-  on_nums : IsNum ty → slot < nums → IsSlot nums refs slot ty
-  on_refs : IsRef ty → slot < refs → IsSlot nums refs slot ty
+  in_nums : IsNum ty → slot < nums → IsSlot nums refs slot ty
+  in_refs : IsRef ty → slot < refs → IsSlot nums refs slot ty
 
 num_is : {ty : TyView} → IsNum ty → is_number ty ≡ true
 num_is int = refl
@@ -63,9 +66,9 @@ ref_is proc = refl
 slot_by_kind : (nums refs slot : ℕ) (ty : TyView) (free : Free) → slot < limit (is_number ty) free → free.nums ≤ nums → free.refs ≤ refs → Kind ty →
     IsSlot nums refs slot ty
 slot_by_kind nums refs slot ty free below n r (of_num is) =
-    let b : slot < free.nums = subst (λ (stack : Bool). slot < limit stack free) (num_is is) below in on_nums is (omega by_arith)
+    let b : slot < free.nums = subst (λ (stack : Bool). slot < limit stack free) (num_is is) below in in_nums is (omega by_arith)
 slot_by_kind nums refs slot ty free below n r (of_ref is) =
-    let b : slot < free.refs = subst (λ (stack : Bool). slot < limit stack free) (ref_is is) below in on_refs is (omega by_arith)
+    let b : slot < free.refs = subst (λ (stack : Bool). slot < limit stack free) (ref_is is) below in in_refs is (omega by_arith)
 
 -- the free slots after a clause are among the locals
 pub record Within (nums refs : ℕ) (free : Free) : Type 0 where
@@ -97,7 +100,7 @@ inside_comes heap wholes env ty (Ends e s) h = h
 pub sounds_inside : {env : Env} {free behind : Free} {t : Node} {ty : TyView} (told : Told) (wholes : List (List Field)) →
     IsTyped env free t ty behind → RunsIn (Some wholes) t → AllBelow env.locals free → Sounds (stand (Some wholes) env) (stand (Some wholes) env) t ty
 sounds_inside {env = env} {free = free} {behind = behind} {t = t} {ty = ty} told wholes typing runs below n depth heap = record {
-  runs = λ frame state g typed_heap are. inside_comes state.store.heap wholes env ty (eval (context n depth) t frame state)
+  runs = λ frame state g typed_heap are. inside_comes state.store.held.objects wholes env ty (eval (context n depth) t frame state)
       (comes_to_inside told n depth wholes env free behind t ty frame state typing runs below typed_heap are.0 are.1);
 }
 
@@ -136,52 +139,52 @@ loop_runs : (wholes : List (List Field)) (slot : ℕ) (a b c : Node) (scope : Op
 loop_runs wholes slot a b c None control s line r = (r.0, r.1, r.2)
 loop_runs wholes slot a b c (Some bytes) control s line r = (r.0, r.1, r.2)
 
-module _ (told : Told) (nums refs : ℕ) where
+module _ (told : Told) (P : BodyNode → Type 0) (valued_body : (of : BodyNode) → P of → IsValued (type_of_body of)) (nums refs : ℕ) where
   slot_in : (env : Env) (free : Free) (slot : ℕ) (ty : TyView) → LocalsBelow env free → IsValued ty → Within nums refs free →
       Some_is (IsLocal slot ty) env.locals → IsSlot nums refs slot ty
   slot_in env free slot ty below valued within is =
       slot_by_kind nums refs slot ty free (below slot ty is) within.nums_are within.refs_are (kind_of ty valued)
 
-  got : {known : Standing} (slot : ℕ) (ty : TyView) → IsSlot nums refs slot ty → Clause nums refs known (node.Name (Plain slot) ty) ty
-  got slot ty (on_nums is below) = get_num is below
-  got slot ty (on_refs is below) = get_ref is below
+  got : {known : Standing} (slot : ℕ) (ty : TyView) → IsSlot nums refs slot ty → Clause P nums refs known (node.Name (Plain slot) ty) ty
+  got slot ty (in_nums is below) = get_num is below
+  got slot ty (in_refs is below) = get_ref is below
 
-  stored : {known : Standing} (slot : ℕ) (ty : TyView) (e : Node) → IsSlot nums refs slot ty → Part nums refs known e ty →
-      Clause nums refs known (node.SetName (Plain slot) ty e) types.Void
-  stored slot ty e (on_nums is below) h = set_num is below h
-  stored slot ty e (on_refs is below) h = set_ref is below h
+  stored : {known : Standing} (slot : ℕ) (ty : TyView) (e : Node) → IsSlot nums refs slot ty → Part P nums refs known e ty →
+      Clause P nums refs known (node.SetName (Plain slot) ty e) types.Void
+  stored slot ty e (in_nums is below) h = set_num is below h
+  stored slot ty e (in_refs is below) h = set_ref is below h
 
-  named : {known : Standing} (slot : ℕ) (ty : TyView) (e : Node) → IsSlot nums refs slot ty → Part nums refs known e ty →
-      Clause nums refs known (node.Let (Plain slot) ty e) types.Void
-  named slot ty e (on_nums is below) h = let_num is below h
-  named slot ty e (on_refs is below) h = let_ref is below h
+  named : {known : Standing} (slot : ℕ) (ty : TyView) (e : Node) → IsSlot nums refs slot ty → Part P nums refs known e ty →
+      Clause P nums refs known (node.Let (Plain slot) ty e) types.Void
+  named slot ty e (in_nums is below) h = let_num is below h
+  named slot ty e (in_refs is below) h = let_ref is below h
 
   -- a name that a scope keeps
   kept_got : {known : Standing} (up position : ℕ) (ty : TyView) → Kind ty → HasPlace known up position ty →
-      Clause nums refs known (node.Name (Kept up position) ty) ty
+      Clause P nums refs known (node.Name (Kept up position) ty) ty
   kept_got up position ty (of_num is) there = get_kept_num is there
   kept_got up position ty (of_ref is) there = get_kept_ref is there
 
-  kept_stored : {known : Standing} (up position : ℕ) (ty : TyView) (e : Node) → Kind ty → HasPlace known up position ty → Part nums refs known e ty →
-      Clause nums refs known (node.SetName (Kept up position) ty e) types.Void
+  kept_stored : {known : Standing} (up position : ℕ) (ty : TyView) (e : Node) → Kind ty → HasPlace known up position ty → Part P nums refs known e ty →
+      Clause P nums refs known (node.SetName (Kept up position) ty e) types.Void
   kept_stored up position ty e (of_num is) there h = set_kept_num is there h
   kept_stored up position ty e (of_ref is) there h = set_kept_ref is there h
 
-  kept_named : {known : Standing} (up position : ℕ) (ty : TyView) (e : Node) → Kind ty → HasPlace known up position ty → Part nums refs known e ty →
-      Clause nums refs known (node.Let (Kept up position) ty e) types.Void
+  kept_named : {known : Standing} (up position : ℕ) (ty : TyView) (e : Node) → Kind ty → HasPlace known up position ty → Part P nums refs known e ty →
+      Clause P nums refs known (node.Let (Kept up position) ty e) types.Void
   kept_named up position ty e (of_num is) there h = let_kept_num is there h
   kept_named up position ty e (of_ref is) there h = let_kept_ref is there h
 
   abbrev IsPart : Standing → Claim → Type 0
-  IsPart known claim = Part nums refs known claim.clause claim.ty
+  IsPart known claim = Part P nums refs known claim.clause claim.ty
 
   all_are : {known : Standing} (value : TyView) (labels : Nodes) → Each (IsPart known) (all_have value labels) →
-      AllAre nums refs known value labels
+      AllAre P nums refs known value labels
   all_are value none h = none_is
   all_are value (more label rest) h = one_is h.0 (all_are value rest h.1)
 
   arms_are : {known : Standing} (value ty : TyView) (arms : Arms) → Each (IsPart known) (arms_have value ty arms) →
-      ArmsAre nums refs known value arms ty
+      ArmsAre P nums refs known value arms ty
   arms_are value ty no_arms h = no_more
   arms_are {known = known} value ty (more_arms (arm labels a) rest) h =
       let behind_labels = each_right (IsPart known) (all_have value labels) (a has ty ∷ arms_have value ty rest) h in
@@ -191,59 +194,21 @@ module _ (told : Told) (nums refs : ℕ) where
   -- the arguments of a structure are its fields'
   args_are : {known : Standing} {args : Nodes} {tys : TyViews} {claims : List Claim} (fields : List Field) → Arguments args tys claims →
       tys ≡ types_of_fields fields → AllByRecursion (λ (field : Field). IsValued field.ty) fields → Each (IsPart known) claims →
-      Args nums refs known args fields
+      Args P nums refs known args fields
   args_are [] typed.Arguments.no_more e holds h = no_arg
   args_are (field ∷ fields) typed.Arguments.no_more e holds h = absurd cc
   args_are [] (typed.Arguments.one_more rest) e holds h = absurd cc
   args_are {known = known} (field ∷ fields) (typed.Arguments.one_more {n = n} {t = t} {ts = ts} rest) e holds h =
       let same : t ≡ field.ty = cc in
       let others : ts ≡ types_of_fields fields = cc in
-      one_arg (kind_of field.ty holds.0) (subst (λ (u : TyView). Part nums refs known n u) same h.0) (args_are fields rest others holds.1 h.1)
+      one_arg (kind_of field.ty holds.0) (subst (λ (u : TyView). Part P nums refs known n u) same h.0) (args_are fields rest others holds.1 h.1)
 
   make_is : {known : Standing} {args : Nodes} {tys : TyViews} {claims : List Claim} (class : List ℕ) → HasAsMany class args → IsClass class tys →
-      Arguments args tys claims → Each (IsPart known) claims → Clause nums refs known (node.Make class args) types.Pntr
+      Arguments args tys claims → Each (IsPart known) claims → Clause P nums refs known (node.Make class args) types.Pntr
   make_is class many (name, others, text_is, tys_are) are h =
       let of = many.class in
       let same = same_types told of.name name of.fields others of.named (as_many of.fields others are many.are tys_are) (sym of.text_is ∙ text_is) in
       structure of.named of.text_is (args_are of.fields are (tys_are ∙ sym same) of.valued h)
-
-  -- `length` and `iformat` of what they take
-  one_argument : {known : Standing} {args : Nodes} {tys : TyViews} {claims : List Claim} (code : ℕ) (line : Line) (of gives : TyView) →
-      Arguments args tys claims → tys ≡ types.more of types.none → Each (IsPart known) claims →
-      ((e : Node) → Part nums refs known e of → Clause nums refs known (node.Lib code (more e none) line) gives) →
-      Clause nums refs known (node.Lib code args line) gives
-  one_argument code line of gives typed.Arguments.no_more e h of_one = absurd cc
-  one_argument {known = known} code line of gives (typed.Arguments.one_more {n = n} {t = t} typed.Arguments.no_more) e h of_one =
-      let same : t ≡ of = cc in of_one n (subst (λ (u : TyView). Part nums refs known n u) same h.0)
-  one_argument code line of gives (typed.Arguments.one_more (typed.Arguments.one_more rest)) e h of_one = absurd cc
-
-  no_argument : {known : Standing} {args : Nodes} {tys : TyViews} {claims : List Claim} (code : ℕ) (line : Line) (gives : TyView) →
-      Arguments args tys claims → tys ≡ types.none → Clause nums refs known (node.Lib code none line) gives →
-      Clause nums refs known (node.Lib code args line) gives
-  no_argument code line gives typed.Arguments.no_more e h = h
-  no_argument code line gives (typed.Arguments.one_more rest) e h = absurd cc
-
-  lib_is : {known : Standing} {args : Nodes} {tys : TyViews} {ty : TyView} {claims : List Claim} (wholes : List (List Field)) (code : ℕ) (line : Line)
-      (name : List ℕ) → lookup procedures name ≡ Some (library (plain code tys ty)) → IsRunLibrary (Some wholes) code → Arguments args tys claims →
-      Each (IsPart known) claims → Clause nums refs known (node.Lib code args line) ty
-  lib_is {known = known} {args = args} {tys = tys} {ty = ty} wholes code line name found (inl (inl e)) are h =
-      let says = (library_says code tys ty name found).0 e in
-      subst (λ (t : TyView). Clause nums refs known (node.Lib code args line) t) (sym says.1)
-      (subst (λ (n : ℕ). Clause nums refs known (node.Lib n args line) types.Int) (sym e)
-      (one_argument 11 line types.Str types.Int are says.0 h (λ e p. text_length p)))
-  lib_is {known = known} {args = args} {tys = tys} {ty = ty} wholes code line name found (inl (inr e)) are h =
-      let says = (library_says code tys ty name found).1 e in
-      subst (λ (t : TyView). Clause nums refs known (node.Lib code args line) t) (sym says.1)
-      (subst (λ (n : ℕ). Clause nums refs known (node.Lib n args line) types.Str) (sym e)
-      (one_argument 12 line types.Int types.Str are says.0 h (λ e p. iformat p)))
-  lib_is {known = known} {args = args} {tys = tys} {ty = ty} wholes code line name found (inr (inl e)) are h =
-      let says = (input_says code tys ty name found).0 e in
-      subst (λ (t : TyView). Clause nums refs known (node.Lib code args line) t) (sym says.1)
-      (subst (λ (n : ℕ). Clause nums refs known (node.Lib n args line) types.Str) (sym e) (no_argument 9 line types.Str are says.0 a_line))
-  lib_is {known = known} {args = args} {tys = tys} {ty = ty} wholes code line name found (inr (inr e)) are h =
-      let says = (input_says code tys ty name found).1 e in
-      subst (λ (t : TyView). Clause nums refs known (node.Lib code args line) t) (sym says.1)
-      (subst (λ (n : ℕ). Clause nums refs known (node.Lib n args line) types.Bool) (sym e) (no_argument 10 line types.Bool are says.0 at_eof))
 
   fields_are : (tys : TyViews) → tys ≡ types_of_fields (fields_by tys)
   fields_are types.none = refl
@@ -253,8 +218,32 @@ module _ (told : Told) (nums refs : ℕ) where
   fields_valued types.none h = tt
   fields_valued (types.more ty rest) h = (h.0, fields_valued rest h.1)
 
+  parameters_valued : (of : LibraryProcedure) → AllValued (parameters_of of)
+  parameters_valued (OnHeap CreateDatabase) = (tt, (tt, tt))
+  parameters_valued (OnHeap OpenDatabase) = (tt, (tt, (tt, tt)))
+  parameters_valued (OnHeap Commit) = tt
+  parameters_valued (OnHeap MakeTable) = tt
+  parameters_valued (OnHeap EnterString) = (tt, (tt, (tt, tt)))
+  parameters_valued (OnHeap LookUpString) = (tt, (tt, tt))
+  parameters_valued (OnHeap EnterInt) = (tt, (tt, (tt, tt)))
+  parameters_valued (OnHeap LookUpInt) = (tt, (tt, tt))
+  parameters_valued (OnHeap Cardinality) = (tt, tt)
+  parameters_valued ReadLine = tt
+  parameters_valued AtEnd = tt
+  parameters_valued Length = (tt, tt)
+  parameters_valued IntText = (tt, tt)
+
+  lib_is : {known : Standing} {args : Nodes} {tys : TyViews} {ty : TyView} {claims : List Claim} (code : ℕ) (line : Line) (name : List ℕ) →
+      lookup procedures name ≡ Some (library (plain code tys ty)) → Arguments args tys claims → Each (IsPart known) claims →
+      Clause P nums refs known (node.Lib code args line) ty
+  lib_is {known = known} {args = args} {tys = tys} {ty = ty} code line name found are h =
+      let told = library_says code tys ty name found in
+      clause_of.library {of = told.of} (record { by_number = told.by_number; gives = told.gives_it; result = result_is code tys ty name found })
+      (subst (λ (ts : TyViews). Args P nums refs known args (fields_by ts)) told.takes
+      (args_are (fields_by tys) are (fields_are tys) (fields_valued tys (subst AllValued (sym told.takes) (parameters_valued told.of))) h))
+
   by_rule : {known : Standing} {t : Node} {claims : List Claim} {ty : TyView} (wholes : List (List Field)) → Rule t claims ty →
-      RunsIn (Some wholes) t → AllByRecursion GivesClaim claims → Each (IsPart known) claims → Clause nums refs known t ty
+      RunsIn (Some wholes) t → AllByRecursion (GivesClaim P valued_body) claims → Each (IsPart known) claims → Clause P nums refs known t ty
   by_rule wholes typed.int is given h = int
   by_rule wholes typed.flag is given h = flag
   by_rule wholes typed.text is given h = text
@@ -291,7 +280,7 @@ module _ (told : Told) (nums refs : ℕ) where
   by_rule wholes typed.bound is given h = a_bound h.0
   by_rule wholes (typed.call {tys = tys} are) is given h =
       call h.0 (args_are (fields_by tys) are (fields_are tys) (fields_valued tys given.0.0) h.1)
-  by_rule wholes (typed.lib {code = code} {line = line} of_library are) is given h = lib_is wholes code line of_library.0 of_library.1 is.0 are h
+  by_rule wholes (typed.lib {code = code} {line = line} of_library are) is given h = lib_is code line of_library.0 of_library.1 are h
   by_rule wholes (typed.write {t = t} ok) is given h = write (is_shown t ok) h.0
   by_rule wholes (typed.write_wide {t = t} ok) is given h = write_wide (is_shown t ok) h.0 h.1.0
 
@@ -302,13 +291,13 @@ module _ (told : Told) (nums refs : ℕ) where
   }
 
   pub as_part : {env : Env} {free free' : Free} {t : Node} {ty : TyView} (wholes : List (List Field)) → IsTyped env free t ty free' →
-      RunsIn (Some wholes) t → BodiesAre Fits IsValued t → LocalsBelow env free → Clause nums refs (stand (Some wholes) env) t ty →
-      Part nums refs (stand (Some wholes) env) t ty
+      RunsIn (Some wholes) t → BodiesAre P IsValued t → LocalsBelow env free → Clause P nums refs (stand (Some wholes) env) t ty →
+      Part P nums refs (stand (Some wholes) env) t ty
   as_part {env = env} {free = free} wholes typing is b below h = that h (sounds_inside told wholes typing is (are_below env free below)) b
 
   let_is : {env with_name : Env} {free behind : Free} {place : Place} {of : TyView} (wholes : List (List Field)) (e : Node) →
       Declares env free place of with_name behind → IsPlace (Some wholes) place of → IsValued of → LocalsBelow with_name behind →
-      Within nums refs behind → Part nums refs (stand (Some wholes) env) e of → Clause nums refs (stand (Some wholes) env) (node.Let place of e) types.Void
+      Within nums refs behind → Part P nums refs (stand (Some wholes) env) e of → Clause P nums refs (stand (Some wholes) env) (node.Let place of e) types.Void
   let_is wholes e (typed.as_local {env = env} {free = free} {slot = slot} {ty = ty} at) is valued below within h =
       named slot ty e (slot_by_kind nums refs slot ty (behind_one ty free) (below slot ty (inl (refl, refl))) within.nums_are within.refs_are
       (kind_of ty valued)) h
@@ -317,7 +306,7 @@ module _ (told : Told) (nums refs : ℕ) where
 
   literal_is_let : {env with_name : Env} {free behind : Free} {place : Place} {of : TyView} (wholes : List (List Field)) (p : BodyNode) →
       Declares env free place of with_name behind → IsPlace (Some wholes) place of → IsRef of → LocalsBelow with_name behind →
-      Within nums refs behind → Clause nums refs (stand (Some wholes) env) (node.Let place of (node.Proc p)) types.Void
+      Within nums refs behind → Clause P nums refs (stand (Some wholes) env) (node.Let place of (node.Proc p)) types.Void
   literal_is_let wholes p (typed.as_local {free = free} {slot = slot} {ty = ty} at) is ref below within =
       let b : slot < (behind_one ty free).refs
       = subst (λ (stack : Bool). slot < limit stack (behind_one ty free)) (ref_is ref) (below slot ty (inl (refl, refl))) in
@@ -342,9 +331,10 @@ module _ (told : Told) (nums refs : ℕ) where
       literal_sound told wholes declares te runs at (are_below env free below) heap
 
   -- what is after the locals in scope isn't named
-  behind_unnamed : (x : ℕ) (env : Env) (free : Free) → LocalsBelow env free → free.nums ≤ x → Unnamed x env
+  behind_unnamed : (x : Spot) (env : Env) (free : Free) → LocalsBelow env free → limit x.number free ≤ x.slot → Unnamed x env
   behind_unnamed x env free below le ty found is =
-      let b : x < free.nums = subst (λ (stack : Bool). x < limit stack free) is (below x ty found) in absurd (omega by_arith)
+      let b : x.slot < limit x.number free = subst (λ (stack : Bool). x.slot < limit stack free) is (below x.slot ty found) in
+      absurd (omega (by_arith, le, b))
 
   is_loop : (slot : ℕ) (a b c s : Node) (control : Place) (first env own : Env) (free behind between free' : Free) → slot ≡ free.nums →
       first.locals ≡ env.locals → Declares first (behind_loop free) control types.Int own behind →
@@ -353,12 +343,13 @@ module _ (told : Told) (nums refs : ℕ) where
       LocalsBelow own behind → Within nums refs between → IsLoop nums slot b c s
   is_loop slot a b c s control first env own free behind between free' slot_is same declares are t below three g h own_below within =
       let many = h.nums in let most = within.nums_are in
-      let kept : (x : ℕ) → free.nums ≤ x → x < free.nums + 3 → Each (KeepClaim x) (a has types.Int ∷ b has types.Int ∷ c has types.Int ∷ [])
-      = λ x low high. keeps_each x are (locals_grow env free behind g below) (omega by_arith) (behind_unnamed x env free below low) in
-      let kept_by_clause : (x : ℕ) → free.nums ≤ x → x < free.nums + 3 → Keeps x s
-      = λ x low high. keeps x t (locals_grow own behind between h own_below) (omega by_arith)
-      (declared_unnamed x declares high (subst (λ (locals : List Local). Unnamed x (record { locals = locals; scopes = first.scopes })) (sym same)
-      (behind_unnamed x env free below low))) in
+      let kept : (x : ℕ) → free.nums ≤ x → x < free.nums + 3 → Each (KeepClaim (on_nums x)) (a has types.Int ∷ b has types.Int ∷ c has types.Int ∷ [])
+      = λ x low high. keeps_each (on_nums x) are (locals_grow env free behind g below) (omega by_arith) (behind_unnamed (on_nums x) env free below low) in
+      let kept_by_clause : (x : ℕ) → free.nums ≤ x → x < free.nums + 3 → Keeps (on_nums x) s
+      = λ x low high. keeps (on_nums x) t (locals_grow own behind between h own_below) (omega by_arith)
+      (declared_unnamed (on_nums x) declares high
+      (subst (λ (locals : List Local). Unnamed (on_nums x) (record { locals = locals; scopes = first.scopes })) (sym same)
+      (behind_unnamed (on_nums x) env free below low))) in
       record {
         three = omega by_arith;
         limit_keeps = (kept slot (omega by_arith) (omega by_arith)).1.0;
@@ -382,6 +373,23 @@ module _ (told : Told) (nums refs : ℕ) where
         ));
       }
 
+  -- a value in a free slot
+  spares : {env : Env} {free : Free} (wholes : List (List Field)) (ty : TyView) (from : ℕ) → next_slot ty free ≤ from → LocalsBelow env free →
+      SparesAll (stand (Some wholes) env) ty from
+  spares {env = env} {free = free} wholes ty from low below at above heap v =
+      sound_set_local at ty v (λ now frame g are. free_slot now frame free ty at v env.locals (omega (by_arith, low, above)) (are_below env free below) are)
+
+  scan_is : {env : Env} {free : Free} (wholes : List (List Field)) (strings : Bool) (q s : ℕ) → q ≡ free.refs → s ≡ free.nums → LocalsBelow env free →
+      IsScan (stand (Some wholes) env) strings q s
+  scan_is {env = env} {free = free} wholes strings q s q_is s_is below = record {
+    pntrs = spares {env = env} {free = free} wholes types.Pntr q (omega by_arith) below;
+    procedures = spares {env = env} {free = free} wholes (caller (key_type strings)) q (omega by_arith) below;
+    texts = spares {env = env} {free = free} wholes types.Str q (omega by_arith) below;
+    ints = spares {env = env} {free = free} wholes types.Int s (omega by_arith) below;
+    answers = λ n depth line heap procedure args is vs. sound_call (context n depth) (within_answers told n (suc depth)) line procedure args
+        (two (key_type strings) types.Pntr) types.Bool is vs;
+  }
+
   -- a scope that keeps no name yet keeps none at its end, or the loop's control alone
   plain_is_open : (around : List (List Field)) (field : Field) (rest : List Field) → [] ∷ around ≡ (field ∷ rest) ∷ around → ⊥
   plain_is_open around field rest e = cc
@@ -397,12 +405,12 @@ module _ (told : Told) (nums refs : ℕ) where
   loop_is : {env own : Env} {free behind between free' : Free} {first last : _} (wholes : List (List Field)) (slot : ℕ) (a b c : Node)
       (scope : Option (List ℕ)) (control : Place) (s : Node) (line : Line) → slot ≡ free.nums → Opens scope env.scopes first last →
       Declares (with_scopes first env) (behind_loop free) control types.Int own behind → own.scopes ≡ last →
-      RunsIn (Some wholes) (node.For slot a b c scope control s line) → BodiesAre Fits IsValued s →
+      RunsIn (Some wholes) (node.For slot a b c scope control s line) → BodiesAre P IsValued s →
       AreTyped env behind (a has types.Int ∷ b has types.Int ∷ c has types.Int ∷ []) between → IsTyped own between s types.Void free' →
       LocalsBelow env free → Grows behind between → LocalsBelow own behind → Within nums refs between →
       Each (IsPart (stand (Some wholes) env)) (a has types.Int ∷ b has types.Int ∷ c has types.Int ∷ []) →
-      ((inside : List (List Field)) → RunsIn (Some inside) s → Part nums refs (stand (Some inside) own) s types.Void) →
-      Clause nums refs (stand (Some wholes) env) (node.For slot a b c scope control s line) types.Void
+      ((inside : List (List Field)) → RunsIn (Some inside) s → Part P nums refs (stand (Some inside) own) s types.Void) →
+      Clause P nums refs (stand (Some wholes) env) (node.For slot a b c scope control s line) types.Void
   loop_is {env = env} {own = own} {free = free} {behind = behind} {between = between} {free' = free'} wholes slot a b c None (Plain control) s line
       slot_is typed.unscoped (typed.as_local at) ended r fit are t below h own_below within three of_s =
       let declares : Declares env (behind_loop free) (Plain control) types.Int own behind = typed.as_local at in
@@ -435,7 +443,7 @@ module _ (told : Told) (nums refs : ℕ) where
       = λ z is heap. declared_sound told (Some inside) declares r.3.1 further heap (Num z) is in
       let turns : (n depth : ℕ) → Turns (stand (Some wholes) env) (stand (Some wholes) env) (Some bytes) (Kept 0 place) (eval (context n depth) s)
       = λ n depth z is heap. sound_opened bytes its (λ new g. sound_then (controls z is new) (λ last u g2 done. sounds_in part n depth last)) in
-      subst (λ (p : ℕ). Clause nums refs (stand (Some wholes) env) (node.For slot a b c (Some bytes) (Kept 0 p) s line) types.Void) (sym first_place)
+      subst (λ (p : ℕ). Clause P nums refs (stand (Some wholes) env) (node.For slot a b c (Some bytes) (Kept 0 p) s line) types.Void) (sym first_place)
       (kept_loop its refl (subst (At (IsOfType types.Int) its.fields) first_place (innermost its.fields wholes place types.Int r.3.1))
       (is_loop slot a b c s (Kept 0 place) (with_scopes ([] ∷ env.scopes) env) env own free behind between free' slot_is refl declares are t below
       (omega by_arith) (record { nums = omega by_arith; refs = omega by_arith }) h own_below within)
@@ -447,11 +455,11 @@ module _ (told : Told) (nums refs : ℕ) where
 
   mutual
     pub clause : {env : Env} {free free' : Free} {t : Node} {ty : TyView} (wholes : List (List Field)) → IsTyped env free t ty free' →
-        RunsIn (Some wholes) t → BodiesAre Fits IsValued t → LocalsBelow env free → Within nums refs free' →
-        Clause nums refs (stand (Some wholes) env) t ty
+        RunsIn (Some wholes) t → BodiesAre P IsValued t → LocalsBelow env free → Within nums refs free' →
+        Clause P nums refs (stand (Some wholes) env) t ty
     clause wholes (typed.by_rule r are) is b below within =
-        let stands = parts_stand IsValued wholes r is b in
-        by_rule wholes r is (gives_each wholes are stands) (clauses wholes are stands below within)
+        let stands = parts_stand P valued_body IsValued wholes r is b in
+        by_rule wholes r is (gives_each P valued_body wholes are stands) (clauses wholes are stands below within)
     clause wholes (typed.name {env = env} {free = free} {place = Plain slot} {ty = ty} at) is b below within =
         got slot ty (slot_in env free slot ty below b within at)
     clause wholes (typed.name {env = env} {place = Kept up position} {ty = ty} at) is b below within =
@@ -479,14 +487,21 @@ module _ (told : Told) (nums refs : ℕ) where
         let at_between = within_before between free' (tree_grows (track t own_below)) within in
         let runs = loop_runs wholes slot a b c scope control s line is in
         let three = clauses wholes are ((runs.0, fit.0), ((runs.1, fit.1), ((runs.2, fit.2), tt))) in_loop at_between in
-        let of_s : (inside : List (List Field)) → RunsIn (Some inside) s → Part nums refs (stand (Some inside) own) s types.Void
+        let of_s : (inside : List (List Field)) → RunsIn (Some inside) s → Part P nums refs (stand (Some inside) own) s types.Void
         = λ inside r. as_part inside t r fit.3 own_below (clause inside t r fit.3 own_below within) in
         loop_is wholes slot a b c scope control s line slot_is opens declares ended is fit.3 are t below h d.below at_between three of_s
-    clause wholes (typed.scan q_is s_is are) is b below within = absurd is
+    clause wholes (typed.scan {env = env} {free = free} {free' = free'} {string = strings} {a = a} {f = f} {q = q} {s = s} {line = line} q_is s_is are) is b
+        below within =
+        let inside = locals_in_scan env free below in
+        let g = all_grows (track_all are inside) in
+        let more_nums = g.nums in let more_refs = g.refs in let nums_are = within.nums_are in let refs_are = within.refs_are in
+        let two = clauses wholes are ((is.0, b.0), ((is.1, b.1), tt)) inside within in
+        let kept = keeps_each (on_refs q) are inside (omega by_arith) (behind_unnamed (on_refs q) env free below (omega by_arith)) in
+        scan (omega by_arith) (omega by_arith) kept.1.0 (scan_is wholes strings q s q_is s_is below) two.0 two.1.0
     clause wholes (typed.literal is_body) is b below within = literal
 
     clauses : {env : Env} {free free' : Free} {claims : List Claim} (wholes : List (List Field)) → AreTyped env free claims free' →
-        Each (Stands IsValued wholes) claims → LocalsBelow env free → Within nums refs free' → Each (IsPart (stand (Some wholes) env)) claims
+        Each (Stands P valued_body IsValued wholes) claims → LocalsBelow env free → Within nums refs free' → Each (IsPart (stand (Some wholes) env)) claims
     clauses wholes typed.no_more stands below within = tt
     clauses wholes (typed.one_more {env = env} {free = free} {between = between} {free' = free'} first others) stands below within =
         let g = tree_grows (track first below) in
@@ -497,8 +512,8 @@ module _ (told : Told) (nums refs : ℕ) where
         )
 
     clause_items : {env last : Env} {free free' : Free} {before ty : TyView} {items : Nodes} (wholes : List (List Field)) →
-        AreItems env free before items ty last free' → AllRunIn (Some wholes) items → AllBodiesAre Fits IsValued items → LocalsBelow env free →
-        Within nums refs free' → Items nums refs (stand (Some wholes) env) before items ty
+        AreItems env free before items ty last free' → AllRunIn (Some wholes) items → AllBodiesAre P IsValued items → LocalsBelow env free →
+        Within nums refs free' → Items P nums refs (stand (Some wholes) env) before items ty
     clause_items wholes typed.at_end is b below within = at_end
     clause_items wholes (typed.a_clause {env = env} {free = free} {between = between} {free' = free'} first others) is b below within =
         let g = tree_grows (track first below) in

@@ -73,7 +73,7 @@ module _ (w : Way) where
   abbrev pub Returned : Caller → TyView → Outcome → Type 0
   Returned caller gives (Value_is v f s) =
       w.Holds (resumed caller (nums_left gives v ++ caller.nums) (refs_left gives v ++ caller.refs) w.callers (compiled_store s.store)) s.events
-  Returned caller gives (Ends e s) = w.Final e s.store.counted s.events
+  Returned caller gives (Ends e s) = w.Final e s.store.held.counted s.events
 
   -- after a call the frame is the caller's
   pub back_behind : (p : ℕ) (nums : List ℤ) (refs : List Value) (gives : TyView) (f : Frame) (store : Store) (o : Outcome) →

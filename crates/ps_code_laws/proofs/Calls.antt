@@ -15,29 +15,33 @@ use Rattle.ps_typing_laws.specs.ps_typing.WellTyped.{types_of_params, IsBody}
 use Rattle.ps_typing_laws.specs.Counted.{IsCounted}
 use Rattle.ps_typing_laws.proofs.Tracked.{track_body}
 use Rattle.ps_stepping.specs.ps_heap.Ends.{Trapped}
-use Rattle.ps_stepping.specs.ps_meaning.Event.{Turn}
+use Rattle.ps_stepping.specs.ps_heap.Events.{Event, Turn}
+use Rattle.ps_stepping.specs.ps_heap.References.{scope_ids}
+use Rattle.ps_stepping.specs.ps_heap.Held.{Held, touching}
 use Rattle.ps_stepping.specs.ps_heap.Values.{Value, Num, Nil, Procedure, as_written, word_of}
 use Rattle.ps_stepping.specs.ps_heap.Objects.{Heap}
-use Rattle.ps_stepping.specs.ps_meaning.Meaning.{Frame, Store, State, stop, after, ◌>>=◌, choose, back_to, in_frame, with_turns, turned, spent, take_turn}
+use Rattle.ps_stepping.specs.ps_meaning.Meaning.{Frame, Store, State, stop, after, ◌>>=◌, choose, change, touch_scope, back_to, in_frame, with_turns, turned, spent, take_turn, on_held}
 use Rattle.ps_stepping.specs.ps_meaning.Evaluation.{most_calls, call_meant}
 use Rattle.ps_stepping.specs.ps_meaning.Frames.{arguments_on, frame_of_call}
 use Rattle.ps_stepping.specs.ps_meaning.Calls.{body_meant, call_within, context}
 use Rattle.ps_gen.specs.ps_emitter.Choices as choice
 use Rattle.ps_gen.specs.Units.{unit_of}
 use Rattle.ps_stepping.specs.Config.{frame_words, Caller, Config, code_in, IsAt}
-use Rattle.ps_stepping.specs.Steps.{Stops}
+use Rattle.ps_stepping.specs.Steps.{Goes, Stops}
 use Rattle.ps_stepping.specs.Machine.{act}
 use Rattle.ps_stepping.specs.Procedures.{in_turn, waiting, body_of_call}
-use Rattle.ps_soundness.specs.Shapes.{IsOf, AreOf, IsTypedHeap, IsProcedure}
+use Rattle.ps_soundness.specs.Shapes.{IsOf, AreOf, IsTypedHeld, IsProcedure}
 use Rattle.ps_soundness.proofs.Growing.{procedure_kept}
 use Rattle.ps_soundness.proofs.Combining.{Standing}
 use Rattle.ps_soundness.proofs.Calling.{ValuesOf, values_kept}
-use Rattle.ps_code_laws.specs.Compiled.{compiled, compiled_all, compiled_store}
+use Rattle.ps_code_laws.specs.Compiled.{compiled, compiled_all, compiled_store, WeighsUnits}
 use Rattle.ps_soundness.specs.Valued.{IsValued}
-use Rattle.ps_code_laws.specs.Literals.{BodyIs, Fits}
+use Rattle.ps_code_laws.specs.Literals.{BodyIs}
 use Rattle.ps_code_laws.specs.Meets.{standing, HasRoom}
 use Rattle.ps_code_laws.proofs.Literals.{IsLiteral, AreLiterals, InHeap}
+use Rattle.ps_code_laws.proofs.HeldCompiling.{touching_compiled}
 use Rattle.ps_code_laws.proofs.Clauses.{fields_by}
+use Rattle.ps_code_laws.proofs.Standing.{AtBy}
 use Rattle.ps_code_laws.proofs.Doing.{Origin, Way, place, Comes, Does, step, halt_there}
 use Rattle.ps_code_laws.proofs.Operands.{context_in, Stand}
 use Rattle.ps_code_laws.proofs.RowForms.{pushed_nums, pushed_refs, pushed_nums_over, pushed_refs_over}
@@ -49,8 +53,8 @@ module _ (w : Way) where
   -- so of what it returns is so of where it begins. Its bodies fit, and so do those of its arguments and of the heap.
   abbrev pub Enters : ℕ → Type 0
   Enters n = (caller : Caller) (of : BodyNode) (scope : Option ℕ) (args : List Value) (ps : TyViews) (g : TyView) (s : State) →
-      s.store.turns ≤ n → HasRoom (caller ∷ []) → IsTypedHeap s.store.heap → IsProcedure s.store.heap (types.Proc ps g) of scope →
-      ValuesOf s.store.heap ps args → BodyIs Fits IsValued of → AreLiterals Fits args → InHeap Fits s.store.heap →
+      s.store.turns ≤ n → HasRoom (caller ∷ []) → IsTypedHeld s.store.held → WeighsUnits s.store.held.weigh → IsProcedure s.store.held.objects (types.Proc ps g) of scope →
+      ValuesOf s.store.held.objects ps args → BodyIs w.Body IsValued of → AreLiterals w.Body args → InHeap w.Body s.store.held.objects →
       Returned w caller g (body_meant (context n (suc (length w.callers))) of args (frame_of_call of scope args) s) →
       w.Holds (standing (unit_of of) (caller ∷ w.callers) 0 [] [] (frame_of_call of scope args) s.store) s.events
 
@@ -92,61 +96,65 @@ module _ (w : Way) where
   -- after the test of the depth: where a turn is left it is taken, and the body begins
   call_goes : (m turns p : ℕ) (i : Instr) (before : Config) (params : List Param) (gives : TyView) (tree : Node)
       (text : Option (List ℕ)) (line : Line) (scope : Option ℕ) (args : List Value) (nums : List ℤ) (refs : List Value) (f : Frame)
-      (s : State) → turns ≤ suc m → Enters m → before.store.counted ≡ s.store.counted → IsAt (code_in before.unit) before.at i →
+      (s : State) → turns ≤ suc m → Enters m → before.store.held.counted ≡ s.store.held.counted → AtBy w.Allows before.unit before.at i →
       act i before
       ≡ in_turn (with_turns (compiled_store s.store) turns) (unit_of (body params gives tree text line)) scope
       (map word_of (arguments_on true params args) ++ []) (compiled_all (arguments_on false params args) ++ []) (place w (p + 9) nums refs f s.store) →
-      HasRoom (waiting (place w (p + 9) nums refs f s.store) ∷ []) → IsTypedHeap s.store.heap →
-      IsProcedure s.store.heap (types.Proc (types_of_params params) gives) (body params gives tree text line) scope →
-      ValuesOf s.store.heap (types_of_params params) args → BodyIs Fits IsValued (body params gives tree text line) → AreLiterals Fits args →
-      InHeap Fits s.store.heap →
+      HasRoom (waiting (place w (p + 9) nums refs f s.store) ∷ []) → IsTypedHeld s.store.held → WeighsUnits s.store.held.weigh →
+      IsProcedure s.store.held.objects (types.Proc (types_of_params params) gives) (body params gives tree text line) scope →
+      ValuesOf s.store.held.objects (types_of_params params) args → BodyIs w.Body IsValued (body params gives tree text line) → AreLiterals w.Body args →
+      InHeap w.Body s.store.held.objects →
       Comes w (p + 9) nums refs gives (back_to f (after (turned (with_turns s.store turns)
       (frame_of_call (body params gives tree text line) scope args) s)
-      (λ t. body_meant (context m (suc (length w.callers))) (body params gives tree text line) args))) →
+      (λ t. touch_scope >>= λ u. body_meant (context m (suc (length w.callers))) (body params gives tree text line) args))) →
       w.Holds before s.events
-  unfolding after back_to
-  call_goes m zero p i before params gives tree text line scope args nums refs f s le enters same at acts room typed is are fits literals held reach =
+  unfolding after back_to ◌>>=◌ change frame_of_call
+  call_goes m zero p i before params gives tree text line scope args nums refs f s le enters same at acts room typed weighs is are fits literals held reach =
       halt_there w i s same at acts reach
-  call_goes m (suc left) p i before params gives tree text line scope args nums refs f s le enters same at acts room typed is are fits literals held
+  call_goes m (suc left) p i before params gives tree text line scope args nums refs f s le enters same at acts room typed weighs is are fits literals held
       reach =
       let of = body params gives tree text line in
       let c = place w (p + 9) nums refs f s.store in
       let taken : Store = record s.store { turns = left } in
-      let now : State = record { events = s.events ++ Turn s.store.counted ∷ []; store = taken } in
-      step w i at acts
-      (subst (λ (next : Config). w.Holds next now.events) (sym (body_stands params gives tree text line scope args taken c refl))
-      (enters (waiting c) of scope args (types_of_params params) gives now (omega arith) room typed is are fits literals held
+      let touched : Store = on_held (touching (scope_ids scope) taken.held) taken in
+      let turn : List Event = Turn s.store.held.counted ∷ [] in
+      let now : State = record { events = s.events ++ turn; store = touched } in
+      let entered : Held → Config = λ held. body_of_call (unit_of of) scope (map word_of (arguments_on true params args) ++ [])
+      (compiled_all (arguments_on false params args) ++ []) (on_held held (compiled_store taken)) c in
+      step w turn i at (acts ∙ ap (λ (held : Held). Goes turn (entered held)) (touching_compiled (scope_ids scope) s.store.held weighs))
+      (subst (λ (next : Config). w.Holds next now.events) (sym (body_stands params gives tree text line scope args touched c refl))
+      (enters (waiting c) of scope args (types_of_params params) gives now (omega arith) room typed weighs is are fits literals held
       (back_behind w p nums refs gives f s.store
       (body_meant (context m (suc (length w.callers))) of args (frame_of_call of scope args) now) reach)))
 
   -- the test of the depth, and where no turn may be left
   depth_goes : (turns p : ℕ) (deep : Bool) (i : Instr) (before : Config) (params : List Param) (gives : TyView) (tree : Node)
       (text : Option (List ℕ)) (line at_line : Line) (scope : Option ℕ) (args : List Value) (nums : List ℤ) (refs : List Value) (f : Frame) (s : State) →
-      s.store.turns ≤ turns → Entered turns → before.store.counted ≡ s.store.counted → IsAt (code_in before.unit) before.at i →
+      s.store.turns ≤ turns → Entered turns → before.store.held.counted ≡ s.store.held.counted → AtBy w.Allows before.unit before.at i →
       act i before
       ≡ (if deep then in_turn (spent (compiled_store s.store)) (unit_of (body params gives tree text line)) scope
       (map word_of (arguments_on true params args) ++ []) (compiled_all (arguments_on false params args) ++ []) (place w (p + 9) nums refs f s.store)
-      else Stops (Trapped TooDeep at_line)) →
-      HasRoom (waiting (place w (p + 9) nums refs f s.store) ∷ []) → IsTypedHeap s.store.heap →
-      IsProcedure s.store.heap (types.Proc (types_of_params params) gives) (body params gives tree text line) scope →
-      ValuesOf s.store.heap (types_of_params params) args → BodyIs Fits IsValued (body params gives tree text line) → AreLiterals Fits args →
-      InHeap Fits s.store.heap →
+      else Stops (Trapped TooDeep at_line) 0) →
+      HasRoom (waiting (place w (p + 9) nums refs f s.store) ∷ []) → IsTypedHeld s.store.held → WeighsUnits s.store.held.weigh →
+      IsProcedure s.store.held.objects (types.Proc (types_of_params params) gives) (body params gives tree text line) scope →
+      ValuesOf s.store.held.objects (types_of_params params) args → BodyIs w.Body IsValued (body params gives tree text line) → AreLiterals w.Body args →
+      InHeap w.Body s.store.held.objects →
       Comes w (p + 9) nums refs gives (choose deep (in_frame (frame_of_call (body params gives tree text line) scope args)
       (call_within turns (suc (length w.callers)) (body params gives tree text line) args)) (stop (Trapped TooDeep at_line)) f s) →
       w.Holds before s.events
   unfolding choose stop in_frame back_to call_within take_turn ◌>>=◌
-  depth_goes turns p false i before params gives tree text line at_line scope args nums refs f s le entered same at acts room typed is are fits literals
+  depth_goes turns p false i before params gives tree text line at_line scope args nums refs f s le entered same at acts room typed weighs is are fits literals
       held reach =
       halt_there w i s same at acts reach
-  depth_goes zero p true i before params gives tree text line at_line scope args nums refs f s le entered same at acts room typed is are fits literals
+  depth_goes zero p true i before params gives tree text line at_line scope args nums refs f s le entered same at acts room typed weighs is are fits literals
       held reach =
       let none_left : s.store.turns ≡ 0 = omega arith in
       halt_there w i s same at (acts ∙ ap (λ (t : ℕ). in_turn (with_turns (compiled_store s.store) t) (unit_of (body params gives tree text line)) scope
       (map word_of (arguments_on true params args) ++ []) (compiled_all (arguments_on false params args) ++ []) (place w (p + 9) nums refs f s.store))
       none_left) reach
-  depth_goes (suc m) p true i before params gives tree text line at_line scope args nums refs f s le entered same at acts room typed is are fits literals
+  depth_goes (suc m) p true i before params gives tree text line at_line scope args nums refs f s le entered same at acts room typed weighs is are fits literals
       held reach =
-      call_goes m s.store.turns p i before params gives tree text line scope args nums refs f s le (entered m (omega arith)) same at acts room typed is
+      call_goes m s.store.turns p i before params gives tree text line scope args nums refs f s le (entered m (omega arith)) same at acts room typed weighs is
       are fits literals held reach
 
   -- the locals of a body that fits
@@ -159,7 +167,7 @@ module _ (w : Way) where
 
   call_by : (turns : ℕ) (heap : Heap) (known : Standing) (p need : ℕ) (at_line : Line) (params : List Param) (gives : TyView) (tree : Node)
       (text : Option (List ℕ)) (line : Line) (scope : Option ℕ) (args : List Value) → 1 ≤ need → Entered turns →
-      BodyIs Fits IsValued (body params gives tree text line) → AreLiterals Fits args →
+      BodyIs w.Body IsValued (body params gives tree text line) → AreLiterals w.Body args →
       IsProcedure heap (types.Proc (types_of_params params) gives) (body params gives tree text line) scope → AreOf heap (fields_of params) args →
       Stand w p (instr.Call (choice.references (types_of_params params)) at_line) →
       Does w (record { turns = turns; heap = heap; known = known }) (pushed_nums (fields_of params) args [])
@@ -170,16 +178,16 @@ module _ (w : Way) where
     by = λ nums refs f s room since reach.
         let of = body params gives tree text line in
         let v = compiled (Procedure (as_written of) scope) in
-        let few = few_locals params gives tree text line is.typed fits.0.slots in
+        let few = few_locals params gives tree text line is.typed (w.fits of fits.0).slots in
         let i = instr.Call (taken_by_params false params) at_line in
         let at_call : Stand w p i = subst (λ (n : ℕ). Stand w p (instr.Call n at_line)) (references_are params) at in
         let values = values_by heap (types_of_params params) args are in
-        let now = s.store.heap in
+        let now = s.store.held.objects in
         let begun = depth_goes turns p (nat_lt (length w.callers) most_calls) i
         (place w p (pushed_nums (fields_of params) args nums) (pushed_refs (fields_of params) args (v ∷ refs)) f s.store) params gives tree text line
         at_line scope args nums refs f s since.few entered refl at_call
-        (call_acts w heap p at_line params gives tree text line scope args nums refs f s.store (kinds_are params fits.0.valued.0) values few.0 few.1)
-        (let a = room.on_nums in omega arith, let a = room.on_refs in omega arith) since.typed
+        (call_acts w heap p at_line params gives tree text line scope args nums refs f s.store (kinds_are params (w.fits of fits.0).valued.0) values few.0 few.1)
+        (let a = room.on_nums in omega arith, let a = room.on_refs in omega arith) since.typed since.weighs
         (procedure_kept heap now since.grows (types.Proc (types_of_params params) gives) of scope is)
         (values_kept heap now since.grows (types_of_params params) args values) fits literals since.held.1 reach in
         subst (λ (zs : List ℤ). w.Holds (place w p zs (pushed_refs (fields_of params) args (v ∷ []) ++ refs) f s.store) s.events)
@@ -190,7 +198,7 @@ module _ (w : Way) where
 
   -- an instruction that calls the procedure under its arguments
   pub does_call : (n : Origin) (p need : ℕ) (line : Line) (tys : TyViews) (ty : TyView) (v : Value) (args : List Value) → 1 ≤ need → Entered n.turns →
-      IsOf n.heap (types.Proc tys ty) v → IsLiteral Fits v → AreOf n.heap (fields_by tys) args → AreLiterals Fits args →
+      IsOf n.heap (types.Proc tys ty) v → IsLiteral w.Body v → AreOf n.heap (fields_by tys) args → AreLiterals w.Body args →
       Stand w p (instr.Call (choice.references tys) line) →
       Does w n (pushed_nums (fields_by tys) args []) (pushed_refs (fields_by tys) args (compiled v ∷ [])) (call_meant (context_in w n.turns) line v args)
       ty need p (p + 9)

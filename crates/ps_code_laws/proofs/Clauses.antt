@@ -16,16 +16,22 @@ use Rattle.ps_typing_laws.specs.ps_typing.WellTyped.{At, IsOfType, types_of_para
 use Rattle.ps_stepping.specs.ps_heap.Operators.{is_int}
 use Rattle.ps_stepping.specs.ps_heap.Objects.{Heap}
 use Rattle.ps_stepping.specs.ps_heap.Values.{Value}
-use Rattle.ps_stepping.specs.ps_meaning.Evaluation.{eval, eval_all}
+use Rattle.ps_stepping.specs.ps_meaning.Evaluation.{call_meant, eval, eval_all}
 use Rattle.ps_stepping.specs.ps_meaning.Calls.{context}
+use Rattle.ps_stepping.specs.ps_heap.Library.{LibraryProcedure, library_procedure}
+use Rattle.ps_typing_laws.specs.ps_typing.Library.{procedures, caller, two}
+use Rattle.ps_gen.specs.ps_emitter.Giving.{library_result}
 use Rattle.ps_soundness.specs.Running.{IsScopeText, HasField}
 use Rattle.ps_soundness.specs.Shapes.{IsOf}
 use Rattle.ps_soundness.specs.Valued.{IsValued}
+use Rattle.ps_soundness.proofs.Library.{parameters_of, type_given}
 use Rattle.ps_soundness.proofs.Combining.{Standing, Sound, sound_then, sound_give}
+use Rattle.ps_soundness.proofs.Calling.{ValuesOf}
+use Rattle.ps_soundness.proofs.Scans.{key_type, SparesAll}
 use Rattle.ps_soundness.proofs.Loops.{Settable, Turns, Spares}
-use Rattle.ps_code_laws.specs.Literals.{BodiesAre, AllBodiesAre, Fits}
+use Rattle.ps_code_laws.specs.Literals.{BodiesAre, AllBodiesAre}
 use Rattle.ps_code_laws.proofs.Known.{HasPlace, opened}
-use Rattle.ps_code_laws.proofs.Keeps.{Keeps}
+use Rattle.ps_code_laws.proofs.Keeps.{on_nums, on_refs, Keeps}
 
 -- the types whose values are numbers, those whose values are references, and those that can be written
 pub data IsNum : TyView → Type 0 where
@@ -54,12 +60,12 @@ pub data IsShown : TyView → Type 0 where
 -- what a loop by `for` needs: its three locals, and that nothing in it sets them but itself
 pub record IsLoop (nums slot : ℕ) (b c s : Node) : Type 0 where
   pub three : slot + 2 < nums
-  pub limit_keeps : Keeps slot b
-  pub step_keeps : Keeps slot c
-  pub step_keeps_limit : Keeps (slot + 1) c
-  pub keeps : Keeps slot s
-  pub keeps_limit : Keeps (slot + 1) s
-  pub keeps_step : Keeps (slot + 2) s
+  pub limit_keeps : Keeps (on_nums slot) b
+  pub step_keeps : Keeps (on_nums slot) c
+  pub step_keeps_limit : Keeps (on_nums (slot + 1)) c
+  pub keeps : Keeps (on_nums slot) s
+  pub keeps_limit : Keeps (on_nums (slot + 1)) s
+  pub keeps_step : Keeps (on_nums (slot + 2)) s
 
 -- however many turns may be left and calls are round it, and from each heap on, a clause yields a value of its type
 abbrev pub Sounds : Standing → Standing → Node → TyView → Type 0
@@ -78,10 +84,25 @@ Controls first last control = (z : ℤ) → is_int z ≡ true → Settable first
 abbrev pub TurnsIn : Standing → List ℕ → Node → Type 0
 TurnsIn known bytes s = (n depth : ℕ) → Turns known known (Some bytes) (Kept 0 0) (eval (context n depth) s)
 
+-- what a scan needs: its locals of each row are free, and its procedure, called with a key and what is under it, yields a bool
+pub record IsScan (known : Standing) (strings : Bool) (q s : ℕ) : Type 0 where
+  pub pntrs : SparesAll known types.Pntr q
+  pub procedures : SparesAll known (caller (key_type strings)) q
+  pub texts : SparesAll known types.Str q
+  pub ints : SparesAll known types.Int s
+  pub answers : (n depth : ℕ) (line : Line) (heap : Heap) (procedure : Value) (args : List Value) → IsOf heap (caller (key_type strings)) procedure →
+      ValuesOf heap (two (key_type strings) types.Pntr) args → Sound heap known known types.Bool (call_meant (context n depth) line procedure args)
+
 -- the types of arguments as those of fields, by which the words of a row go
 abbrev pub fields_by : TyViews → List Field
 fields_by types.none = []
 fields_by (types.more ty rest) = record { ty = ty; name = [] } ∷ fields_by rest
+
+-- a procedure of the library of this number gives this type, which is the one that the generator takes for it
+pub record IsLibraryCall (code : ℕ) (of : LibraryProcedure) (ty : TyView) : Type 0 where
+  pub by_number : library_procedure code ≡ Some of
+  pub gives : ty ≡ type_given of
+  pub result : library_result procedures code ≡ ty
 
 -- what two values of a type can be compared by
 pub data IsCompared : Relation → TyView → Type 0 where
@@ -92,167 +113,166 @@ pub data IsCompared : Relation → TyView → Type 0 where
 
 -- a clause of a type in a body that has so many locals on each stack, where this is known of those in scope and of the scopes
 mutual
-  pub data Clause (nums refs : ℕ) : Standing → Node → TyView → Type 0 where
-    int : {known : Standing} {v : ℤ} → Clause nums refs known (node.Int v) types.Int
-    flag : {known : Standing} {v : Bool} → Clause nums refs known (node.Flag v) types.Bool
-    text : {known : Standing} {bytes : List ℕ} → Clause nums refs known (node.Text bytes) types.Str
-    get_num : {known : Standing} {slot : ℕ} {ty : TyView} → IsNum ty → slot < nums → Clause nums refs known (node.Name (Plain slot) ty) ty
-    get_ref : {known : Standing} {slot : ℕ} {ty : TyView} → IsRef ty → slot < refs → Clause nums refs known (node.Name (Plain slot) ty) ty
-    set_num : {known : Standing} {slot : ℕ} {ty : TyView} {e : Node} → IsNum ty → slot < nums → Part nums refs known e ty →
-        Clause nums refs known (node.SetName (Plain slot) ty e) types.Void
-    set_ref : {known : Standing} {slot : ℕ} {ty : TyView} {e : Node} → IsRef ty → slot < refs → Part nums refs known e ty →
-        Clause nums refs known (node.SetName (Plain slot) ty e) types.Void
-    let_num : {known : Standing} {slot : ℕ} {ty : TyView} {e : Node} → IsNum ty → slot < nums → Part nums refs known e ty →
-        Clause nums refs known (node.Let (Plain slot) ty e) types.Void
-    let_ref : {known : Standing} {slot : ℕ} {ty : TyView} {e : Node} → IsRef ty → slot < refs → Part nums refs known e ty →
-        Clause nums refs known (node.Let (Plain slot) ty e) types.Void
-    empty : {known : Standing} → Clause nums refs known node.Empty types.Void
-    block : {known : Standing} {items : Nodes} {ty : TyView} → Items nums refs known types.Void items ty →
-        Clause nums refs known (node.Block None items) ty
-    if_do : {known : Standing} {c a : Node} → Part nums refs known c types.Bool → Part nums refs known a types.Void →
-        Clause nums refs known (node.IfDo c a) types.Void
-    if_else : {known : Standing} {c a b : Node} {ty : TyView} → Part nums refs known c types.Bool → Part nums refs known a ty →
-        Part nums refs known b ty → Clause nums refs known (node.IfElse c a b) ty
-    while : {known : Standing} {c a : Node} → Part nums refs known c types.Bool → Part nums refs known a types.Void →
-        Clause nums refs known (node.While c a) types.Void
-    repeat : {known : Standing} {a c b : Node} → Part nums refs known a types.Void → Part nums refs known c types.Bool →
-        Part nums refs known b types.Void →
-        Clause nums refs known (node.Repeat a c b) types.Void
+  pub data Clause (P : BodyNode → Type 0) (nums refs : ℕ) : Standing → Node → TyView → Type 0 where
+    int : {known : Standing} {v : ℤ} → Clause P nums refs known (node.Int v) types.Int
+    flag : {known : Standing} {v : Bool} → Clause P nums refs known (node.Flag v) types.Bool
+    text : {known : Standing} {bytes : List ℕ} → Clause P nums refs known (node.Text bytes) types.Str
+    get_num : {known : Standing} {slot : ℕ} {ty : TyView} → IsNum ty → slot < nums → Clause P nums refs known (node.Name (Plain slot) ty) ty
+    get_ref : {known : Standing} {slot : ℕ} {ty : TyView} → IsRef ty → slot < refs → Clause P nums refs known (node.Name (Plain slot) ty) ty
+    set_num : {known : Standing} {slot : ℕ} {ty : TyView} {e : Node} → IsNum ty → slot < nums → Part P nums refs known e ty →
+        Clause P nums refs known (node.SetName (Plain slot) ty e) types.Void
+    set_ref : {known : Standing} {slot : ℕ} {ty : TyView} {e : Node} → IsRef ty → slot < refs → Part P nums refs known e ty →
+        Clause P nums refs known (node.SetName (Plain slot) ty e) types.Void
+    let_num : {known : Standing} {slot : ℕ} {ty : TyView} {e : Node} → IsNum ty → slot < nums → Part P nums refs known e ty →
+        Clause P nums refs known (node.Let (Plain slot) ty e) types.Void
+    let_ref : {known : Standing} {slot : ℕ} {ty : TyView} {e : Node} → IsRef ty → slot < refs → Part P nums refs known e ty →
+        Clause P nums refs known (node.Let (Plain slot) ty e) types.Void
+    empty : {known : Standing} → Clause P nums refs known node.Empty types.Void
+    block : {known : Standing} {items : Nodes} {ty : TyView} → Items P nums refs known types.Void items ty →
+        Clause P nums refs known (node.Block None items) ty
+    if_do : {known : Standing} {c a : Node} → Part P nums refs known c types.Bool → Part P nums refs known a types.Void →
+        Clause P nums refs known (node.IfDo c a) types.Void
+    if_else : {known : Standing} {c a b : Node} {ty : TyView} → Part P nums refs known c types.Bool → Part P nums refs known a ty →
+        Part P nums refs known b ty → Clause P nums refs known (node.IfElse c a b) ty
+    while : {known : Standing} {c a : Node} → Part P nums refs known c types.Bool → Part P nums refs known a types.Void →
+        Clause P nums refs known (node.While c a) types.Void
+    repeat : {known : Standing} {a c b : Node} → Part P nums refs known a types.Void → Part P nums refs known c types.Bool →
+        Part P nums refs known b types.Void →
+        Clause P nums refs known (node.Repeat a c b) types.Void
     loop : {known own : Standing} {slot control : ℕ} {a b c s : Node} {line : Line} → IsLoop nums slot b c s → KeepsTypes known own slot →
-        Controls known own (Plain control) → control < nums → slot + 2 < control → Part nums refs known a types.Int →
-        Part nums refs known b types.Int → Part nums refs known c types.Int → Part nums refs own s types.Void →
-        Clause nums refs known (node.For slot a b c None (Plain control) s line) types.Void
+        Controls known own (Plain control) → control < nums → slot + 2 < control → Part P nums refs known a types.Int →
+        Part P nums refs known b types.Int → Part P nums refs known c types.Int → Part P nums refs own s types.Void →
+        Clause P nums refs known (node.For slot a b c None (Plain control) s line) types.Void
     kept_loop : {known own : Standing} {slot : ℕ} {bytes : List ℕ} {wholes : List (List Field)} {a b c s : Node} {line : Line}
         (its : IsScopeText bytes) → known.wholes ≡ Some wholes → At (IsOfType types.Int) its.fields 0 → IsLoop nums slot b c s →
         KeepsTypes known known slot → Controls (opened known its.fields wholes) own (Kept 0 0) → TurnsIn known bytes s →
-        Part nums refs known a types.Int → Part nums refs known b types.Int → Part nums refs known c types.Int → Part nums refs own s types.Void →
-        Clause nums refs known (node.For slot a b c (Some bytes) (Kept 0 0) s line) types.Void
-    case : {known : Standing} {e d : Node} {arms : Arms} {value ty : TyView} → IsCompared relation.Equal value → Part nums refs known e value →
-        ArmsAre nums refs known value arms ty → Part nums refs known d ty →
-        Clause nums refs known (node.Case e arms d value) ty
-    and : {known : Standing} {a b : Node} → Part nums refs known a types.Bool → Part nums refs known b types.Bool →
-        Clause nums refs known (node.And a b) types.Bool
-    or : {known : Standing} {a b : Node} → Part nums refs known a types.Bool → Part nums refs known b types.Bool →
-        Clause nums refs known (node.Or a b) types.Bool
-    not : {known : Standing} {e : Node} → Part nums refs known e types.Bool → Clause nums refs known (node.Not e) types.Bool
-    neg : {known : Standing} {e : Node} {line : Line} → Part nums refs known e types.Int → Clause nums refs known (node.Neg e line) types.Int
-    plus : {known : Standing} {e : Node} → Part nums refs known e types.Int → Clause nums refs known (node.Plus e) types.Int
-    arith : {known : Standing} {op : Operator} {a b : Node} {line : Line} → Part nums refs known a types.Int → Part nums refs known b types.Int →
-        Clause nums refs known (node.Arith op a b line) types.Int
-    compare : {known : Standing} {op : Relation} {ty : TyView} {a b : Node} → IsCompared op ty → Part nums refs known a ty →
-        Part nums refs known b ty →
-        Clause nums refs known (node.Compare op ty a b) types.Bool
-    write : {known : Standing} {e : Node} {ty : TyView} {line : Line} → IsShown ty → Part nums refs known e ty →
-        Clause nums refs known (node.Write e node.Empty false ty line) types.Void
-    write_wide : {known : Standing} {e w : Node} {ty : TyView} {line : Line} → IsShown ty → Part nums refs known e ty →
-        Part nums refs known w types.Int →
-        Clause nums refs known (node.Write e w true ty line) types.Void
-    abort : {known : Standing} {line : Line} → Clause nums refs known (node.Abort line) types.Void
-    nil : {known : Standing} → Clause nums refs known node.Nil types.Pntr
-    a_class : {known : Standing} → Clause nums refs known node.Class types.Void
-    is_of : {known : Standing} {e : Node} {class : List ℕ} → Part nums refs known e types.Pntr →
-        Clause nums refs known (node.Is e class) types.Bool
-    join : {known : Standing} {a b : Node} {line : Line} → Part nums refs known a types.Str → Part nums refs known b types.Str →
-        Clause nums refs known (node.Join a b line) types.Str
-    substring : {known : Standing} {a i n : Node} {line : Line} → Part nums refs known a types.Str → Part nums refs known i types.Int →
-        Part nums refs known n types.Int → Clause nums refs known (node.Part a i n line) types.Str
+        Part P nums refs known a types.Int → Part P nums refs known b types.Int → Part P nums refs known c types.Int → Part P nums refs own s types.Void →
+        Clause P nums refs known (node.For slot a b c (Some bytes) (Kept 0 0) s line) types.Void
+    case : {known : Standing} {e d : Node} {arms : Arms} {value ty : TyView} → IsCompared relation.Equal value → Part P nums refs known e value →
+        ArmsAre P nums refs known value arms ty → Part P nums refs known d ty →
+        Clause P nums refs known (node.Case e arms d value) ty
+    and : {known : Standing} {a b : Node} → Part P nums refs known a types.Bool → Part P nums refs known b types.Bool →
+        Clause P nums refs known (node.And a b) types.Bool
+    or : {known : Standing} {a b : Node} → Part P nums refs known a types.Bool → Part P nums refs known b types.Bool →
+        Clause P nums refs known (node.Or a b) types.Bool
+    not : {known : Standing} {e : Node} → Part P nums refs known e types.Bool → Clause P nums refs known (node.Not e) types.Bool
+    neg : {known : Standing} {e : Node} {line : Line} → Part P nums refs known e types.Int → Clause P nums refs known (node.Neg e line) types.Int
+    plus : {known : Standing} {e : Node} → Part P nums refs known e types.Int → Clause P nums refs known (node.Plus e) types.Int
+    arith : {known : Standing} {op : Operator} {a b : Node} {line : Line} → Part P nums refs known a types.Int → Part P nums refs known b types.Int →
+        Clause P nums refs known (node.Arith op a b line) types.Int
+    compare : {known : Standing} {op : Relation} {ty : TyView} {a b : Node} → IsCompared op ty → Part P nums refs known a ty →
+        Part P nums refs known b ty →
+        Clause P nums refs known (node.Compare op ty a b) types.Bool
+    write : {known : Standing} {e : Node} {ty : TyView} {line : Line} → IsShown ty → Part P nums refs known e ty →
+        Clause P nums refs known (node.Write e node.Empty false ty line) types.Void
+    write_wide : {known : Standing} {e w : Node} {ty : TyView} {line : Line} → IsShown ty → Part P nums refs known e ty →
+        Part P nums refs known w types.Int →
+        Clause P nums refs known (node.Write e w true ty line) types.Void
+    abort : {known : Standing} {line : Line} → Clause P nums refs known (node.Abort line) types.Void
+    nil : {known : Standing} → Clause P nums refs known node.Nil types.Pntr
+    a_class : {known : Standing} → Clause P nums refs known node.Class types.Void
+    is_of : {known : Standing} {e : Node} {class : List ℕ} → Part P nums refs known e types.Pntr →
+        Clause P nums refs known (node.Is e class) types.Bool
+    join : {known : Standing} {a b : Node} {line : Line} → Part P nums refs known a types.Str → Part P nums refs known b types.Str →
+        Clause P nums refs known (node.Join a b line) types.Str
+    substring : {known : Standing} {a i n : Node} {line : Line} → Part P nums refs known a types.Str → Part P nums refs known i types.Int →
+        Part P nums refs known n types.Int → Clause P nums refs known (node.Part a i n line) types.Str
     structure : {known : Standing} {class name : List ℕ} {args : Nodes} {fields : List Field} → IsNamed name fields →
         class ≡ class_text name fields →
-        Args nums refs known args fields → Clause nums refs known (node.Make class args) types.Pntr
+        Args P nums refs known args fields → Clause P nums refs known (node.Make class args) types.Pntr
     get_field : {known : Standing} {p : Node} {class : List ℕ} {index : ℕ} {t : TyView} {line : Line} → HasField class index t → Kind t →
-        Part nums refs known p types.Pntr → Clause nums refs known (node.Field p class index t line) t
+        Part P nums refs known p types.Pntr → Clause P nums refs known (node.Field p class index t line) t
     put_field : {known : Standing} {p e : Node} {class : List ℕ} {index : ℕ} {t : TyView} {line : Line} → HasField class index t → Kind t →
-        Part nums refs known p types.Pntr → Part nums refs known e t → Clause nums refs known (node.SetField p class index t e line) types.Void
-    filled : {known : Standing} {l u e : Node} {t : TyView} {line : Line} → Kind t → Part nums refs known l types.Int →
-        Part nums refs known u types.Int →
-        Part nums refs known e t → Clause nums refs known (node.Fill l u e (types.Vector t) line) (types.Vector t)
-    listed : {known : Standing} {l : Node} {items : Nodes} {t : TyView} {line : Line} → Kind t → Part nums refs known l types.Int →
-        AllAre nums refs known t items → Clause nums refs known (node.Elems l items (types.Vector t) line) (types.Vector t)
-    get_element : {known : Standing} {v i : Node} {t : TyView} {line : Line} → Kind t → Part nums refs known v (types.Vector t) →
-        Part nums refs known i types.Int → Clause nums refs known (node.Element v i t line) t
-    put_element : {known : Standing} {v i e : Node} {t : TyView} {line : Line} → Kind t → Part nums refs known v (types.Vector t) →
-        Part nums refs known i types.Int → Part nums refs known e t → Clause nums refs known (node.SetElement v i e t line) types.Void
-    a_bound : {known : Standing} {v : Node} {upper : Bool} {t : TyView} → Part nums refs known v (types.Vector t) →
-        Clause nums refs known (node.Bound v upper) types.Int
-    text_length : {known : Standing} {e : Node} {line : Line} → Part nums refs known e types.Str →
-        Clause nums refs known (node.Lib 11 (more e none) line) types.Int
-    iformat : {known : Standing} {e : Node} {line : Line} → Part nums refs known e types.Int →
-        Clause nums refs known (node.Lib 12 (more e none) line) types.Str
+        Part P nums refs known p types.Pntr → Part P nums refs known e t → Clause P nums refs known (node.SetField p class index t e line) types.Void
+    filled : {known : Standing} {l u e : Node} {t : TyView} {line : Line} → Kind t → Part P nums refs known l types.Int →
+        Part P nums refs known u types.Int →
+        Part P nums refs known e t → Clause P nums refs known (node.Fill l u e (types.Vector t) line) (types.Vector t)
+    listed : {known : Standing} {l : Node} {items : Nodes} {t : TyView} {line : Line} → Kind t → Part P nums refs known l types.Int →
+        AllAre P nums refs known t items → Clause P nums refs known (node.Elems l items (types.Vector t) line) (types.Vector t)
+    get_element : {known : Standing} {v i : Node} {t : TyView} {line : Line} → Kind t → Part P nums refs known v (types.Vector t) →
+        Part P nums refs known i types.Int → Clause P nums refs known (node.Element v i t line) t
+    put_element : {known : Standing} {v i e : Node} {t : TyView} {line : Line} → Kind t → Part P nums refs known v (types.Vector t) →
+        Part P nums refs known i types.Int → Part P nums refs known e t → Clause P nums refs known (node.SetElement v i e t line) types.Void
+    a_bound : {known : Standing} {v : Node} {upper : Bool} {t : TyView} → Part P nums refs known v (types.Vector t) →
+        Clause P nums refs known (node.Bound v upper) types.Int
+    library : {known : Standing} {code : ℕ} {args : Nodes} {line : Line} {of : LibraryProcedure} {ty : TyView} → IsLibraryCall code of ty →
+        Args P nums refs known args (fields_by (parameters_of of)) → Clause P nums refs known (node.Lib code args line) ty
+    scan : {known : Standing} {strings : Bool} {a f : Node} {q s : ℕ} {line : Line} → q + 2 < refs → s + 2 < nums → Keeps (on_refs q) f →
+        IsScan known strings q s → Part P nums refs known a types.Pntr → Part P nums refs known f (caller (key_type strings)) →
+        Clause P nums refs known (node.Scan strings a f q s line) types.Int
     get_kept_num : {known : Standing} {up position : ℕ} {ty : TyView} → IsNum ty → HasPlace known up position ty →
-        Clause nums refs known (node.Name (Kept up position) ty) ty
+        Clause P nums refs known (node.Name (Kept up position) ty) ty
     get_kept_ref : {known : Standing} {up position : ℕ} {ty : TyView} → IsRef ty → HasPlace known up position ty →
-        Clause nums refs known (node.Name (Kept up position) ty) ty
+        Clause P nums refs known (node.Name (Kept up position) ty) ty
     set_kept_num : {known : Standing} {up position : ℕ} {ty : TyView} {e : Node} → IsNum ty → HasPlace known up position ty →
-        Part nums refs known e ty → Clause nums refs known (node.SetName (Kept up position) ty e) types.Void
+        Part P nums refs known e ty → Clause P nums refs known (node.SetName (Kept up position) ty e) types.Void
     set_kept_ref : {known : Standing} {up position : ℕ} {ty : TyView} {e : Node} → IsRef ty → HasPlace known up position ty →
-        Part nums refs known e ty → Clause nums refs known (node.SetName (Kept up position) ty e) types.Void
+        Part P nums refs known e ty → Clause P nums refs known (node.SetName (Kept up position) ty e) types.Void
     let_kept_num : {known : Standing} {up position : ℕ} {ty : TyView} {e : Node} → IsNum ty → HasPlace known up position ty →
-        Part nums refs known e ty → Clause nums refs known (node.Let (Kept up position) ty e) types.Void
+        Part P nums refs known e ty → Clause P nums refs known (node.Let (Kept up position) ty e) types.Void
     let_kept_ref : {known : Standing} {up position : ℕ} {ty : TyView} {e : Node} → IsRef ty → HasPlace known up position ty →
-        Part nums refs known e ty → Clause nums refs known (node.Let (Kept up position) ty e) types.Void
+        Part P nums refs known e ty → Clause P nums refs known (node.Let (Kept up position) ty e) types.Void
     scoped_block : {known : Standing} {bytes : List ℕ} {wholes : List (List Field)} {items : Nodes} {ty : TyView} (its : IsScopeText bytes) →
-        known.wholes ≡ Some wholes → Items nums refs (opened known its.fields wholes) types.Void items ty →
-        Clause nums refs known (node.Block (Some bytes) items) ty
+        known.wholes ≡ Some wholes → Items P nums refs (opened known its.fields wholes) types.Void items ty →
+        Clause P nums refs known (node.Block (Some bytes) items) ty
     literal : {known : Standing} {params : List Param} {gives : TyView} {tree : Node} {text : Option (List ℕ)} {line : Line} →
-        Clause nums refs known (node.Proc (body params gives tree text line)) (types.Proc (types_of_params params) gives)
+        Clause P nums refs known (node.Proc (body params gives tree text line)) (types.Proc (types_of_params params) gives)
     let_literal : {known : Standing} {slot : ℕ} {ty : TyView} {of : BodyNode} → IsRef ty → slot < refs →
-        Clause nums refs known (node.Let (Plain slot) ty (node.Proc of)) types.Void
+        Clause P nums refs known (node.Let (Plain slot) ty (node.Proc of)) types.Void
     let_kept_literal : {known : Standing} {up position : ℕ} {ty : TyView} {of : BodyNode} → IsRef ty → HasPlace known up position ty →
-        Clause nums refs known (node.Let (Kept up position) ty (node.Proc of)) types.Void
-    call : {known : Standing} {f : Node} {args : Nodes} {line : Line} {tys : TyViews} {ty : TyView} → Part nums refs known f (types.Proc tys ty) →
-        Args nums refs known args (fields_by tys) → Clause nums refs known (node.Call f args line) ty
-    a_line : {known : Standing} {line : Line} → Clause nums refs known (node.Lib 9 none line) types.Str
-    at_eof : {known : Standing} {line : Line} → Clause nums refs known (node.Lib 10 none line) types.Bool
+        Clause P nums refs known (node.Let (Kept up position) ty (node.Proc of)) types.Void
+    call : {known : Standing} {f : Node} {args : Nodes} {line : Line} {tys : TyViews} {ty : TyView} → Part P nums refs known f (types.Proc tys ty) →
+        Args P nums refs known args (fields_by tys) → Clause P nums refs known (node.Call f args line) ty
 
   -- a clause that yields a value of its type, and whose bodies fit
-  pub data Part (nums refs : ℕ) : Standing → Node → TyView → Type 0 where
-    that : {known : Standing} {t : Node} {ty : TyView} → Clause nums refs known t ty → Sounds known known t ty → BodiesAre Fits IsValued t →
-        Part nums refs known t ty
+  pub data Part (P : BodyNode → Type 0) (nums refs : ℕ) : Standing → Node → TyView → Type 0 where
+    that : {known : Standing} {t : Node} {ty : TyView} → Clause P nums refs known t ty → Sounds known known t ty → BodiesAre P IsValued t →
+        Part P nums refs known t ty
 
   -- the items of a sequence after one of this type; a name is in scope after its clause
-  pub data Items (nums refs : ℕ) : Standing → TyView → Nodes → TyView → Type 0 where
-    at_end : {known : Standing} {ty : TyView} → Items nums refs known ty none ty
-    an_item : {known next : Standing} {item : Node} {rest : Nodes} {of ty : TyView} → Clause nums refs known item of →
-        Sounds known next item of → BodiesAre Fits IsValued item → Items nums refs next of rest ty → Items nums refs known types.Void (more item rest) ty
+  pub data Items (P : BodyNode → Type 0) (nums refs : ℕ) : Standing → TyView → Nodes → TyView → Type 0 where
+    at_end : {known : Standing} {ty : TyView} → Items P nums refs known ty none ty
+    an_item : {known next : Standing} {item : Node} {rest : Nodes} {of ty : TyView} → Clause P nums refs known item of →
+        Sounds known next item of → BodiesAre P IsValued item → Items P nums refs next of rest ty → Items P nums refs known types.Void (more item rest) ty
 
-  pub data ArmsAre (nums refs : ℕ) : Standing → TyView → Arms → TyView → Type 0 where
-    no_more : {known : Standing} {value ty : TyView} → ArmsAre nums refs known value no_arms ty
-    one_arm : {known : Standing} {value ty : TyView} {labels : Nodes} {a : Node} {rest : Arms} → AllAre nums refs known value labels →
-        Part nums refs known a ty → ArmsAre nums refs known value rest ty → ArmsAre nums refs known value (more_arms (arm labels a) rest) ty
+  pub data ArmsAre (P : BodyNode → Type 0) (nums refs : ℕ) : Standing → TyView → Arms → TyView → Type 0 where
+    no_more : {known : Standing} {value ty : TyView} → ArmsAre P nums refs known value no_arms ty
+    one_arm : {known : Standing} {value ty : TyView} {labels : Nodes} {a : Node} {rest : Arms} → AllAre P nums refs known value labels →
+        Part P nums refs known a ty → ArmsAre P nums refs known value rest ty → ArmsAre P nums refs known value (more_arms (arm labels a) rest) ty
 
   -- clauses of one type: labels, or elements
-  pub data AllAre (nums refs : ℕ) : Standing → TyView → Nodes → Type 0 where
-    none_is : {known : Standing} {ty : TyView} → AllAre nums refs known ty none
-    one_is : {known : Standing} {ty : TyView} {first : Node} {rest : Nodes} → Part nums refs known first ty → AllAre nums refs known ty rest →
-        AllAre nums refs known ty (more first rest)
+  pub data AllAre (P : BodyNode → Type 0) (nums refs : ℕ) : Standing → TyView → Nodes → Type 0 where
+    none_is : {known : Standing} {ty : TyView} → AllAre P nums refs known ty none
+    one_is : {known : Standing} {ty : TyView} {first : Node} {rest : Nodes} → Part P nums refs known first ty → AllAre P nums refs known ty rest →
+        AllAre P nums refs known ty (more first rest)
 
   -- clauses of the types of fields
-  pub data Args (nums refs : ℕ) : Standing → Nodes → List Field → Type 0 where
-    no_arg : {known : Standing} → Args nums refs known none []
+  pub data Args (P : BodyNode → Type 0) (nums refs : ℕ) : Standing → Nodes → List Field → Type 0 where
+    no_arg : {known : Standing} → Args P nums refs known none []
     one_arg : {known : Standing} {first : Node} {rest : Nodes} {field : Field} {fields : List Field} → Kind field.ty →
-        Part nums refs known first field.ty → Args nums refs known rest fields → Args nums refs known (more first rest) (field ∷ fields)
+        Part P nums refs known first field.ty → Args P nums refs known rest fields → Args P nums refs known (more first rest) (field ∷ fields)
 
-pub clause_in : {nums refs : ℕ} {known : Standing} {t : Node} {ty : TyView} → Part nums refs known t ty → Clause nums refs known t ty
+pub clause_in : {P : BodyNode → Type 0} {nums refs : ℕ} {known : Standing} {t : Node} {ty : TyView} → Part P nums refs known t ty → Clause P nums refs known t ty
 clause_in (that h sounds fit) = h
 
-pub sounds_in : {nums refs : ℕ} {known : Standing} {t : Node} {ty : TyView} → Part nums refs known t ty → Sounds known known t ty
+pub sounds_in : {P : BodyNode → Type 0} {nums refs : ℕ} {known : Standing} {t : Node} {ty : TyView} → Part P nums refs known t ty → Sounds known known t ty
 sounds_in (that h sounds fit) = sounds
 
-pub bodies_in : {nums refs : ℕ} {known : Standing} {t : Node} {ty : TyView} → Part nums refs known t ty → BodiesAre Fits IsValued t
+pub bodies_in : {P : BodyNode → Type 0} {nums refs : ℕ} {known : Standing} {t : Node} {ty : TyView} → Part P nums refs known t ty → BodiesAre P IsValued t
 bodies_in (that h sounds fit) = fit
 
 -- Items: what is known after them, that they yield a value of their type, and that their bodies fit.
-pub behind_items : {nums refs : ℕ} {known : Standing} {before ty : TyView} {ts : Nodes} → Items nums refs known before ts ty → Standing
+pub behind_items : {P : BodyNode → Type 0} {nums refs : ℕ} {known : Standing} {before ty : TyView} {ts : Nodes} → Items P nums refs known before ts ty → Standing
 behind_items (at_end {known = known}) = known
 behind_items (an_item first sounds fit rest) = behind_items rest
 
-pub items_sound : {nums refs : ℕ} {known : Standing} {before ty : TyView} {ts : Nodes} (h : Items nums refs known before ts ty) (n depth : ℕ)
+pub items_sound : {P : BodyNode → Type 0} {nums refs : ℕ} {known : Standing} {before ty : TyView} {ts : Nodes} (h : Items P nums refs known before ts ty) (n depth : ℕ)
     (heap : Heap) (v : Value) → IsOf heap before v → Sound heap known (behind_items h) ty (eval_all (context n depth) v ts)
 unfolding eval_all behind_items
 items_sound at_end n depth heap v is = sound_give v is
 items_sound (an_item first sounds fit rest) n depth heap v is = sound_then (sounds n depth heap) (λ new w g of. items_sound rest n depth new w of)
 
-pub items_fit : {nums refs : ℕ} {known : Standing} {before ty : TyView} {ts : Nodes} → Items nums refs known before ts ty → AllBodiesAre Fits IsValued ts
+pub items_fit : {P : BodyNode → Type 0} {nums refs : ℕ} {known : Standing} {before ty : TyView} {ts : Nodes} → Items P nums refs known before ts ty → AllBodiesAre P IsValued ts
 items_fit at_end = tt
 items_fit (an_item first sounds fit rest) = (fit, items_fit rest)
 

@@ -8,7 +8,7 @@ use Rattle.ps_stepping.specs.ps_heap.Operators.{relation_of}
 use Rattle.ps_stepping.specs.ps_heap.Values.{Value, Text, Nil, Pointer, Vector, number_of, word_of}
 use Rattle.ps_stepping.specs.ps_heap.Objects.{Heap}
 use Rattle.ps_stepping.specs.ps_meaning.Meaning.{Frame, Store}
-use Rattle.ps_stepping.specs.ps_meaning.Evaluation.{text_relation, compares}
+use Rattle.ps_stepping.specs.ps_meaning.Operations.{text_relation, compares}
 use Rattle.ps_gen.specs.ps_emitter.Choices as choice
 use Rattle.ps_stepping.specs.Config.{Config}
 use Rattle.ps_stepping.specs.Machine.{Step, on, push_num, act}

@@ -15,9 +15,10 @@ use Rattle.ps_stepping.specs.ps_heap.Values.{Value, Num, Flag, Nil, Pointer, Vec
 use Rattle.ps_stepping.specs.ps_heap.Objects.{Heap, Object, Structure, Elements, Scope, Keyed, object_at, with_object, with_new, new_number, value_at, kept_as, is_of, is_class, fields_in, field_of, with_field, place_of, is_vector, is_made, vector_of, count_from, filled_vector, low_in, elements_in, type_in, vector_in, found_at, put_at, with_element, low_of, high_of, is_one_object, element_of as element_at}
 use Rattle.ps_stepping.specs.ps_heap.Scopes.{first_value, new_scope, scope_at, parent_in, names_in, scope_out, name_in, with_name_in, with_name, kept_name, with_kept_name}
 use Rattle.ps_stepping.specs.ps_heap.Weights.{own_weight}
-use Rattle.ps_stepping.specs.ps_meaning.Meaning.{Store, and_object}
-use Rattle.ps_stepping.specs.ps_meaning.Evaluation.{kept_elements, kept_all, object_relation}
-use Rattle.ps_code_laws.specs.Compiled.{compiled, compiled_all, compiled_object, compiled_heap, compiled_store}
+use Rattle.ps_stepping.specs.ps_heap.Held.{Held, made}
+use Rattle.ps_stepping.specs.ps_meaning.Meaning.{Store, on_held, and_object}
+use Rattle.ps_stepping.specs.ps_meaning.Operations.{kept_elements, kept_all, object_relation}
+use Rattle.ps_code_laws.specs.Compiled.{compiled, compiled_all, compiled_object, compiled_heap, compiled_held, compiled_store}
 
 -- Numbers, flags and texts are as they were.
 pub word_compiled : (v : Value) → word_of (compiled v) ≡ word_of v
@@ -210,7 +211,7 @@ count_compiled : (found : Option Object) → length (elements_in (compiled_found
 count_compiled found = ap length (elements_compiled found) ∙ length-map (elements_in found) compiled
 
 -- the place of a subscript
-place_compiled : (found : Option Object) (at : ℤ) →
+pub place_compiled : (found : Option Object) (at : ℤ) →
     place_of (low_in (compiled_found found)) (length (elements_in (compiled_found found))) at
     ≡ place_of (low_in found) (length (elements_in found)) at
 place_compiled found at =
@@ -371,8 +372,12 @@ with_kept_name_compiled heap scope up position v =
 
 -- What is held.
 
+pub object_held : (object : Object) (held : Held) → made (compiled_object object) (compiled_held held) ≡ compiled_held (made object held)
+object_held object held =
+    let with_both : Heap → ℕ → Held = λ heap weight. record held { objects = heap; counted = held.counted + weight } in
+    ap (λ (heap : Heap). with_both heap (own_weight (compiled_object object))) (new_compiled held.objects object)
+    ∙ ap (with_both (compiled_heap (with_new held.objects object))) (weight_compiled object)
+
 pub and_object_compiled : (object : Object) (store : Store) →
     and_object (compiled_object object) (compiled_store store) ≡ compiled_store (and_object object store)
-and_object_compiled object store =
-    ap (λ (heap : Heap). record store { heap = heap; counted = store.counted + own_weight (compiled_object object) }) (new_compiled store.heap object)
-    ∙ ap (λ (weight : ℕ). record store { heap = compiled_heap (with_new store.heap object); counted = store.counted + weight }) (weight_compiled object)
+and_object_compiled object store = ap (λ (held : Held). on_held held store) (object_held object store.held)

@@ -13,35 +13,46 @@ use Rattle.ps_gen.specs.ps_base.declared.instr.Instr.TheVariants as instr
 use Rattle.ps_gen.specs.ps_program.declared.place.Place.TheVariants.{Plain}
 use Rattle.ps_stepping.specs.ps_heap.Operators.{Answer, Gives, Traps}
 use Rattle.ps_stepping.specs.ps_heap.Ends.{End, Trapped, OutOfTurns}
-use Rattle.ps_stepping.specs.ps_meaning.Event.{Event, Turn}
+use Rattle.ps_stepping.specs.ps_heap.Events.{Event, Turn}
 use Rattle.ps_stepping.specs.ps_heap.Values.{Value, Nothing, word_of, is_one, flag_of}
 use Rattle.ps_stepping.specs.ps_meaning.Meaning.{Frame, Store, State, Outcome, Value_is, Ends, Meaning, give, stop, after, ◌>>=◌, choose, answer, some_out, emit, in_places, is_width, written, with_turns, turned, spent, take_turn, with_local, get, set}
 use Rattle.ps_stepping.specs.ps_heap.Objects.{Heap}
-use Rattle.ps_stepping.specs.ps_meaning.Evaluation.{while_turns}
-use Rattle.ps_soundness.specs.Shapes.{IsOf, IsTypedHeap, Grows}
+use Rattle.ps_stepping.specs.ps_meaning.Loops.{while_turns}
+use Rattle.ps_soundness.specs.Shapes.{IsOf, IsTypedHeld, Grows}
 use Rattle.ps_soundness.proofs.Growing.{grows_not, grows_then}
 use Rattle.ps_soundness.proofs.Combining.{Standing, IsStanding, Sound, sound_then}
 use Rattle.ps_soundness.proofs.Combining as combining
 use Rattle.ps_stepping.specs.Config.{frame_words, Caller, Config, code_in, frame_in, IsAt}
-use Rattle.ps_stepping.specs.Machine.{Step, Goes, Stops, Stuck, on, push_num, push_ref, forward, back, turn_to, answered, act, Steps, at_instruction}
+use Rattle.ps_stepping.specs.Machine.{Step, Goes, Stops, Stuck, and_touched, on, push_num, push_ref, forward, back, turn_to, answered, act}
 use Rattle.ps_stepping.specs.Machine as machine
-use Rattle.ps_code_laws.specs.Compiled.{compiled, compiled_store}
+use Rattle.ps_code_laws.specs.Compiled.{compiled, compiled_store, compiled_events, WeighsUnits}
 use Rattle.ps_code_laws.specs.Meets.{nums_left, refs_left, standing}
 use Rattle.ps_code_laws.proofs.Clauses.{IsNum, int, bool, IsRef, str, pntr, vector, proc}
 use Rattle.ps_code_laws.proofs.Falls.{Falls, Falling, falls_then}
-use Rattle.ps_code_laws.specs.Literals.{Fits}
+use Rattle.ps_gen.specs.ps_program.Node.{BodyNode}
+use Rattle.std.specs.List.{AllByRecursion}
+use Rattle.ps_code_laws.specs.Literals.{Fits, instrs_of}
+use Rattle.ps_code_laws.proofs.Standing.{AtBy}
 use Rattle.ps_code_laws.proofs.Literals.{IsLiteral, InHeap, InFrame}
 use Rattle.ps_code_laws.proofs.Holding.{Left, Holds, holds_then}
 
 -- A run of a unit, inside bodies that wait, that is to come to something: whatever is so of what a step returns is so of what it
--- starts from.
+-- starts from. The events are the meaning's.
 pub record Way : Type 1 where
   pub unit : UnitView
   pub callers : List Caller
+  -- what is so of each body that may run: it fits, and its instructions are such as may run
+  pub Body : BodyNode → Type 0
+  pub Allows : Instr → Type 0
+  pub fits : (of : BodyNode) → Body of → Fits of
+  pub allowed : (of : BodyNode) → Body of → AllByRecursion Allows (instrs_of of)
   pub Holds : Config → List Event → Type 0
   pub Final : End → ℕ → List Event → Type 0
-  pub goes : {c next : Config} {so_far events : List Event} → Steps c (Goes events next) → Holds next (so_far ++ events) → Holds c so_far
-  pub stops : {c : Config} {so_far : List Event} {e : End} → Steps c (Stops e) → Final e c.store.counted so_far → Holds c so_far
+  pub goes : {c next : Config} {so_far : List Event} (events : List Event) {i : Instr} → IsAt (code_in c.unit) c.at i → Allows i →
+      act i c ≡ Goes (compiled_events events) next → Holds next (so_far ++ events) → Holds c so_far
+  pub stops : {c : Config} {so_far : List Event} {e : End} {touched : ℕ} {i : Instr} → IsAt (code_in c.unit) c.at i → Allows i →
+      act i c ≡ Stops e touched → Final e (and_touched touched c.store.held.counted) so_far →
+      Holds c so_far
 
 pub if_true : {A : Type 0} (b : Bool) (x y : A) → b ≡ true → (if b then x else y) ≡ x
 if_true b x y h = ap (λ (c : Bool). if c then x else y) h
@@ -85,83 +96,94 @@ pub record Origin : Type 0 where
   pub heap : Heap
   pub known : Standing
 
-pub record IsSince (n : Origin) (f : Frame) (s : State) : Type 0 where
+pub record IsSince (P : BodyNode → Type 0) (n : Origin) (f : Frame) (s : State) : Type 0 where
   pub few : s.store.turns ≤ n.turns
-  pub grows : Grows n.heap s.store.heap
-  pub typed : IsTypedHeap s.store.heap
-  pub are : IsStanding s.store.heap f n.known
-  pub held : InFrame Fits f × InHeap Fits s.store.heap
+  pub grows : Grows n.heap s.store.held.objects
+  pub typed : IsTypedHeld s.store.held
+  pub are : IsStanding s.store.held.objects f n.known
+  pub held : InFrame P f × InHeap P s.store.held.objects
+  pub weighs : WeighsUnits s.store.held.weigh
 
 -- after a part
 abbrev pub after_it : Origin → Heap → Standing → Origin
 after_it n heap last = record { turns = n.turns; heap = heap; known = last }
 
-pub since_more : {n : Origin} {f : Frame} {s : State} {m : ℕ} {heap : Heap} → m ≤ n.turns → Grows n.heap heap →
-    IsSince (record { turns = m; heap = heap; known = n.known }) f s → IsSince n f s
+pub since_more : {P : BodyNode → Type 0} {n : Origin} {f : Frame} {s : State} {m : ℕ} {heap : Heap} → m ≤ n.turns → Grows n.heap heap →
+    IsSince P (record { turns = m; heap = heap; known = n.known }) f s → IsSince P n f s
 since_more {n = n} {s = s} {heap = heap} le g h = record {
   few = let few = h.few in omega arith;
-  grows = grows_then n.heap heap s.store.heap g h.grows;
+  grows = grows_then n.heap heap s.store.held.objects g h.grows;
   typed = h.typed;
   are = h.are;
   held = h.held;
+  weighs = h.weighs;
 }
 
 -- What a part returns that is of a type: the turns have fallen, the heap has grown and is typed, what is known after it is so, and each procedure that
 -- is held fits.
-pub record IsLeft (n : Origin) (last : Standing) (ty : TyView) (v : Value) (f : Frame) (s : State) : Type 0 where
+pub record IsLeft (P : BodyNode → Type 0) (n : Origin) (last : Standing) (ty : TyView) (v : Value) (f : Frame) (s : State) : Type 0 where
   pub few : s.store.turns ≤ n.turns
-  pub grows : Grows n.heap s.store.heap
-  pub typed : IsTypedHeap s.store.heap
-  pub are : IsStanding s.store.heap f last
-  pub value : IsOf s.store.heap ty v
-  pub held : InFrame Fits f × InHeap Fits s.store.heap
-  pub literal : IsLiteral Fits v
+  pub grows : Grows n.heap s.store.held.objects
+  pub typed : IsTypedHeld s.store.held
+  pub are : IsStanding s.store.held.objects f last
+  pub value : IsOf s.store.held.objects ty v
+  pub held : InFrame P f × InHeap P s.store.held.objects
+  pub literal : IsLiteral P v
+  pub weighs : WeighsUnits s.store.held.weigh
 
-abbrev pub Behind : Origin → Standing → TyView → Outcome → Type 0
-Behind n last ty (Value_is v f s) = IsLeft n last ty v f s
-Behind n last ty (Ends e s) = Unit {0}
+abbrev pub Behind : (BodyNode → Type 0) → Origin → Standing → TyView → Outcome → Type 0
+Behind P n last ty (Value_is v f s) = IsLeft P n last ty v f s
+Behind P n last ty (Ends e s) = Unit {0}
 
-pub since_left : (n : Origin) (last : Standing) (ty : TyView) (v : Value) (f : Frame) (s : State) → IsLeft n last ty v f s →
-    IsSince (after_it n s.store.heap last) f s
-since_left n last ty v f s left = record { few = left.few; grows = grows_not s.store.heap; typed = left.typed; are = left.are; held = left.held }
+pub since_left : {P : BodyNode → Type 0} (n : Origin) (last : Standing) (ty : TyView) (v : Value) (f : Frame) (s : State) → IsLeft P n last ty v f s →
+    IsSince P (after_it n s.store.held.objects last) f s
+since_left n last ty v f s left = record {
+  few = left.few;
+  grows = grows_not s.store.held.objects;
+  typed = left.typed;
+  are = left.are;
+  held = left.held;
+  weighs = left.weighs;
+}
 
 -- a part that takes turns alone, and yields a value of a type
-pub record Leads (n : Origin) (last : Standing) (ty : TyView) (a : Meaning) : Type 0 where
+pub record Leads (P : BodyNode → Type 0) (n : Origin) (last : Standing) (ty : TyView) (a : Meaning) : Type 0 where
   pub falls : Falling a
   pub sound : Sound n.heap n.known last ty a
-  pub holds : Holds Fits a
+  pub holds : Holds P a
 
-left_of : (n : Origin) (last : Standing) (ty : TyView) (turns : ℕ) (old : Heap) (o : Outcome) → turns ≤ n.turns → Grows n.heap old → Falls turns o →
-    combining.Comes old last ty o → Left Fits o → Behind n last ty o
-left_of n last ty turns old (Value_is v f s) le g falls h k = record {
-  few = omega arith;
-  grows = grows_then n.heap old s.store.heap g h.grows;
+left_of : (P : BodyNode → Type 0) (n : Origin) (last : Standing) (ty : TyView) (old : Store) (o : Outcome) → old.turns ≤ n.turns → Grows n.heap old.held.objects →
+    WeighsUnits old.held.weigh → Falls old o → combining.Comes old.held.objects last ty o → Left P o → Behind P n last ty o
+left_of P n last ty old (Value_is v f s) le g weighs falls h k = record {
+  few = let fewer = falls.0 in omega arith;
+  grows = grows_then n.heap old.held.objects s.store.held.objects g h.grows;
   typed = h.typed;
   are = h.are;
   value = h.value;
   held = (k.1, k.2);
   literal = k.0;
+  weighs = subst WeighsUnits (sym falls.1) weighs;
 }
-left_of n last ty turns old (Ends e s) le g falls h k = tt
+left_of P n last ty old (Ends e s) le g weighs falls h k = tt
 
-pub leads_left : {n : Origin} {last : Standing} {ty : TyView} {a : Meaning} {f : Frame} {s : State} → Leads n last ty a → IsSince n f s →
-    Behind n last ty (a f s)
-leads_left {n = n} {last = last} {ty = ty} {a = a} {f = f} {s = s} leads since =
-    left_of n last ty s.store.turns s.store.heap (a f s) since.few since.grows (leads.falls f s)
+pub leads_left : {P : BodyNode → Type 0} {n : Origin} {last : Standing} {ty : TyView} {a : Meaning} {f : Frame} {s : State} → Leads P n last ty a → IsSince P n f s →
+    Behind P n last ty (a f s)
+leads_left {P = P} {n = n} {last = last} {ty = ty} {a = a} {f = f} {s = s} leads since =
+    left_of P n last ty s.store (a f s) since.few since.grows since.weighs (leads.falls f s)
     (leads.sound.runs f s since.grows since.typed since.are) (leads.holds f s since.held.0 since.held.1)
 
-pub leads_more : {n : Origin} {last : Standing} {ty : TyView} {a : Meaning} {m : ℕ} {heap : Heap} → m ≤ n.turns → Grows n.heap heap →
-    Leads n last ty a →
-    Leads (record { turns = m; heap = heap; known = n.known }) last ty a
+pub leads_more : {P : BodyNode → Type 0} {n : Origin} {last : Standing} {ty : TyView} {a : Meaning} {m : ℕ} {heap : Heap} → m ≤ n.turns → Grows n.heap heap →
+    Leads P n last ty a →
+    Leads P (record { turns = m; heap = heap; known = n.known }) last ty a
 leads_more {heap = heap} le g h = record { falls = h.falls; sound = combining.later heap g h.sound; holds = h.holds }
 
 -- one part, and then another that needs no value of it
-pub leads_then : {n : Origin} {between last : Standing} {tya ty : TyView} {a b : Meaning} → Leads n between tya a →
-    ((new : Heap) → Grows n.heap new → Leads (after_it n new between) last ty b) → Leads n last ty (a >>= λ u. b)
-leads_then {n = n} {a = a} {b = b} h k = record {
+pub leads_then : {P : BodyNode → Type 0} {n : Origin} {between last : Standing} {tya ty : TyView} {a b : Meaning} → Leads P n between tya a →
+    ((new : Heap) → Grows n.heap new → Leads P (after_it n new between) last ty b) → Leads P n last ty (a >>= λ u. b)
+leads_then {P = P} {n = n} {a = a} {b = b} h k = record {
   falls = falls_then a (λ u. b) h.falls (λ u. (k n.heap (grows_not n.heap)).falls);
   sound = sound_then h.sound (λ new u g is. (k new g).sound);
-  holds = holds_then Fits a (λ u. b) h.holds (λ u literal. (k n.heap (grows_not n.heap)).holds);
+  holds = holds_then P a (λ u. b) h.holds (λ u literal. (k n.heap (grows_not n.heap)).holds);
 }
 
 -- nothing is output, and where the run ends nothing is made
@@ -179,35 +201,35 @@ module _ (w : Way) where
   -- where the run stands after a clause of this type that came to this
   abbrev pub Comes : ℕ → List ℤ → List Value → TyView → Outcome → Type 0
   Comes k nums refs ty (Value_is v f s) = w.Holds (place k (nums_left ty v ++ nums) (refs_left ty v ++ refs) f s.store) s.events
-  Comes k nums refs ty (Ends e s) = w.Final e s.store.counted s.events
+  Comes k nums refs ty (Ends e s) = w.Final e s.store.held.counted s.events
 
-  -- there is room for so many words more on each stack
+  -- there is room for so many words more on each stack, with the locals of both
   pub record Room (need : ℕ) (nums : List ℤ) (refs : List Value) : Type 0 where
-    pub on_nums : (frame_in w.unit).nums + length nums + need ≤ 512
-    pub on_refs : (frame_in w.unit).refs + length refs + need ≤ 512
+    pub on_nums : (frame_in w.unit).nums + (frame_in w.unit).refs + length nums + need ≤ 512
+    pub on_refs : (frame_in w.unit).nums + (frame_in w.unit).refs + length refs + need ≤ 512
 
   -- From p to k the code does what is meant, with these words on the stacks before it, and takes them.
   pub record Does (n : Origin) (bn : List ℤ) (br : List Value) (m : Meaning) (ty : TyView) (need p k : ℕ) : Type 0 where
-    pub by : (nums : List ℤ) (refs : List Value) (f : Frame) (s : State) → Room need nums refs → IsSince n f s → Comes k nums refs ty (m f s) →
+    pub by : (nums : List ℤ) (refs : List Value) (f : Frame) (s : State) → Room need nums refs → IsSince w.Body n f s → Comes k nums refs ty (m f s) →
         w.Holds (place p (bn ++ nums) (br ++ refs) f s.store) s.events
 
   -- one step
-  pub step : {c next : Config} {so_far events : List Event} (i : Instr) → IsAt (code_in c.unit) c.at i → act i c ≡ Goes events next →
+  pub step : {c next : Config} {so_far : List Event} (events : List Event) (i : Instr) → AtBy w.Allows c.unit c.at i → act i c ≡ Goes (compiled_events events) next →
       w.Holds next (so_far ++ events) → w.Holds c so_far
-  step {c = c} i at e h = w.goes (subst (λ (s : Step). Steps c s) e (at_instruction at)) h
+  step {c = c} events i at e h = w.goes events at.0 at.1 e h
 
-  pub quiet : {c next : Config} {so_far : List Event} (i : Instr) → IsAt (code_in c.unit) c.at i → act i c ≡ on next → w.Holds next so_far →
+  pub quiet : {c next : Config} {so_far : List Event} (i : Instr) → AtBy w.Allows c.unit c.at i → act i c ≡ on next → w.Holds next so_far →
       w.Holds c so_far
-  quiet {next = next} {so_far = so_far} i at e h = step i at e (subst (λ (es : List Event). w.Holds next es) (sym (append-nil so_far)) h)
+  quiet {next = next} {so_far = so_far} i at e h = step [] i at e (subst (λ (es : List Event). w.Holds next es) (sym (append-nil so_far)) h)
 
-  pub halt : {c : Config} {so_far : List Event} {e : End} (i : Instr) → IsAt (code_in c.unit) c.at i → act i c ≡ Stops e →
-      w.Final e c.store.counted so_far → w.Holds c so_far
-  halt {c = c} i at e h = w.stops (subst (λ (s : Step). Steps c s) e (at_instruction at)) h
+  pub halt : {c : Config} {so_far : List Event} {e : End} {touched : ℕ} (i : Instr) → AtBy w.Allows c.unit c.at i → act i c ≡ Stops e touched →
+      w.Final e (and_touched touched c.store.held.counted) so_far → w.Holds c so_far
+  halt {c = c} i at e h = w.stops at.0 at.1 e h
 
   -- where as many bytes are counted as in a state
-  pub halt_there : {c : Config} {e : End} (i : Instr) (s : State) → c.store.counted ≡ s.store.counted → IsAt (code_in c.unit) c.at i →
-      act i c ≡ Stops e →
-      w.Final e s.store.counted s.events → w.Holds c s.events
+  pub halt_there : {c : Config} {e : End} (i : Instr) (s : State) → c.store.held.counted ≡ s.store.held.counted → AtBy w.Allows c.unit c.at i →
+      act i c ≡ Stops e 0 →
+      w.Final e s.store.held.counted s.events → w.Holds c s.events
   halt_there {e = e} i s same at acts h = halt i at acts (subst (λ (n : ℕ). w.Final e n s.events) (sym same) h)
 
   pub less_room : (need need' : ℕ) (nums : List ℤ) (refs : List Value) → need ≤ need' → Room need' nums refs → Room need nums refs
@@ -238,19 +260,19 @@ module _ (w : Way) where
   later {n = n} heap g d = fewer n.turns heap (omega arith) g d
 
   comes_then : (n : Origin) (last : Standing) (need q k : ℕ) (nums : List ℤ) (refs : List Value) (tya ty : TyView) (b : Value → Meaning) →
-      ((new : Heap) (v : Value) → Grows n.heap new → IsOf new tya v → IsLiteral Fits v →
+      ((new : Heap) (v : Value) → Grows n.heap new → IsOf new tya v → IsLiteral w.Body v →
       Does (after_it n new last) (nums_left tya v) (refs_left tya v) (b v) ty need q k) →
-      Room need nums refs → (o : Outcome) → Behind n last tya o → Comes k nums refs ty (after o b) → Comes q nums refs tya o
+      Room need nums refs → (o : Outcome) → Behind w.Body n last tya o → Comes k nums refs ty (after o b) → Comes q nums refs tya o
   unfolding after
   comes_then n last need q k nums refs tya ty b db room (Value_is v f s) left reach =
-      (db s.store.heap v left.grows left.value left.literal).by nums refs f s room (since_left n last tya v f s left) reach
+      (db s.store.held.objects v left.grows left.value left.literal).by nums refs f s room (since_left n last tya v f s left) reach
   comes_then n last need q k nums refs tya ty b db room (Ends e s) left reach = reach
 
   -- one part, and then another that takes its value, of which each procedure fits
   pub does_then_held : {n : Origin} {bn : List ℤ} {br : List Value} {a : Meaning} {tya ty : TyView} {last : Standing} (b : Value → Meaning)
       (na nb need p q k : ℕ) →
-      na ≤ need → nb ≤ need → Leads n last tya a → Does n bn br a tya na p q →
-      ((new : Heap) (v : Value) → Grows n.heap new → IsOf new tya v → IsLiteral Fits v →
+      na ≤ need → nb ≤ need → Leads w.Body n last tya a → Does n bn br a tya na p q →
+      ((new : Heap) (v : Value) → Grows n.heap new → IsOf new tya v → IsLiteral w.Body v →
       Does (after_it n new last) (nums_left tya v) (refs_left tya v) (b v) ty nb q k) →
       Does n bn br (a >>= b) ty need p k
   unfolding ◌>>=◌
@@ -262,7 +284,7 @@ module _ (w : Way) where
   -- one part, and then another that takes its value
   pub does_then : {n : Origin} {bn : List ℤ} {br : List Value} {a : Meaning} {tya ty : TyView} {last : Standing} (b : Value → Meaning)
       (na nb need p q k : ℕ) →
-      na ≤ need → nb ≤ need → Leads n last tya a → Does n bn br a tya na p q →
+      na ≤ need → nb ≤ need → Leads w.Body n last tya a → Does n bn br a tya na p q →
       ((new : Heap) (v : Value) → Grows n.heap new → IsOf new tya v → Does (after_it n new last) (nums_left tya v) (refs_left tya v) (b v) ty nb q k)
       →
       Does n bn br (a >>= b) ty need p k
@@ -271,22 +293,22 @@ module _ (w : Way) where
 
   comes_over : (n : Origin) (last : Standing) (nb q k : ℕ) (bn : List ℤ) (br : List Value) (nums : List ℤ) (refs : List Value) (tya ty : TyView)
       (b : Value → Meaning) →
-      ((new : Heap) (v : Value) → Grows n.heap new → IsOf new tya v → IsLiteral Fits v →
+      ((new : Heap) (v : Value) → Grows n.heap new → IsOf new tya v → IsLiteral w.Body v →
       Does (after_it n new last) (nums_left tya v ++ bn) (refs_left tya v ++ br) (b v) ty nb q k) → Room nb nums refs → (o : Outcome) →
-      Behind n last tya o →
+      Behind w.Body n last tya o →
       Comes k nums refs ty (after o b) → Comes q (bn ++ nums) (br ++ refs) tya o
   unfolding after
   comes_over n last nb q k bn br nums refs tya ty b db room (Value_is v f s) left reach =
       subst (λ (zs : List ℤ). w.Holds (place q zs (refs_left tya v ++ (br ++ refs)) f s.store) s.events) (append_assoc (nums_left tya v) bn nums)
       (subst (λ (vs : List Value). w.Holds (place q ((nums_left tya v ++ bn) ++ nums) vs f s.store) s.events) (append_assoc (refs_left tya v) br refs)
-      ((db s.store.heap v left.grows left.value left.literal).by nums refs f s room (since_left n last tya v f s left) reach))
+      ((db s.store.held.objects v left.grows left.value left.literal).by nums refs f s room (since_left n last tya v f s left) reach))
   comes_over n last nb q k bn br nums refs tya ty b db room (Ends e s) left reach = reach
 
   -- one part over words that stay, and then another that takes its value, of which each procedure fits, and those words
   pub does_over_held : {n : Origin} {a : Meaning} {tya ty : TyView} {last : Standing} (bn : List ℤ) (br : List Value) (b : Value → Meaning)
       (m na nb need p q k : ℕ) →
-      length bn ≤ m → length br ≤ m → na + m ≤ need → nb ≤ need → Leads n last tya a → Does n [] [] a tya na p q →
-      ((new : Heap) (v : Value) → Grows n.heap new → IsOf new tya v → IsLiteral Fits v →
+      length bn ≤ m → length br ≤ m → na + m ≤ need → nb ≤ need → Leads w.Body n last tya a → Does n [] [] a tya na p q →
+      ((new : Heap) (v : Value) → Grows n.heap new → IsOf new tya v → IsLiteral w.Body v →
       Does (after_it n new last) (nums_left tya v ++ bn) (refs_left tya v ++ br) (b v) ty nb q k) → Does n bn br (a >>= b) ty need p k
   unfolding ◌>>=◌
   does_over_held {n = n} {a = a} {tya = tya} {ty = ty} {last = last} bn br b m na nb need p q k few_nums few_refs le_a le_b leads da db = record {
@@ -298,7 +320,7 @@ module _ (w : Way) where
   -- one part over words that stay, and then another that takes its value and those words
   pub does_over : {n : Origin} {a : Meaning} {tya ty : TyView} {last : Standing} (bn : List ℤ) (br : List Value) (b : Value → Meaning)
       (m na nb need p q k : ℕ) →
-      length bn ≤ m → length br ≤ m → na + m ≤ need → nb ≤ need → Leads n last tya a → Does n [] [] a tya na p q →
+      length bn ≤ m → length br ≤ m → na + m ≤ need → nb ≤ need → Leads w.Body n last tya a → Does n [] [] a tya na p q →
       ((new : Heap) (v : Value) → Grows n.heap new → IsOf new tya v →
       Does (after_it n new last) (nums_left tya v ++ bn) (refs_left tya v ++ br) (b v) ty nb q k) → Does n bn br (a >>= b) ty need p k
   does_over bn br b m na nb need p q k few_nums few_refs le_a le_b leads da db =
@@ -318,7 +340,7 @@ module _ (w : Way) where
   pub does_give : (n : Origin) (p need : ℕ) (bn : List ℤ) (br : List Value) (v : Value) (ty : TyView) (i : Instr) →
       ((nums : List ℤ) (refs : List Value) (f : Frame) (store : Store) → Room need nums refs →
       act i (place p (bn ++ nums) (br ++ refs) f store) ≡ on (place (p + width_of i) (nums_left ty v ++ nums) (refs_left ty v ++ refs) f store)) →
-      IsAt (code_in w.unit) p i → Does n bn br (give v) ty need p (p + width_of i)
+      AtBy w.Allows w.unit p i → Does n bn br (give v) ty need p (p + width_of i)
   unfolding give
   does_give n p need bn br v ty i acts at = record {
     by = λ nums refs f s room since reach. quiet i at (acts nums refs f s.store room) reach;
@@ -332,7 +354,7 @@ module _ (w : Way) where
       push_ref v (place p nums refs f store) ≡ on (place p nums (v ∷ refs) f store)
   push_ref_goes p v nums refs f store room = if_lt ((frame_in w.unit).refs + length refs) frame_words _ _ (let h = room.on_refs in omega arith)
 
-  pub does_get : (n : Origin) (p slot : ℕ) {ty : TyView} → IsNum ty → slot < (frame_in w.unit).nums → IsAt (code_in w.unit) p (instr.GetM slot) →
+  pub does_get : (n : Origin) (p slot : ℕ) {ty : TyView} → IsNum ty → slot < (frame_in w.unit).nums → AtBy w.Allows w.unit p (instr.GetM slot) →
       Does n [] [] (get (Plain slot) ty) ty 1 p (p + 5)
   unfolding get
   does_get n p slot int below at = record {
@@ -345,12 +367,12 @@ module _ (w : Way) where
   }
 
   pub got_ref : (n : Origin) (p slot : ℕ) (f : Frame) (s : State) (nums : List ℤ) (refs : List Value) → slot < (frame_in w.unit).refs →
-      IsAt (code_in w.unit) p (instr.GetP slot) →
+      AtBy w.Allows w.unit p (instr.GetP slot) →
       Room 1 nums refs → w.Holds (place (p + 5) nums (compiled (f.refs slot) ∷ refs) f s.store) s.events → w.Holds (place p nums refs f s.store) s.events
   got_ref n p slot f s nums refs below at room reach =
       quiet (instr.GetP slot) at (if_lt slot (frame_in w.unit).refs _ _ below ∙ push_ref_goes (p + 5) (compiled (f.refs slot)) nums refs f s.store room) reach
 
-  pub does_get_ref : (n : Origin) (p slot : ℕ) {ty : TyView} → IsRef ty → slot < (frame_in w.unit).refs → IsAt (code_in w.unit) p (instr.GetP slot) →
+  pub does_get_ref : (n : Origin) (p slot : ℕ) {ty : TyView} → IsRef ty → slot < (frame_in w.unit).refs → AtBy w.Allows w.unit p (instr.GetP slot) →
       Does n [] [] (get (Plain slot) ty) ty 1 p (p + 5)
   unfolding get
   does_get_ref n p slot str below at =
@@ -371,14 +393,14 @@ module _ (w : Way) where
   with_values at nums refs row f store = record (place at nums refs f store) { locals = record { nums = λ slot. word_of (f.nums slot); refs = row } }
 
   pub set_goes : (p slot : ℕ) (v : Value) (nums : List ℤ) (refs : List Value) (f : Frame) (s : State) → slot < (frame_in w.unit).nums →
-      IsAt (code_in w.unit) p (instr.SetM slot) → w.Holds (place (p + 5) nums refs (record f { nums = with_local f.nums slot v }) s.store) s.events →
+      AtBy w.Allows w.unit p (instr.SetM slot) → w.Holds (place (p + 5) nums refs (record f { nums = with_local f.nums slot v }) s.store) s.events →
       w.Holds (place p (word_of v ∷ nums) refs f s.store) s.events
   set_goes p slot v nums refs f s below at reach =
       quiet (instr.SetM slot) at (if_lt slot (frame_in w.unit).nums _ _ below)
       (subst (λ (row : ℕ → ℤ). w.Holds (with_words (p + 5) nums refs row f s.store) s.events) (words_set f.nums slot v) reach)
 
   pub does_set : (n : Origin) (p slot : ℕ) {ty : TyView} (v : Value) → IsNum ty → slot < (frame_in w.unit).nums →
-      IsAt (code_in w.unit) p (instr.SetM slot) →
+      AtBy w.Allows w.unit p (instr.SetM slot) →
       Does n (word_of v ∷ []) [] (set (Plain slot) ty v) types.Void 0 p (p + 5)
   unfolding set
   does_set n p slot v int below at = record {
@@ -389,14 +411,14 @@ module _ (w : Way) where
   }
 
   pub set_ref_goes : (p slot : ℕ) (v : Value) (nums : List ℤ) (refs : List Value) (f : Frame) (s : State) → slot < (frame_in w.unit).refs →
-      IsAt (code_in w.unit) p (instr.SetP slot) → w.Holds (place (p + 5) nums refs (record f { refs = with_local f.refs slot v }) s.store) s.events →
+      AtBy w.Allows w.unit p (instr.SetP slot) → w.Holds (place (p + 5) nums refs (record f { refs = with_local f.refs slot v }) s.store) s.events →
       w.Holds (place p nums (compiled v ∷ refs) f s.store) s.events
   set_ref_goes p slot v nums refs f s below at reach =
       quiet (instr.SetP slot) at (if_lt slot (frame_in w.unit).refs _ _ below)
       (subst (λ (row : ℕ → Value). w.Holds (with_values (p + 5) nums refs row f s.store) s.events) (refs_set f.refs slot v) reach)
 
   pub does_set_ref : (n : Origin) (p slot : ℕ) {ty : TyView} (v : Value) → IsRef ty → slot < (frame_in w.unit).refs →
-      IsAt (code_in w.unit) p (instr.SetP slot) →
+      AtBy w.Allows w.unit p (instr.SetP slot) →
       Does n [] (compiled v ∷ []) (set (Plain slot) ty v) types.Void 0 p (p + 5)
   unfolding set
   does_set_ref n p slot v str below at =
@@ -426,7 +448,7 @@ module _ (w : Way) where
   pub does_answer : (n : Origin) (p : ℕ) (bn : List ℤ) (a : Answer) (line : Line) (i : Instr) →
       ((nums : List ℤ) (refs : List Value) (f : Frame) (store : Store) →
       act i (place p (bn ++ nums) refs f store) ≡ answered line a (place (p + width_of i) nums refs f store)) →
-      IsAt (code_in w.unit) p i → Does n bn [] (answer line a) types.Int 0 p (p + width_of i)
+      AtBy w.Allows w.unit p i → Does n bn [] (answer line a) types.Int 0 p (p + width_of i)
   unfolding answer give stop
   does_answer n p bn (Gives z) line i acts at = record {
     by = λ nums refs f s room since reach. quiet i at (acts nums refs f s.store) reach;
@@ -435,21 +457,29 @@ module _ (w : Way) where
     by = λ nums refs f s room since reach. halt i at (acts nums refs f s.store) reach;
   }
 
+  -- what is output is as it was
+  out_compiled : (bytes : List ℕ) (counted : ℕ) → some_out bytes counted ≡ compiled_events (some_out bytes counted)
+  out_compiled [] counted = refl
+  out_compiled (byte ∷ bytes) counted = refl
+
   write_goes : (q : ℕ) (before : Config) (line : Line) (width : Option ℤ) (bytes : List ℕ) (i : Instr) (fits : Bool) (nums : List ℤ)
       (refs : List Value)
-      (f : Frame) (s : State) → before.store.counted ≡ s.store.counted → IsAt (code_in before.unit) before.at i →
-      act i before ≡ (if fits then Goes (some_out (in_places width bytes) s.store.counted) (place q nums refs f s.store) else Stops
-      (Trapped TooLong line)) →
+      (f : Frame) (s : State) → before.store.held.counted ≡ s.store.held.counted → AtBy w.Allows before.unit before.at i →
+      act i before ≡ (if fits then Goes (some_out (in_places width bytes) s.store.held.counted) (place q nums refs f s.store) else Stops
+      (Trapped TooLong line) 0) →
       Comes q nums refs types.Void ((if fits then emit (in_places width bytes) else stop (Trapped TooLong line)) f s) → w.Holds before s.events
   unfolding emit stop
-  write_goes q before line width bytes i true nums refs f s same at acts reach = step i at acts reach
+  write_goes q before line width bytes i true nums refs f s same at acts reach =
+      let events = some_out (in_places width bytes) s.store.held.counted in
+      step events i at
+      (acts ∙ ap (λ (es : List Event). Goes es (place q nums refs f s.store)) (out_compiled (in_places width bytes) s.store.held.counted)) reach
   write_goes q before line width bytes i false nums refs f s same at acts reach = halt_there i s same at acts reach
 
   -- an instruction that writes
   pub does_write : (n : Origin) (p : ℕ) (bn : List ℤ) (br : List Value) (line : Line) (width : Option ℤ) (bytes : List ℕ) (i : Instr) →
       ((nums : List ℤ) (refs : List Value) (f : Frame) (store : Store) →
       act i (place p (bn ++ nums) (br ++ refs) f store) ≡ machine.written line width bytes (place (p + width_of i) nums refs f store)) →
-      IsAt (code_in w.unit) p i → Does n bn br (written line width bytes) types.Void 0 p (p + width_of i)
+      AtBy w.Allows w.unit p i → Does n bn br (written line width bytes) types.Void 0 p (p + width_of i)
   unfolding written
   does_write n p bn br line width bytes i acts at = record {
     by = λ nums refs f s room since reach.
@@ -459,20 +489,20 @@ module _ (w : Way) where
 
   -- an instruction that ends the run
   pub does_stop : (n : Origin) (p k : ℕ) (ty : TyView) (e : End) (i : Instr) →
-      ((nums : List ℤ) (refs : List Value) (f : Frame) (store : Store) → act i (place p nums refs f store) ≡ Stops e) → IsAt (code_in w.unit) p i →
+      ((nums : List ℤ) (refs : List Value) (f : Frame) (store : Store) → act i (place p nums refs f store) ≡ Stops e 0) → AtBy w.Allows w.unit p i →
       Does n [] [] (stop e) ty 0 p k
   unfolding stop
   does_stop n p k ty e i acts at = record { by = λ nums refs f s room since reach. halt i at (acts nums refs f s.store) reach }
 
   -- Jumps. A test takes a number, and goes on or jumps.
-  pub jump_goes : {c : Config} {so_far : List Event} (p to : ℕ) (d : Config) (i : Instr) → IsAt (code_in c.unit) c.at i → act i c ≡ forward p to d →
+  pub jump_goes : {c : Config} {so_far : List Event} (p to : ℕ) (d : Config) (i : Instr) → AtBy w.Allows c.unit c.at i → act i c ≡ forward p to d →
       p < to →
       w.Holds (record d { at = to }) so_far → w.Holds c so_far
   jump_goes p to d i at acts lt reach = quiet i at (acts ∙ if_lt p to _ _ lt) reach
 
   pub does_jump_false : {n : Origin} {ty : TyView} (need p k to : ℕ) (v : Value) (a b : Meaning) → Does n [] [] a ty need (p + 5) k →
       Does n [] [] b ty need to k → p < to →
-      IsAt (code_in w.unit) p (instr.JumpFalse to) → (c : Bool) → is_one (word_of v) ≡ c → Does n (word_of v ∷ []) [] (choose c a b) ty need p k
+      AtBy w.Allows w.unit p (instr.JumpFalse to) → (c : Bool) → is_one (word_of v) ≡ c → Does n (word_of v ∷ []) [] (choose c a b) ty need p k
   unfolding choose
   does_jump_false need p k to v a b da db lt at true is = record {
     by = λ nums refs f s room since reach. quiet (instr.JumpFalse to) at (if_true (is_one (word_of v)) _ _ is) (da.by nums refs f s room since reach);
@@ -484,7 +514,7 @@ module _ (w : Way) where
   }
 
   pub does_and : {n : Origin} (need p k : ℕ) (v : Value) (b : Meaning) → Does n [] [] b types.Bool need (p + 5) k → p < k →
-      IsAt (code_in w.unit) p (instr.And k) →
+      AtBy w.Allows w.unit p (instr.And k) →
       (c : Bool) → is_one (word_of v) ≡ c → Does n (word_of v ∷ []) [] (choose c b (give v)) types.Bool need p k
   unfolding choose give
   does_and need p k v b db lt at true is = record {
@@ -496,7 +526,7 @@ module _ (w : Way) where
   }
 
   pub does_or : {n : Origin} (need p k : ℕ) (v : Value) (b : Meaning) → Does n [] [] b types.Bool need (p + 5) k → p < k →
-      IsAt (code_in w.unit) p (instr.Or k) →
+      AtBy w.Allows w.unit p (instr.Or k) →
       (c : Bool) → is_one (word_of v) ≡ c → Does n (word_of v ∷ []) [] (choose c (give v) b) types.Bool need p k
   unfolding choose give
   does_or need p k v b db lt at true is = record {
@@ -507,7 +537,7 @@ module _ (w : Way) where
     by = λ nums refs f s room since reach. quiet (instr.Or k) at (if_false (is_one (word_of v)) _ _ is) (db.by nums refs f s room since reach);
   }
 
-  comes_jump : (q k : ℕ) (nums : List ℤ) (refs : List Value) (ty : TyView) → q < k → IsAt (code_in w.unit) q (instr.Jump k) → (o : Outcome) →
+  comes_jump : (q k : ℕ) (nums : List ℤ) (refs : List Value) (ty : TyView) → q < k → AtBy w.Allows w.unit q (instr.Jump k) → (o : Outcome) →
       Comes k nums refs ty o → Comes q nums refs ty o
   comes_jump q k nums refs ty lt at (Value_is v f s) reach =
       jump_goes q k (place (q + 5) (nums_left ty v ++ nums) (refs_left ty v ++ refs) f s.store) (instr.Jump k) at refl lt reach
@@ -515,7 +545,7 @@ module _ (w : Way) where
 
   -- a clause, and then a jump
   pub does_jump : {n : Origin} {bn : List ℤ} {br : List Value} {a : Meaning} {ty : TyView} {need p : ℕ} (q k : ℕ) → q < k →
-      IsAt (code_in w.unit) q (instr.Jump k) →
+      AtBy w.Allows w.unit q (instr.Jump k) →
       Does n bn br a ty need p q → Does n bn br a ty need p k
   does_jump {a = a} {ty = ty} q k lt at da = record {
     by = λ nums refs f s room since reach. da.by nums refs f s room since (comes_jump q k nums refs ty lt at (a f s) reach);
@@ -523,7 +553,7 @@ module _ (w : Way) where
 
   -- a jump, and then a clause
   pub jump_does : {n : Origin} {bn : List ℤ} {br : List Value} {a : Meaning} {ty : TyView} {need k : ℕ} (p to : ℕ) → p < to →
-      IsAt (code_in w.unit) p (instr.Jump to) →
+      AtBy w.Allows w.unit p (instr.Jump to) →
       Does n bn br a ty need to k → Does n bn br a ty need p k
   jump_does {bn = bn} {br = br} p to lt at da = record {
     by = λ nums refs f s room since reach.
@@ -533,7 +563,7 @@ module _ (w : Way) where
   -- an instruction that takes a turn and goes to a place, where one is left
   pub turn_goes : (k to : ℕ) (before : Config) (i : Instr) (nums after_nums : List ℤ) (refs after_refs : List Value) (ty : TyView) (f : Frame)
       (s : State)
-      (turns : ℕ) (next : Value → Meaning) → before.store.counted ≡ s.store.counted → IsAt (code_in before.unit) before.at i →
+      (turns : ℕ) (next : Value → Meaning) → before.store.held.counted ≡ s.store.held.counted → AtBy w.Allows before.unit before.at i →
       act i before ≡ turn_to (with_turns (compiled_store s.store) turns) to (place (before.at + width_of i) nums refs f s.store) →
       ((events : List Event) (left : ℕ) → left < turns →
       Comes k after_nums after_refs ty (next Nothing f (record { events = events; store = record s.store { turns = left } })) →
@@ -542,14 +572,14 @@ module _ (w : Way) where
   unfolding after
   turn_goes k to before i nums after_nums refs after_refs ty f s zero next same at acts rest reach = halt_there i s same at acts reach
   turn_goes k to before i nums after_nums refs after_refs ty f s (suc left) next same at acts rest reach =
-      step i at acts (rest (s.events ++ Turn s.store.counted ∷ []) left (omega arith) reach)
+      step (Turn s.store.held.counted ∷ []) i at acts (rest (s.events ++ Turn s.store.held.counted ∷ []) left (omega arith) reach)
 
   -- the test of a loop: with a turn to the start of its clause, or on
   again_goes : (p to : ℕ) (v : Value) (nums : List ℤ) (refs : List Value) (f : Frame) (store : Store) → to < p → is_one (word_of v) ≡ true →
       act (instr.Again to) (place p (word_of v ∷ nums) refs f store) ≡ turn_to (spent (compiled_store store)) to (place (p + 5) nums refs f store)
   again_goes p to v nums refs f store lt is = if_true (is_one (word_of v)) _ _ is ∙ if_lt to p _ _ lt
 
-  does_last : (heap : Heap) (known : Standing) (need p to : ℕ) (v : Value) → to < p → IsAt (code_in w.unit) p (instr.Again to) →
+  does_last : (heap : Heap) (known : Standing) (need p to : ℕ) (v : Value) → to < p → AtBy w.Allows w.unit p (instr.Again to) →
       (c : Bool) → is_one (word_of v) ≡ c →
       Does (record { turns = 0; heap = heap; known = known }) (word_of v ∷ []) [] (choose c (stop OutOfTurns) (give Nothing)) types.Void need p
       (p + 5)
@@ -566,7 +596,7 @@ module _ (w : Way) where
 
   does_again : (n need p to : ℕ) (heap : Heap) (known : Standing) (v : Value) (next : Value → Meaning) →
       Does (record { turns = n; heap = heap; known = known }) [] [] (next Nothing) types.Void need to (p + 5) → to < p →
-      IsAt (code_in w.unit) p (instr.Again to) → (c : Bool) → is_one (word_of v) ≡ c →
+      AtBy w.Allows w.unit p (instr.Again to) → (c : Bool) → is_one (word_of v) ≡ c →
       Does (record { turns = suc n; heap = heap; known = known }) (word_of v ∷ []) [] (choose c (take_turn >>= next) (give Nothing)) types.Void
       need p (p + 5)
   unfolding choose give take_turn ◌>>=◌
@@ -576,16 +606,16 @@ module _ (w : Way) where
         at
         (again_goes p to v nums refs f s.store lt is)
         (λ events left less. d.by nums refs f _ room
-        (record { few = let few = since.few in omega arith; grows = since.grows; typed = since.typed; are = since.are; held = since.held })) reach;
+        (record { few = let few = since.few in omega arith; grows = since.grows; typed = since.typed; are = since.are; held = since.held; weighs = since.weighs })) reach;
   }
   does_again n need p to heap known v next d lt at false is = record {
     by = λ nums refs f s room since reach. quiet (instr.Again to) at (if_false (is_one (word_of v)) _ _ is) reach;
   }
 
   -- The test from p on, the clause from `to` on up to p, and the end of the loop after the test.
-  pub does_while : (n : Origin) (need nc na p q to : ℕ) (test clause : Meaning) → nc ≤ need → na ≤ need → Leads n n.known types.Bool test →
-      Leads n n.known types.Void clause → Does n [] [] test types.Bool nc p q → Does n [] [] clause types.Void na to p → to < q →
-      IsAt (code_in w.unit) q (instr.Again to) → (m : ℕ) (heap : Heap) → m ≤ n.turns → Grows n.heap heap →
+  pub does_while : (n : Origin) (need nc na p q to : ℕ) (test clause : Meaning) → nc ≤ need → na ≤ need → Leads w.Body n n.known types.Bool test →
+      Leads w.Body n n.known types.Void clause → Does n [] [] test types.Bool nc p q → Does n [] [] clause types.Void na to p → to < q →
+      AtBy w.Allows w.unit q (instr.Again to) → (m : ℕ) (heap : Heap) → m ≤ n.turns → Grows n.heap heap →
       Does (record { turns = m; heap = heap; known = n.known }) [] [] (while_turns m test clause) types.Void need p (q + 5)
   unfolding while_turns
   does_while n need nc na p q to test clause le_c le_a lt_c lt_a dt dc lt at zero heap le g =
@@ -614,21 +644,21 @@ module _ (w : Way) where
   -- what the machine does for an outcome
   abbrev pub stepped : ℕ → List ℤ → List Value → TyView → Outcome → Step
   stepped k nums refs ty (Value_is v f s) = on (place k (nums_left ty v ++ nums) (refs_left ty v ++ refs) f s.store)
-  stepped k nums refs ty (Ends e s) = Stops e
+  stepped k nums refs ty (Ends e s) = Stops e 0
 
   by_outcome : (k : ℕ) (nums : List ℤ) (refs : List Value) (ty : TyView) (before : Config) (old : State) (i : Instr) (o : Outcome) →
-      IsAt (code_in before.unit) before.at i → before.store.counted ≡ old.store.counted → act i before ≡ stepped k nums refs ty o → IsQuiet old o →
+      AtBy w.Allows before.unit before.at i → before.store.held.counted ≡ old.store.held.counted → act i before ≡ stepped k nums refs ty o → IsQuiet old o →
       Comes k nums refs ty o → w.Holds before old.events
   by_outcome k nums refs ty before old i (Value_is v f s) at same acts is reach =
       quiet i at acts (subst (λ (es : List Event). w.Holds (place k (nums_left ty v ++ nums) (refs_left ty v ++ refs) f s.store) es) is reach)
   by_outcome k nums refs ty before old i (Ends e s) at same acts is reach =
-      halt_there i old same at acts (subst (λ (t : State). w.Final e t.store.counted t.events) is reach)
+      halt_there i old same at acts (subst (λ (t : State). w.Final e t.store.held.counted t.events) is reach)
 
   -- an instruction that does what is meant
   pub does_meant : {n : Origin} {bn : List ℤ} {br : List Value} {m : Meaning} {ty : TyView} (p need : ℕ) (i : Instr) →
-      ((nums : List ℤ) (refs : List Value) (f : Frame) (s : State) → Room need nums refs → IsSince n f s →
+      ((nums : List ℤ) (refs : List Value) (f : Frame) (s : State) → Room need nums refs → IsSince w.Body n f s →
       act i (place p (bn ++ nums) (br ++ refs) f s.store) ≡ stepped (p + width_of i) nums refs ty (m f s)) →
-      IsQuietly m → IsAt (code_in w.unit) p i → Does n bn br m ty need p (p + width_of i)
+      IsQuietly m → AtBy w.Allows w.unit p i → Does n bn br m ty need p (p + width_of i)
   does_meant {bn = bn} {br = br} {m = m} {ty = ty} p need i acts is at = record {
     by = λ nums refs f s room since reach.
         by_outcome (p + width_of i) nums refs ty (place p (bn ++ nums) (br ++ refs) f s.store) s i (m f s) at refl (acts nums refs f s room since)

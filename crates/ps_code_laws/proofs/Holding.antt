@@ -11,30 +11,41 @@ use Rattle.ps_gen.specs.ps_program.declared.place.Place.TheVariants.{Plain, Kept
 use Rattle.ps_gen.specs.ps_program.Node.{Param, Node, Nodes, none, more, Arms, no_arms, more_arms, arm, BodyNode, body}
 use Rattle.ps_gen.specs.ps_program.Node as node
 use Rattle.ps_typing_laws.specs.ps_typing.Placing.{is_number}
+use Rattle.ps_typing_laws.specs.ps_typing.Library.{caller}
 use Rattle.ps_stepping.specs.ps_heap.Operators.{Answer, Gives, Traps, is_same}
-use Rattle.ps_stepping.specs.ps_heap.Ends.{End}
+use Rattle.ps_stepping.specs.ps_heap.Ends.{End, OutOfTurns}
 use Rattle.ps_stepping.specs.ps_heap.Values.{Value, Num, Flag, Text, Nil, Pointer, Vector, Procedure, Nothing, as_written, word_of, flag_of}
 use Rattle.ps_stepping.specs.ps_heap.Texts.{Attempt, Yields, Fails, line_read, behind_line}
 use Rattle.ps_stepping.specs.ps_heap.Objects.{Heap, Object, Structure, type_in, vector_in}
 use Rattle.ps_stepping.specs.ps_heap.Scopes.{new_scope}
-use Rattle.ps_stepping.specs.ps_meaning.Meaning.{Frame, State, Outcome, Value_is, Ends, Meaning, give, stop, after, ◌>>=◌, choose, answer, attempt, with_heap, put_heap, made, made_text, made_procedure, with_input, put_input, enter, back_in, back_to, scoped, in_scope, in_frame, emit, in_places, is_width, written, with_turns, turned, take_turn, with_local, unbuilt, get, set}
+use Rattle.ps_stepping.specs.ps_heap.Tables.{Key, string_key, int_key}
+use Rattle.ps_stepping.specs.ps_heap.References.{scope_ids}
+use Rattle.ps_stepping.specs.ps_heap.Held.{Held, assigning, touching, reading}
+use Rattle.ps_stepping.specs.ps_heap.Held as held
+use Rattle.ps_stepping.specs.ps_heap.Calls as calls
+use Rattle.ps_stepping.specs.ps_heap.Library.{LibraryProcedure, OnHeap, ReadLine, AtEnd, Length, IntText, library_procedure, heap_call}
+use Rattle.ps_stepping.specs.ps_heap.Scans.{Found, most_scan_calls, next_key, shown_key, scan_arguments}
+use Rattle.ps_stepping.specs.ps_meaning.Meaning.{Frame, State, Outcome, Value_is, Ends, Meaning, give, stop, after, ◌>>=◌, choose, answer, attempt, with_heap, change, touch, touch_scope, read, assign, put_answer, answered, made, made_text, made_procedure, with_input, put_input, enter, back_in, back_to, scoped, in_scope, in_frame, emit, in_places, is_width, written, with_turns, turned, take_turn, with_local, get, set}
 use Rattle.ps_stepping.specs.ps_meaning.Frames.{stands_on, arguments_on, frame_of_call, keep, keep_all}
 use Rattle.ps_stepping.specs.ps_meaning.Calls.{body_meant, call_within, context}
-use Rattle.ps_stepping.specs.ps_meaning.Evaluation.{Context, while_turns, Counting, goes_on, in_turn, for_turns, for_loop, for_meant, kept_all, is_equal, make_meant, elements_meant, most_calls, call_meant, read_line, at_end, lib_meant, eval, eval_all, eval_each, eval_arms, eval_labels}
+use Rattle.ps_stepping.specs.ps_meaning.Operations.{kept_all, is_equal, make_meant, elements_meant, read_line, at_end, lib_meant}
+use Rattle.ps_stepping.specs.ps_meaning.Loops.{while_turns, Counting, goes_on, in_turn, for_turns, for_loop, for_meant, Scanning, set_last, scan_call, scan_next, scan_turns, begin_scan}
+use Rattle.ps_stepping.specs.ps_meaning.Evaluation.{Context, most_calls, call_meant, eval, eval_all, eval_each, eval_arms, eval_labels}
 use Rattle.ps_soundness.specs.Valued.{IsValued}
 use Rattle.ps_code_laws.specs.Literals.{BodiesAre, BodyIs, AllBodiesAre, ArmsBodiesAre}
 use Rattle.ps_code_laws.proofs.Literals.{IsLiteral, AreLiterals, InObject, InHeap, InFrame, OnYield, in_kept_name, in_kept, in_kept_all, in_kept_elements, in_first, in_field, in_with_field, in_vector_of, in_filled, in_element, in_with_element, in_with_kept_name, in_with_new, in_row}
+use Rattle.ps_code_laws.proofs.LibraryWalks.{scan_by, IsKept, heap_call_kept}
 
 module _ (P : BodyNode → Type 0) where
   abbrev pub Literal : Value → Type 0
   Literal v = IsLiteral P v
 
   abbrev pub Left : Outcome → Type 0
-  Left (Value_is v f s) = IsLiteral P v × InFrame P f × InHeap P s.store.heap
+  Left (Value_is v f s) = IsLiteral P v × InFrame P f × InHeap P s.store.held.objects
   Left (Ends e s) = Unit {0}
 
   abbrev pub Holds : Meaning → Type 0
-  Holds m = (f : Frame) (s : State) → InFrame P f → InHeap P s.store.heap → Left (m f s)
+  Holds m = (f : Frame) (s : State) → InFrame P f → InHeap P s.store.held.objects → Left (m f s)
 
   holds_after : (o : Outcome) (b : Value → Meaning) → Left o → ((v : Value) → Literal v → Holds (b v)) → Left (after o b)
   unfolding after
@@ -70,15 +81,37 @@ module _ (P : BodyNode → Type 0) where
 
   holds_with_heap : (next : Heap → Meaning) → ((heap : Heap) → InHeap P heap → Holds (next heap)) → Holds (with_heap next)
   unfolding with_heap
-  holds_with_heap next h f s in_frame in_heap = h s.store.heap in_heap f s in_frame in_heap
+  holds_with_heap next h f s in_frame in_heap = h s.store.held.objects in_heap f s in_frame in_heap
 
-  holds_put_heap : (heap : Heap) → InHeap P heap → Holds (put_heap heap)
-  unfolding put_heap
-  holds_put_heap heap is f s in_frame in_heap = (tt, in_frame, is)
+  holds_change : (v : Value) (does : Held → Held) → Literal v → ((h : Held) → InHeap P h.objects → InHeap P (does h).objects) → Holds (change v does)
+  unfolding change
+  holds_change v does is h f s in_frame in_heap = (is, in_frame, h s.store.held in_heap)
+
+  holds_touch : (ids : List ℕ) → Holds (touch ids)
+  holds_touch ids = holds_change Nothing (touching ids) tt (λ h are. are)
+
+  holds_touch_scope : Holds touch_scope
+  holds_touch_scope f s in_frame in_heap = holds_touch (scope_ids f.scope) f s in_frame in_heap
+
+  holds_read_value : (v : Value) → Literal v → Holds (read v)
+  holds_read_value v is = holds_change v (reading v) is (λ h are. are)
+
+  holds_assign : (place : held.Place) (heap : Heap) → InHeap P heap → Holds (assign place heap)
+  holds_assign place heap is = holds_change Nothing (assigning place heap) tt (λ h are. is)
+
+  attempt_holds : (line : Line) (a : Attempt calls.Answer) (f : Frame) (s : State) → OnYield P (IsKept P s.store.held) a → InFrame P f →
+      InHeap P s.store.held.objects → Left (attempt line a put_answer f s)
+  unfolding attempt put_answer stop
+  attempt_holds line (Yields a) f s h in_frame in_heap = (h.2, in_frame, h.1 in_heap)
+  attempt_holds line (Fails trap) f s h in_frame in_heap = tt
+
+  holds_answered : (line : Line) (call : Held → Attempt calls.Answer) → ((h : Held) → OnYield P (IsKept P h) (call h)) → Holds (answered line call)
+  unfolding answered
+  holds_answered line call h f s in_frame in_heap = attempt_holds line (call s.store.held) f s (h s.store.held) in_frame in_heap
 
   holds_made : (denoting : ℕ → Value) (object : Object) → ((id : ℕ) → Literal (denoting id)) → InObject P object → Holds (made denoting object)
   unfolding made
-  holds_made denoting object h is f s in_frame in_heap = (h _, in_frame, in_with_new P s.store.heap object in_heap is)
+  holds_made denoting object h is f s in_frame in_heap = (h _, in_frame, in_with_new P s.store.held.objects object in_heap is)
 
   holds_made_text : (bytes : List ℕ) → Holds (made_text bytes)
   unfolding made_text
@@ -92,7 +125,7 @@ module _ (P : BodyNode → Type 0) where
   unfolding written
   holds_written line width bytes = holds_either (is_width width) _ _ (holds_emit (in_places width bytes)) (holds_stop _)
 
-  turned_holds : (f : Frame) (s : State) (turns : ℕ) → InFrame P f → InHeap P s.store.heap → Left (turned (with_turns s.store turns) f s)
+  turned_holds : (f : Frame) (s : State) (turns : ℕ) → InFrame P f → InHeap P s.store.held.objects → Left (turned (with_turns s.store turns) f s)
   turned_holds f s zero in_frame in_heap = tt
   turned_holds f s (suc left) in_frame in_heap = (tt, in_frame, in_heap)
 
@@ -100,18 +133,14 @@ module _ (P : BodyNode → Type 0) where
   unfolding take_turn
   holds_turn f s in_frame in_heap = turned_holds f s s.store.turns in_frame in_heap
 
-  holds_unbuilt : Holds unbuilt
-  unfolding unbuilt give
-  holds_unbuilt f s in_frame in_heap = (tt, in_frame, in_heap)
-
   read_local : (f : Frame) (slot : ℕ) (number : Bool) → InFrame P f → Literal (if number then f.nums slot else f.refs slot)
   read_local f slot true h = h.0 slot
   read_local f slot false h = h.1 slot
 
   holds_get : (place : Place) (ty : TyView) → Holds (get place ty)
-  unfolding get
+  unfolding get change
   holds_get (Plain slot) ty f s in_frame in_heap = (read_local f slot (is_number ty) in_frame, in_frame, in_heap)
-  holds_get (Kept up position) ty f s in_frame in_heap = (in_kept_name P s.store.heap f.scope up position in_heap, in_frame, in_heap)
+  holds_get (Kept up position) ty f s in_frame in_heap = (in_kept_name P s.store.held.objects f.scope up position in_heap, in_frame, in_heap)
 
   put_local : (f : Frame) (slot : ℕ) (v : Value) (number : Bool) → InFrame P f → Literal v →
       InFrame P (if number then record f { nums = with_local f.nums slot v } else record f { refs = with_local f.refs slot v })
@@ -119,9 +148,13 @@ module _ (P : BodyNode → Type 0) where
   put_local f slot v false h is = (h.0, λ s. in_row P f.refs slot v h.1 is s)
 
   pub holds_set : (place : Place) (ty : TyView) (v : Value) → Literal v → Holds (set place ty v)
-  unfolding set
+  unfolding set change
   holds_set (Plain slot) ty v is f s in_frame in_heap = (tt, put_local f slot v (is_number ty) in_frame is, in_heap)
-  holds_set (Kept up position) ty v is f s in_frame in_heap = (tt, in_frame, in_with_kept_name P s.store.heap f.scope up position v in_heap is)
+  holds_set (Kept up position) ty v is f s in_frame in_heap = (tt, in_frame, in_with_kept_name P s.store.held.objects f.scope up position v in_heap is)
+
+  -- a value is put in a place, and then comes something
+  holds_set_then : (place : Place) (ty : TyView) (v : Value) (next : Meaning) → Literal v → Holds next → Holds (set place ty v >>= λ u. next)
+  holds_set_then place ty v next is h = holds_then (set place ty v) (λ u. next) (holds_set place ty v is) (λ u of. h)
 
   pub holds_made_procedure : (of : BodyNode) → BodyIs P IsValued of → Holds (made_procedure of)
   unfolding made_procedure
@@ -138,7 +171,7 @@ module _ (P : BodyNode → Type 0) where
   pub holds_enter : (text : List ℕ) → Holds (enter text)
   unfolding enter new_scope
   holds_enter text f s in_frame in_heap =
-      (tt, in_frame, in_with_new P s.store.heap (new_scope text f.scope) in_heap (in_first P (forms_of text)))
+      (tt, in_frame, in_with_new P s.store.held.objects (new_scope text f.scope) in_heap (in_first P (forms_of text)))
 
   holds_back_in : (scope : Option ℕ) (o : Outcome) → Left o → Left (back_in scope o)
   unfolding back_in
@@ -194,7 +227,7 @@ module _ (P : BodyNode → Type 0) where
     λ slot. literal_or (arguments_on false params args) slot Nil (arguments_are false params args h) tt,
   )
 
-  holds_call : (c : Context) → CallsHold c → (line : Line) (v : Value) (args : List Value) → Literal v → AreLiterals P args →
+  pub holds_call : (c : Context) → CallsHold c → (line : Line) (v : Value) (args : List Value) → Literal v → AreLiterals P args →
       Holds (call_meant c line v args)
   unfolding call_meant
   holds_call c k line (Procedure (as_written of) scope) args is are =
@@ -241,38 +274,94 @@ module _ (P : BodyNode → Type 0) where
       holds_then test _ h (λ v is. holds_choose (flag_of v) _ _
       (holds_then take_turn _ holds_turn (λ t is_t. holds_then clause _ k (λ u is_u. holds_while n test clause h k))) (holds_give Nothing tt))
 
-  any_yields : (a : Attempt (List ℕ)) → OnYield P (λ (bytes : List ℕ). Unit {0}) a
-  any_yields (Yields bytes) = tt
+  any_yields : {A : Type 0} (a : Attempt A) → OnYield P (λ (x : A). Unit {0}) a
+  any_yields (Yields x) = tt
   any_yields (Fails trap) = tt
 
-  holds_texts : (line : Line) (a : Attempt (List ℕ)) (next : List ℕ → Meaning) → ((bytes : List ℕ) → Holds (next bytes)) → Holds (attempt line a next)
-  holds_texts line a next h = holds_attempt (λ (bytes : List ℕ). Unit {0}) line a next (any_yields a) (λ bytes is. h bytes)
+  -- what goes on with anything that an attempt yields
+  holds_any : {A : Type 0} (line : Line) (a : Attempt A) (next : A → Meaning) → ((x : A) → Holds (next x)) → Holds (attempt line a next)
+  holds_any {A} line a next h = holds_attempt (λ (x : A). Unit {0}) line a next (any_yields a) (λ x is. h x)
 
   holds_read_line : (line : Line) → Holds (read_line line)
   unfolding read_line
-  holds_read_line line = holds_with_input _ (λ input. holds_texts line (line_read input) _ (λ bytes.
+  holds_read_line line = holds_with_input _ (λ input. holds_any line (line_read input) _ (λ bytes.
       holds_then (put_input (behind_line input)) _ (holds_put_input (behind_line input)) (λ u is. holds_made_text bytes)))
 
   holds_at_end : Holds at_end
   unfolding at_end
   holds_at_end = holds_with_input _ (λ input. holds_give _ tt)
 
-  holds_lib : (line : Line) (code : ℕ) (vs : List Value) → Holds (lib_meant line code vs)
-  holds_lib line code [] = holds_either (nat_eq code 9) _ _ (holds_read_line line) (holds_either (nat_eq code 10) _ _ holds_at_end holds_unbuilt)
-  holds_lib line code (v ∷ vs) =
-      holds_either (nat_eq code 11) _ _ (holds_give _ tt) (holds_either (nat_eq code 12) _ _ (holds_made_text _) holds_unbuilt)
+  holds_lib : (line : Line) (of : Option LibraryProcedure) (vs : List Value) → Holds (lib_meant line of vs)
+  holds_lib line (Some (OnHeap of)) vs = holds_answered line (heap_call of vs) (λ h. heap_call_kept P of vs h)
+  holds_lib line (Some ReadLine) vs = holds_read_line line
+  holds_lib line (Some AtEnd) vs = holds_at_end
+  holds_lib line (Some Length) vs = holds_give _ tt
+  holds_lib line (Some IntText) vs = holds_made_text _
+  holds_lib line None vs = holds_give Nothing tt
 
-  holds_put : (line : Line) (a : Heap → Attempt Heap) → ((heap : Heap) → InHeap P heap → OnYield P (InHeap P) (a heap)) →
-      Holds (with_heap (λ heap. attempt line (a heap) put_heap))
-  holds_put line a h =
-      holds_with_heap _ (λ heap is. holds_attempt (InHeap P) line (a heap) put_heap (h heap is) (λ new are. holds_put_heap new are))
+  holds_put : (line : Line) (a : Heap → Attempt Heap) (place : Heap → held.Place) →
+      ((heap : Heap) → InHeap P heap → OnYield P (InHeap P) (a heap)) →
+      Holds (with_heap (λ heap. attempt line (a heap) (assign (place heap))))
+  holds_put line a place h =
+      holds_with_heap _ (λ heap is. holds_attempt (InHeap P) line (a heap) (assign (place heap)) (h heap is)
+      (λ new are. holds_assign (place heap) new are))
 
   holds_read : (line : Line) (a : Heap → Attempt Value) → ((heap : Heap) → InHeap P heap → OnYield P (IsLiteral P) (a heap)) →
-      Holds (with_heap (λ heap. attempt line (a heap) give))
-  holds_read line a h = holds_with_heap _ (λ heap is. holds_attempt (IsLiteral P) line (a heap) give (h heap is) (λ v of. holds_give v of))
+      Holds (with_heap (λ heap. attempt line (a heap) read))
+  holds_read line a h = holds_with_heap _ (λ heap is. holds_attempt (IsLiteral P) line (a heap) read (h heap is) (λ v of. holds_read_value v of))
 
   holds_vector : (line : Line) (a : Attempt Object) → OnYield P (InObject P) a → Holds (attempt line a (made Vector))
   holds_vector line a h = holds_attempt (InObject P) line a (made Vector) h (λ object is. holds_made Vector object (λ id. tt) is)
+
+  -- scans
+  holds_last : (scan : Scanning) (key : Key) → Holds (set_last scan key)
+  holds_last scan (string_key bytes) = holds_set (Plain (scan.refs + 2)) types.Str (Text bytes) tt
+  holds_last scan (int_key z) = holds_set (Plain (scan.nums + 1)) types.Int (Num z) tt
+
+  shown_literal : (key : Key) → Literal (shown_key key)
+  shown_literal (string_key bytes) = tt
+  shown_literal (int_key z) = tt
+
+  -- what a scan calls holds literals alone
+  abbrev ScanHolds : Scanning → Type 0
+  ScanHolds scan = (args : List Value) → AreLiterals P args → Holds (scan.call args)
+
+  holds_scan_call : (scan : Scanning) → ScanHolds scan → (count : ℕ) (again : Key → Meaning) (found : Found) → ((key : Key) → Holds (again key)) →
+      Holds (scan_call scan count again found)
+  unfolding scan_call
+  holds_scan_call scan called count again found h =
+      holds_then (set_last scan found.key) _ (holds_last scan found.key) (λ u is_u.
+      holds_set_then (Plain (scan.nums + 2)) types.Int (Num (pos 1)) _ tt
+      (holds_then (scan.call (scan_arguments found)) _ (called (scan_arguments found) (shown_literal found.key, (tt, tt))) (λ more is_more.
+      holds_set_then (Plain scan.nums) types.Int (Num (pos (suc count))) _ tt
+      (holds_choose (flag_of more) _ _ (holds_then take_turn _ holds_turn (λ t is_t. h found.key)) (holds_give (Num (pos (suc count))) tt)))))
+
+  holds_scan_next : (scan : Scanning) → ScanHolds scan → (count : ℕ) (again : Key → Meaning) (found : Option Found) →
+      ((key : Key) → Holds (again key)) → Holds (scan_next scan count again found)
+  unfolding scan_next
+  holds_scan_next scan called count again None h = holds_give (Num (pos count)) tt
+  holds_scan_next scan called count again (Some found) h =
+      holds_then (touch (found.object ∷ [])) _ (holds_touch (found.object ∷ [])) (λ u is_u.
+      holds_choose (nat_eq count most_scan_calls) _ _ (holds_stop _) (holds_scan_call scan called count again found h))
+
+  holds_scan_turns : (n : ℕ) (scan : Scanning) → ScanHolds scan → (last : Option Key) (count : ℕ) → Holds (scan_turns n scan last count)
+  unfolding scan_turns
+  holds_scan_turns zero scan called last count =
+      holds_with_heap _ (λ heap in_heap. holds_any scan.line (next_key scan.strings heap scan.table last) _
+      (λ found. holds_scan_next scan called count (λ key. stop OutOfTurns) found (λ key. holds_stop OutOfTurns)))
+  holds_scan_turns (suc n) scan called last count =
+      holds_with_heap _ (λ heap in_heap. holds_any scan.line (next_key scan.strings heap scan.table last) _
+      (λ found. holds_scan_next scan called count (λ key. scan_turns n scan (Some key) (suc count)) found
+      (λ key. holds_scan_turns n scan called (Some key) (suc count))))
+
+  holds_begin_scan : (strings : Bool) (refs nums : ℕ) (a f : Meaning) (next : Value → Value → Meaning) → Holds a → Holds f →
+      ((table procedure : Value) → Literal table → Literal procedure → Holds (next table procedure)) → Holds (begin_scan strings refs nums a f next)
+  unfolding begin_scan
+  holds_begin_scan strings refs nums a f next ha hf h =
+      holds_then a _ ha (λ table is. holds_set_then (Plain refs) types.Pntr table _ is
+      (holds_then f _ hf (λ procedure of. holds_set_then (Plain (refs + 1)) (caller (if strings then types.Str else types.Int)) procedure _ of
+      (holds_set_then (Plain nums) types.Int (Num (pos 0)) _ tt (holds_set_then (Plain (nums + 1)) types.Int (Num (pos 0)) _ tt
+      (holds_set_then (Plain (nums + 2)) types.Int (Num (pos 0)) _ tt (h table procedure is of)))))))
 
   mutual
     unfolding eval eval_all eval_each eval_arms eval_labels
@@ -316,10 +405,10 @@ module _ (P : BodyNode → Type 0) where
         holds_then (eval c e) _ (holds_eval c k e r) (λ v is. holds_with_heap _ (λ heap in_heap. holds_give _ tt))
     holds_eval c k (node.Join a b line) r =
         holds_then (eval c a) _ (holds_eval c k a r.0) (λ v is. holds_then (eval c b) _ (holds_eval c k b r.1)
-        (λ w of. holds_texts line _ _ (λ bytes. holds_made_text bytes)))
+        (λ w of. holds_any line _ _ (λ bytes. holds_made_text bytes)))
     holds_eval c k (node.Part a i n line) r =
         holds_then (eval c a) _ (holds_eval c k a r.0) (λ v is. holds_then (eval c i) _ (holds_eval c k i r.1)
-        (λ from of. holds_then (eval c n) _ (holds_eval c k n r.2) (λ count so. holds_texts line _ _ (λ bytes. holds_made_text bytes))))
+        (λ from of. holds_then (eval c n) _ (holds_eval c k n r.2) (λ count so. holds_any line _ _ (λ bytes. holds_made_text bytes))))
     holds_eval c k (node.Make class args) r =
         holds_each c k args (make_meant class) r
         (λ vs are. holds_made Pointer (Structure class (kept_all (forms_of class) vs)) (λ id. tt) (in_kept_all P (forms_of class) vs are))
@@ -327,7 +416,7 @@ module _ (P : BodyNode → Type 0) where
         holds_then (eval c e) _ (holds_eval c k e r) (λ o is. holds_read line _ (λ heap in_heap. in_field P heap o class n in_heap))
     holds_eval c k (node.SetField p class n ty e line) r =
         holds_then (eval c p) _ (holds_eval c k p r.0) (λ o is. holds_then (eval c e) _ (holds_eval c k e r.1)
-        (λ v of. holds_put line _ (λ heap in_heap. in_with_field P heap o class n _ in_heap (in_kept P (form_in (forms_of class) n) v of))))
+        (λ v of. holds_put line _ _ (λ heap in_heap. in_with_field P heap o class n _ in_heap (in_kept P (form_in (forms_of class) n) v of))))
     holds_eval c k (node.Fill l u e ty line) r =
         holds_then (eval c l) _ (holds_eval c k l r.0) (λ low is. holds_then (eval c u) _ (holds_eval c k u r.1)
         (λ high of. holds_then (eval c e) _ (holds_eval c k e r.2)
@@ -342,11 +431,12 @@ module _ (P : BodyNode → Type 0) where
     holds_eval c k (node.SetElement v i e ty line) r =
         holds_then (eval c v) _ (holds_eval c k v r.0) (λ vector is. holds_then (eval c i) _ (holds_eval c k i r.1)
         (λ at of. holds_then (eval c e) _ (holds_eval c k e r.2)
-        (λ w so. holds_put line _ (λ heap in_heap. in_with_element P heap vector (word_of at) _ in_heap
+        (λ w so. holds_put line _ _ (λ heap in_heap. in_with_element P heap vector (word_of at) _ in_heap
         (in_kept P (Some (element_of (type_in (vector_in heap vector)))) w so)))))
     holds_eval c k (node.Bound v upper) r =
         holds_then (eval c v) _ (holds_eval c k v r) (λ vector is. holds_with_heap _ (λ heap in_heap. holds_give _ tt))
-    holds_eval c k (node.Lib code args line) r = holds_each c k args (lib_meant line code) r (λ vs are. holds_lib line code vs)
+    holds_eval c k (node.Lib code args line) r =
+        holds_each c k args (lib_meant line (library_procedure code)) r (λ vs are. holds_lib line (library_procedure code) vs)
     holds_eval c k (node.Write e w false ty line) r = holds_then (eval c e) _ (holds_eval c k e r.0) (λ v is. holds_written line None _)
     holds_eval c k (node.Write e w true ty line) r =
         holds_then (eval c e) _ (holds_eval c k e r.0) (λ v is. holds_then (eval c w) _ (holds_eval c k w r.1) (λ width of. holds_written line _ _))
@@ -355,7 +445,9 @@ module _ (P : BodyNode → Type 0) where
     holds_eval c k (node.Call f args line) r =
         holds_then (eval c f) _ (holds_eval c k f r.0)
         (λ v is. holds_each c k args (call_meant c line v) r.1 (λ vs are. holds_call c k line v vs is are))
-    holds_eval c k (node.Scan text a f q s line) r = holds_unbuilt
+    holds_eval c k (node.Scan text a f q s line) r =
+        holds_begin_scan text q s (eval c a) (eval c f) _ (holds_eval c k a r.0) (holds_eval c k f r.1) (λ table procedure is of.
+        holds_scan_turns c.bound (scan_by c line text q s table procedure) (λ args are. holds_call c k line procedure args of are) None 0)
 
     pub holds_all : (c : Context) → CallsHold c → (v : Value) (ts : Nodes) → Literal v → AllBodiesAre P IsValued ts → Holds (eval_all c v ts)
     holds_all c k v none is r = holds_give v is
@@ -402,7 +494,8 @@ module _ (P : BodyNode → Type 0) where
   unfolding call_within
   holds_within zero depth of args is are = holds_stop _
   holds_within (suc n) depth of args is are =
-      holds_then take_turn _ holds_turn (λ t done. holds_body (context n depth) (holds_within n (suc depth)) of args is are)
+      holds_then take_turn _ holds_turn (λ t done. holds_then touch_scope _ holds_touch_scope
+      (λ u touched. holds_body (context n depth) (holds_within n (suc depth)) of args is are))
 
   pub calls_hold : (n depth : ℕ) → CallsHold (context n depth)
   calls_hold n depth = holds_within n (suc depth)

@@ -1,5 +1,5 @@
--- A clause leaves each local of the number stack alone that it can't name: one below the free slots, and not that of a name in scope.
-use Rattle.std.proofs.Common.{◌≡◌, ℕ, zero, suc, ◌+◌, ◌<◌, ℤ, pos, ◌+ℤ◌, Bool, true, false, List, [], ◌∷◌, ◌++◌, Option, Some, None, inl, inr, refl, sym, ap, ◌∙◌, subst, arith, ne_eqb}
+-- A clause leaves each local alone that it can't name: one below the free slots of its row, and not that of a name in scope.
+use Rattle.std.proofs.Common.{◌≡◌, ℕ, zero, suc, ◌+◌, ◌≤◌, ◌<◌, ℤ, pos, ◌+ℤ◌, Bool, true, false, List, [], ◌∷◌, ◌++◌, Option, Some, None, inl, inr, refl, sym, ap, ◌∙◌, subst, arith, ne_eqb}
 use Rattle.std.specs.Prelude.{nat_eq, nat_lt, if◌then◌else◌}
 use Rattle.ps_gen.specs.ps_base.TyView.{TyView, TyViews}
 use Rattle.ps_gen.specs.ps_base.TyView as types
@@ -9,109 +9,150 @@ use Rattle.ps_gen.specs.ps_program.declared.place.Place.TheVariants.{Plain, Kept
 use Rattle.ps_gen.specs.ps_program.Node.{Node, Nodes, none, more, Arms, no_arms, more_arms, arm, BodyNode}
 use Rattle.ps_gen.specs.ps_program.Node as node
 use Rattle.ps_typing_laws.specs.ps_typing.Placing.{is_number}
-use Rattle.ps_typing_laws.specs.ps_typing.WellTyped.{Some_is, Env, Free, IsLocal, Claim, ◌has◌, all_have, arms_have, behind_loop, Rule, Opens, Declares, IsTyped, AreTyped, AreItems, Arguments}
+use Rattle.ps_typing_laws.specs.ps_typing.Library.{caller}
+use Rattle.ps_typing_laws.specs.ps_typing.WellTyped.{Some_is, Env, Free, IsLocal, Claim, ◌has◌, all_have, arms_have, behind_loop, behind_scan, Rule, Opens, Declares, IsTyped, AreTyped, AreItems, Arguments}
 use Rattle.ps_typing_laws.specs.ps_typing.WellTyped as typed
 use Rattle.ps_typing_laws.specs.Counted.{Each}
-use Rattle.ps_typing_laws.proofs.Tracked.{Grows, tree_grows, LocalsBelow, locals_grow, declared, track, track_all, all_grows}
+use Rattle.ps_typing_laws.proofs.Tracked.{limit, Grows, tree_grows, LocalsBelow, locals_grow, declared, track, track_all, all_grows}
 use Rattle.ps_stepping.specs.ps_heap.Operators.{Answer, Gives, Traps, neg_of, arith_of, is_same}
+use Rattle.ps_stepping.specs.ps_heap.Ends.{OutOfTurns}
 use Rattle.ps_stepping.specs.ps_heap.Values.{Value, Num, Flag, Text, Nil, Pointer, Vector, Procedure, Nothing, as_written, word_of, flag_of, shown}
 use Rattle.ps_stepping.specs.ps_heap.Texts.{Attempt, Yields, Fails, line_read, behind_line}
 use Rattle.ps_stepping.specs.ps_heap.Objects.{Heap, Object}
-use Rattle.ps_stepping.specs.ps_meaning.Meaning.{Frame, Store, State, Outcome, Value_is, Ends, Meaning, give, stop, after, ◌>>=◌, choose, answer, attempt, with_heap, put_heap, made, made_text, made_procedure, with_input, put_input, enter, back_in, back_to, scoped, in_scope, in_frame, emit, in_places, is_width, written, turned, spent, take_turn, with_local, unbuilt, get, set}
+use Rattle.ps_stepping.specs.ps_heap.Tables.{Key, string_key, int_key}
+use Rattle.ps_stepping.specs.ps_heap.Held.{Held, assigning, touching, reading}
+use Rattle.ps_stepping.specs.ps_heap.Held as held
+use Rattle.ps_stepping.specs.ps_heap.Calls as calls
+use Rattle.ps_stepping.specs.ps_heap.Library.{LibraryProcedure, OnHeap, ReadLine, AtEnd, Length, IntText, library_procedure, heap_call}
+use Rattle.ps_stepping.specs.ps_heap.Scans.{Found, most_scan_calls, next_key, scan_arguments}
+use Rattle.ps_stepping.specs.ps_meaning.Meaning.{Frame, Store, State, Outcome, Value_is, Ends, Meaning, give, stop, after, ◌>>=◌, choose, answer, attempt, with_heap, change, touch, read, assign, put_answer, answered, made, made_text, made_procedure, with_input, put_input, enter, back_in, back_to, scoped, in_scope, in_frame, emit, in_places, is_width, written, turned, spent, take_turn, with_local, get, set}
 use Rattle.ps_stepping.specs.ps_meaning.Frames.{frame_of_call}
-use Rattle.ps_stepping.specs.ps_meaning.Evaluation.{Context, while_turns, Counting, goes_on, in_turn, for_turns, for_loop, for_meant, is_equal, make_meant, most_calls, call_meant, read_line, at_end, lib_meant, eval, eval_all, eval_each, eval_arms, eval_labels}
+use Rattle.ps_stepping.specs.ps_meaning.Operations.{is_equal, make_meant, read_line, at_end, lib_meant}
+use Rattle.ps_stepping.specs.ps_meaning.Loops.{while_turns, Counting, goes_on, in_turn, for_turns, for_loop, for_meant, Scanning, set_last, scan_call, scan_next, scan_turns, begin_scan}
+use Rattle.ps_stepping.specs.ps_meaning.Evaluation.{Context, most_calls, call_meant, eval, eval_all, eval_each, eval_arms, eval_labels}
+use Rattle.ps_code_laws.proofs.LibraryWalks.{scan_by}
+
+-- a local of one of the two rows
+pub record Spot : Type 0 where
+  pub number : Bool
+  pub slot : ℕ
+
+abbrev pub on_nums : ℕ → Spot
+on_nums n = record { number = true; slot = n }
+
+abbrev pub on_refs : ℕ → Spot
+on_refs n = record { number = false; slot = n }
+
+abbrev pub value_in : Frame → Spot → Value
+value_in frame x = if x.number then frame.nums x.slot else frame.refs x.slot
 
 -- the local has the value that it had
-abbrev pub Same : ℕ → Frame → Outcome → Type 0
-Same x f (Value_is v g s) = g.nums x ≡ f.nums x
+abbrev pub Same : Spot → Frame → Outcome → Type 0
+Same x f (Value_is v g s) = value_in g x ≡ value_in f x
 Same x f (Ends e s) = Unit {0}
 
-abbrev pub Leaves : ℕ → Meaning → Type 0
+abbrev pub Leaves : Spot → Meaning → Type 0
 Leaves x m = (f : Frame) (s : State) → Same x f (m f s)
 
 -- in each context
-abbrev pub Keeps : ℕ → Node → Type 0
+abbrev pub Keeps : Spot → Node → Type 0
 Keeps x t = (c : Context) → Leaves x (eval c t)
 
-same_from : (x : ℕ) (f g : Frame) (o : Outcome) → g.nums x ≡ f.nums x → Same x g o → Same x f o
+same_from : (x : Spot) (f g : Frame) (o : Outcome) → value_in g x ≡ value_in f x → Same x g o → Same x f o
 same_from x f g (Value_is v h s) e k = k ∙ e
 same_from x f g (Ends end s) e k = tt
 
-same_after : (x : ℕ) (f : Frame) (o : Outcome) (b : Value → Meaning) → Same x f o → ((v : Value) → Leaves x (b v)) → Same x f (after o b)
+same_after : (x : Spot) (f : Frame) (o : Outcome) (b : Value → Meaning) → Same x f o → ((v : Value) → Leaves x (b v)) → Same x f (after o b)
 unfolding after
 same_after x f (Value_is v g s) b h k = same_from x f g (b v g s) h (k v g s)
 same_after x f (Ends e s) b h k = tt
 
-pub leaves_then : (x : ℕ) (a : Meaning) (b : Value → Meaning) → Leaves x a → ((v : Value) → Leaves x (b v)) → Leaves x (a >>= b)
+pub leaves_then : (x : Spot) (a : Meaning) (b : Value → Meaning) → Leaves x a → ((v : Value) → Leaves x (b v)) → Leaves x (a >>= b)
 unfolding ◌>>=◌
 leaves_then x a b h k f s = same_after x f (a f s) b (h f s) k
 
-leaves_give : (x : ℕ) (v : Value) → Leaves x (give v)
+leaves_give : (x : Spot) (v : Value) → Leaves x (give v)
 unfolding give
 leaves_give x v f s = refl
 
-leaves_unbuilt : (x : ℕ) → Leaves x unbuilt
-unfolding unbuilt give
-leaves_unbuilt x f s = refl
-
-leaves_stop : (x : ℕ) (e : _) → Leaves x (stop e)
+leaves_stop : (x : Spot) (e : _) → Leaves x (stop e)
 unfolding stop
 leaves_stop x e f s = tt
 
-leaves_choose : (x : ℕ) (b : Bool) (m n : Meaning) → Leaves x m → Leaves x n → Leaves x (choose b m n)
+leaves_choose : (x : Spot) (b : Bool) (m n : Meaning) → Leaves x m → Leaves x n → Leaves x (choose b m n)
 unfolding choose
 leaves_choose x true m n h k = h
 leaves_choose x false m n h k = k
 
-leaves_answer : (x : ℕ) (line : Line) (a : Answer) → Leaves x (answer line a)
+leaves_answer : (x : Spot) (line : Line) (a : Answer) → Leaves x (answer line a)
 unfolding answer
 leaves_answer x line (Gives z) = leaves_give x (Num z)
 leaves_answer x line (Traps trap) = leaves_stop x _
 
-leaves_attempt : {A : Type 0} (x : ℕ) (line : Line) (a : Attempt A) (next : A → Meaning) → ((v : A) → Leaves x (next v)) →
+leaves_attempt : {A : Type 0} (x : Spot) (line : Line) (a : Attempt A) (next : A → Meaning) → ((v : A) → Leaves x (next v)) →
     Leaves x (attempt line a next)
 unfolding attempt
 leaves_attempt x line (Yields v) next h = h v
 leaves_attempt x line (Fails trap) next h = leaves_stop x _
 
-leaves_with_heap : (x : ℕ) (next : Heap → Meaning) → ((heap : Heap) → Leaves x (next heap)) → Leaves x (with_heap next)
+leaves_with_heap : (x : Spot) (next : Heap → Meaning) → ((heap : Heap) → Leaves x (next heap)) → Leaves x (with_heap next)
 unfolding with_heap
-leaves_with_heap x next h f s = h s.store.heap f s
+leaves_with_heap x next h f s = h s.store.held.objects f s
 
-leaves_put_heap : (x : ℕ) (heap : Heap) → Leaves x (put_heap heap)
-unfolding put_heap
-leaves_put_heap x heap f s = refl
+leaves_change : (x : Spot) (v : Value) (does : Held → Held) → Leaves x (change v does)
+unfolding change
+leaves_change x v does f s = refl
 
-leaves_made : (x : ℕ) (denoting : ℕ → Value) (object : Object) → Leaves x (made denoting object)
+leaves_touch : (x : Spot) (ids : List ℕ) → Leaves x (touch ids)
+leaves_touch x ids = leaves_change x Nothing (touching ids)
+
+leaves_put_answer : (x : Spot) (a : calls.Answer) → Leaves x (put_answer a)
+unfolding put_answer
+leaves_put_answer x a f s = refl
+
+leaves_answered : (x : Spot) (line : Line) (call : Held → Attempt calls.Answer) → Leaves x (answered line call)
+unfolding answered
+leaves_answered x line call f s = leaves_attempt x line (call s.store.held) put_answer (λ a. leaves_put_answer x a) f s
+
+-- what is read of the heap, and what is put there
+leaves_read : (x : Spot) (line : Line) (a : Heap → Attempt Value) → Leaves x (with_heap (λ heap. attempt line (a heap) read))
+leaves_read x line a = leaves_with_heap x _ (λ heap. leaves_attempt x line (a heap) read (λ v. leaves_change x v (reading v)))
+
+leaves_put : (x : Spot) (line : Line) (a : Heap → Attempt Heap) (place : Heap → held.Place) →
+    Leaves x (with_heap (λ heap. attempt line (a heap) (assign (place heap))))
+leaves_put x line a place =
+    leaves_with_heap x _ (λ heap. leaves_attempt x line (a heap) (assign (place heap)) (λ new. leaves_change x Nothing (assigning (place heap) new)))
+
+leaves_made : (x : Spot) (denoting : ℕ → Value) (object : Object) → Leaves x (made denoting object)
 unfolding made
 leaves_made x denoting object f s = refl
 
-leaves_made_text : (x : ℕ) (bytes : List ℕ) → Leaves x (made_text bytes)
+leaves_made_text : (x : Spot) (bytes : List ℕ) → Leaves x (made_text bytes)
 unfolding made_text
 leaves_made_text x bytes f s = refl
 
-leaves_emit : (x : ℕ) (bytes : List ℕ) → Leaves x (emit bytes)
+leaves_emit : (x : Spot) (bytes : List ℕ) → Leaves x (emit bytes)
 unfolding emit
 leaves_emit x bytes f s = refl
 
-leaves_either : (x : ℕ) (b : Bool) (m n : Meaning) → Leaves x m → Leaves x n → Leaves x (if b then m else n)
+leaves_either : (x : Spot) (b : Bool) (m n : Meaning) → Leaves x m → Leaves x n → Leaves x (if b then m else n)
 leaves_either x true m n h k = h
 leaves_either x false m n h k = k
 
-leaves_written : (x : ℕ) (line : Line) (width : Option ℤ) (bytes : List ℕ) → Leaves x (written line width bytes)
+leaves_written : (x : Spot) (line : Line) (width : Option ℤ) (bytes : List ℕ) → Leaves x (written line width bytes)
 unfolding written
 leaves_written x line width bytes = leaves_either x (is_width width) _ _ (leaves_emit x (in_places width bytes)) (leaves_stop x _)
 
-leaves_turned : (x : ℕ) (store : Option Store) → Leaves x (turned store)
+leaves_turned : (x : Spot) (store : Option Store) → Leaves x (turned store)
 leaves_turned x None f s = tt
 leaves_turned x (Some store) f s = refl
 
-leaves_turn : (x : ℕ) → Leaves x take_turn
+leaves_turn : (x : Spot) → Leaves x take_turn
 unfolding take_turn
 leaves_turn x f s = leaves_turned x (spent s.store) f s
 
-leaves_get : (x : ℕ) (place : Place) (ty : TyView) → Leaves x (get place ty)
-unfolding get
+leaves_get : (x : Spot) (place : Place) (ty : TyView) → Leaves x (get place ty)
+unfolding get change
 leaves_get x (Plain slot) ty f s = refl
 leaves_get x (Kept up position) ty f s = refl
 
@@ -124,74 +165,82 @@ if_false b x y h = ap (λ (c : Bool). if c then x else y) h
 pub other_local : {A : Type 0} (row : ℕ → A) (slot x : ℕ) (v : A) → (slot ≡ x → ⊥) → with_local row slot v x ≡ row x
 other_local row slot x v apart = if_false (nat_eq x slot) v (row x) (not_same x slot apart)
 
-other_in_frame : (x slot : ℕ) (v : Value) (f : Frame) (number : Bool) → (number ≡ true → slot ≡ x → ⊥) →
-    (if number then record f { nums = with_local f.nums slot v } else record f { refs = with_local f.refs slot v }).nums x ≡ f.nums x
-other_in_frame x slot v f true apart = other_local f.nums slot x v (apart refl)
-other_in_frame x slot v f false apart = refl
+-- a local of one row is set: one of the other row, and another one of this row, has the value that it had
+other_in_frame : (number : Bool) (other slot : ℕ) (v : Value) (f : Frame) (row : Bool) → (row ≡ number → slot ≡ other → ⊥) →
+    value_in (if row then record f { nums = with_local f.nums slot v } else record f { refs = with_local f.refs slot v })
+    (record { number = number; slot = other }) ≡ value_in f (record { number = number; slot = other })
+other_in_frame true other slot v f true apart = other_local f.nums slot other v (apart refl)
+other_in_frame true other slot v f false apart = refl
+other_in_frame false other slot v f true apart = refl
+other_in_frame false other slot v f false apart = other_local f.refs slot other v (apart refl)
 
-pub leaves_set : (x slot : ℕ) (ty : TyView) (v : Value) → (is_number ty ≡ true → slot ≡ x → ⊥) → Leaves x (set (Plain slot) ty v)
+pub leaves_set : (x : Spot) (slot : ℕ) (ty : TyView) (v : Value) → (is_number ty ≡ x.number → slot ≡ x.slot → ⊥) → Leaves x (set (Plain slot) ty v)
 unfolding set
-leaves_set x slot ty v apart f s = other_in_frame x slot v f (is_number ty) apart
+leaves_set x slot ty v apart f s = other_in_frame x.number x.slot slot v f (is_number ty) apart
 
-pub leaves_kept : (x up position : ℕ) (ty : TyView) (v : Value) → Leaves x (set (Kept up position) ty v)
-unfolding set
+-- a slot from here on, in this row, isn't that of a local that lies below where it is of this row
+above : (x : Spot) (row : Bool) (first slot : ℕ) → (x.number ≡ row → x.slot < first) → first ≤ slot → row ≡ x.number → slot ≡ x.slot → ⊥
+above x row first slot below le is e = let l = below (sym is) in omega arith
+
+pub leaves_kept : (x : Spot) (up position : ℕ) (ty : TyView) (v : Value) → Leaves x (set (Kept up position) ty v)
+unfolding set change
 leaves_kept x up position ty v f s = refl
 
-leaves_made_procedure : (x : ℕ) (of : BodyNode) → Leaves x (made_procedure of)
+leaves_made_procedure : (x : Spot) (of : BodyNode) → Leaves x (made_procedure of)
 unfolding made_procedure
 leaves_made_procedure x of f s = refl
 
-leaves_with_input : (x : ℕ) (next : List ℕ → Meaning) → ((input : List ℕ) → Leaves x (next input)) → Leaves x (with_input next)
+leaves_with_input : (x : Spot) (next : List ℕ → Meaning) → ((input : List ℕ) → Leaves x (next input)) → Leaves x (with_input next)
 unfolding with_input
 leaves_with_input x next h f s = h s.store.input f s
 
-leaves_put_input : (x : ℕ) (input : List ℕ) → Leaves x (put_input input)
+leaves_put_input : (x : Spot) (input : List ℕ) → Leaves x (put_input input)
 unfolding put_input
 leaves_put_input x input f s = refl
 
 -- a scope changes no local, and a call comes back to the frame that it was made in
-leaves_enter : (x : ℕ) (text : List ℕ) → Leaves x (enter text)
+leaves_enter : (x : Spot) (text : List ℕ) → Leaves x (enter text)
 unfolding enter
 leaves_enter x text f s = refl
 
-same_back_in : (x : ℕ) (f : Frame) (scope : Option ℕ) (o : Outcome) → Same x f o → Same x f (back_in scope o)
+same_back_in : (x : Spot) (f : Frame) (scope : Option ℕ) (o : Outcome) → Same x f o → Same x f (back_in scope o)
 unfolding back_in
 same_back_in x f scope (Value_is v g s) h = h
 same_back_in x f scope (Ends e s) h = tt
 
-same_back_to : (x : ℕ) (f : Frame) (o : Outcome) → Same x f (back_to f o)
+same_back_to : (x : Spot) (f : Frame) (o : Outcome) → Same x f (back_to f o)
 unfolding back_to
 same_back_to x f (Value_is v g s) = refl
 same_back_to x f (Ends e s) = tt
 
-pub leaves_scoped : (x : ℕ) (text : List ℕ) (m : Meaning) → Leaves x m → Leaves x (scoped text m)
+pub leaves_scoped : (x : Spot) (text : List ℕ) (m : Meaning) → Leaves x m → Leaves x (scoped text m)
 unfolding scoped
 leaves_scoped x text m h f s =
     same_back_in x f f.scope ((enter text >>= λ u. m) f s) (leaves_then x (enter text) (λ u. m) (leaves_enter x text) (λ u. h) f s)
 
-leaves_scope : (x : ℕ) (scope : Option (List ℕ)) (m : Meaning) → Leaves x m → Leaves x (in_scope scope m)
+leaves_scope : (x : Spot) (scope : Option (List ℕ)) (m : Meaning) → Leaves x m → Leaves x (in_scope scope m)
 leaves_scope x None m h = h
 leaves_scope x (Some text) m h = leaves_scoped x text m h
 
-leaves_in_frame : (x : ℕ) (other : Frame) (m : Meaning) → Leaves x (in_frame other m)
+leaves_in_frame : (x : Spot) (other : Frame) (m : Meaning) → Leaves x (in_frame other m)
 unfolding in_frame
 leaves_in_frame x other m f s = same_back_to x f (m other s)
 
-leaves_call : (x : ℕ) (c : Context) (line : Line) (v : Value) (args : List Value) → Leaves x (call_meant c line v args)
+leaves_call : (x : Spot) (c : Context) (line : Line) (v : Value) (args : List Value) → Leaves x (call_meant c line v args)
 unfolding call_meant
 leaves_call x c line (Procedure (as_written of) scope) args =
     leaves_choose x (nat_lt c.depth most_calls) _ _ (leaves_in_frame x (frame_of_call of scope args) (c.call of args)) (leaves_stop x _)
 leaves_call x c line v args = leaves_stop x _
 
-leaves_while : (x n : ℕ) (test clause : Meaning) → Leaves x test → Leaves x clause → Leaves x (while_turns n test clause)
+leaves_while : (x : Spot) (n : ℕ) (test clause : Meaning) → Leaves x test → Leaves x clause → Leaves x (while_turns n test clause)
 unfolding while_turns
 leaves_while x zero test clause h k = leaves_then x test _ h (λ v. leaves_choose x (flag_of v) _ _ (leaves_stop x _) (leaves_give x Nothing))
 leaves_while x (suc n) test clause h k =
     leaves_then x test _ h (λ v. leaves_choose x (flag_of v) _ _
     (leaves_then x take_turn _ (leaves_turn x) (λ t. leaves_then x clause _ k (λ u. leaves_while x n test clause h k))) (leaves_give x Nothing))
 
-leaves_for_turns : (x n : ℕ) (loop : Counting) (clause : Meaning) → (loop.slot ≡ x → ⊥) → ((v : Value) → Leaves x (set loop.control types.Int v)) →
-    Leaves x clause → (z : ℤ) → Leaves x (for_turns n loop clause z)
+leaves_for_turns : (x : Spot) (n : ℕ) (loop : Counting) (clause : Meaning) → (true ≡ x.number → loop.slot ≡ x.slot → ⊥) →
+    ((v : Value) → Leaves x (set loop.control types.Int v)) → Leaves x clause → (z : ℤ) → Leaves x (for_turns n loop clause z)
 unfolding for_turns
 leaves_for_turns x zero loop clause apart control h z = leaves_stop x _
 leaves_for_turns x (suc n) loop clause apart control h z =
@@ -199,11 +248,11 @@ leaves_for_turns x (suc n) loop clause apart control h z =
     (leaves_scope x loop.scope _ (leaves_then x (set loop.control types.Int (Num z)) _ (control (Num z)) (λ u. h)))
     (λ w. leaves_choose x (goes_on loop.limit loop.step (z +ℤ loop.step)) _ _
     (leaves_then x (set (Plain loop.slot) types.Int (Num (z +ℤ loop.step))) _
-    (leaves_set x loop.slot types.Int (Num (z +ℤ loop.step)) (λ is e. apart e))
+    (leaves_set x loop.slot types.Int (Num (z +ℤ loop.step)) (λ is e. apart is e))
     (λ u. leaves_for_turns x n loop clause apart control h (z +ℤ loop.step)))
     (leaves_give x Nothing)))
 
-leaves_loop : (x n : ℕ) (line : Line) (loop : Counting) (clause : Meaning) → (loop.slot ≡ x → ⊥) →
+leaves_loop : (x : Spot) (n : ℕ) (line : Line) (loop : Counting) (clause : Meaning) → (true ≡ x.number → loop.slot ≡ x.slot → ⊥) →
     ((v : Value) → Leaves x (set loop.control types.Int v)) →
     Leaves x clause → (z : ℤ) → Leaves x (for_loop n line loop clause z)
 unfolding for_loop
@@ -211,28 +260,83 @@ leaves_loop x n line loop clause apart control h z =
     leaves_choose x (is_same loop.step (pos 0)) _ _ (leaves_stop x _)
     (leaves_choose x (goes_on loop.limit loop.step z) _ _ (leaves_for_turns x n loop clause apart control h z) (leaves_give x Nothing))
 
-leaves_for : (x n : ℕ) (line : Line) (slot : ℕ) (scope : Option (List ℕ)) (control : Place) (a b c clause : Meaning) → x < slot →
-    ((v : Value) → Leaves x (set control types.Int v)) →
+-- a loop by `for` sets locals of the number row, from its slot on
+leaves_for : (x : Spot) (n : ℕ) (line : Line) (slot : ℕ) (scope : Option (List ℕ)) (control : Place) (a b c clause : Meaning) →
+    (x.number ≡ true → x.slot < slot) → ((v : Value) → Leaves x (set control types.Int v)) →
     Leaves x a → Leaves x b → Leaves x c → Leaves x clause → Leaves x (for_meant n line slot scope control a b c clause)
 unfolding for_meant
 leaves_for x n line slot scope control a b c clause below at_control ha hb hc h =
-    let apart : (k : ℕ) → slot + k ≡ x → ⊥ = λ k e. omega arith in
-    let apart_first : slot ≡ x → ⊥ = λ e. omega arith in
-    leaves_then x a _ ha (λ start. leaves_then x (set (Plain slot) types.Int start) _ (leaves_set x slot types.Int start (λ is e. apart_first e))
+    let apart : true ≡ x.number → slot ≡ x.slot → ⊥ = above x true slot slot below (omega arith) in
+    leaves_then x a _ ha (λ start. leaves_then x (set (Plain slot) types.Int start) _ (leaves_set x slot types.Int start (λ is e. apart is e))
     (λ u.
     leaves_then x b _ hb (λ limit. leaves_then x (set (Plain (slot + 1)) types.Int limit) _
-    (leaves_set x (slot + 1) types.Int limit (λ is e. apart 1 e)) (λ u.
+    (leaves_set x (slot + 1) types.Int limit (above x true slot (slot + 1) below (omega arith))) (λ u.
     leaves_then x c _ hc (λ step. leaves_then x (set (Plain (slot + 2)) types.Int step) _
-    (leaves_set x (slot + 2) types.Int step (λ is e. apart 2 e)) (λ u.
-    leaves_loop x n line (record { slot = slot; scope = scope; control = control; limit = word_of limit; step = word_of step }) clause apart_first at_control h
+    (leaves_set x (slot + 2) types.Int step (above x true slot (slot + 2) below (omega arith))) (λ u.
+    leaves_loop x n line (record { slot = slot; scope = scope; control = control; limit = word_of limit; step = word_of step }) clause apart at_control h
     (word_of start)))))))
 
+-- Scans: their locals lie above this one, in both rows.
+leaves_set_then : (x : Spot) (slot : ℕ) (ty : TyView) (v : Value) (next : Meaning) → (is_number ty ≡ x.number → slot ≡ x.slot → ⊥) → Leaves x next →
+    Leaves x (set (Plain slot) ty v >>= λ u. next)
+leaves_set_then x slot ty v next apart h = leaves_then x (set (Plain slot) ty v) (λ u. next) (leaves_set x slot ty v apart) (λ u. h)
+
+leaves_last : (x : Spot) (scan : Scanning) → (x.number ≡ true → x.slot < scan.nums) → (x.number ≡ false → x.slot < scan.refs) → (key : Key) →
+    Leaves x (set_last scan key)
+leaves_last x scan nums_above refs_above (string_key bytes) =
+    leaves_set x (scan.refs + 2) types.Str (Text bytes) (above x false scan.refs (scan.refs + 2) refs_above (omega arith))
+leaves_last x scan nums_above refs_above (int_key z) =
+    leaves_set x (scan.nums + 1) types.Int (Num z) (above x true scan.nums (scan.nums + 1) nums_above (omega arith))
+
+leaves_scan_call : (x : Spot) (scan : Scanning) → (x.number ≡ true → x.slot < scan.nums) → (x.number ≡ false → x.slot < scan.refs) →
+    ((args : List Value) → Leaves x (scan.call args)) → (count : ℕ) (again : Key → Meaning) (found : Found) → ((key : Key) → Leaves x (again key)) →
+    Leaves x (scan_call scan count again found)
+unfolding scan_call
+leaves_scan_call x scan nums_above refs_above called count again found h =
+    leaves_then x (set_last scan found.key) _ (leaves_last x scan nums_above refs_above found.key) (λ u.
+    leaves_set_then x (scan.nums + 2) types.Int (Num (pos 1)) _ (above x true scan.nums (scan.nums + 2) nums_above (omega arith))
+    (leaves_then x (scan.call (scan_arguments found)) _ (called (scan_arguments found)) (λ more.
+    leaves_set_then x scan.nums types.Int (Num (pos (suc count))) _ (above x true scan.nums scan.nums nums_above (omega arith))
+    (leaves_choose x (flag_of more) _ _ (leaves_then x take_turn _ (leaves_turn x) (λ t. h found.key)) (leaves_give x (Num (pos (suc count))))))))
+
+leaves_scan_next : (x : Spot) (scan : Scanning) → (x.number ≡ true → x.slot < scan.nums) → (x.number ≡ false → x.slot < scan.refs) →
+    ((args : List Value) → Leaves x (scan.call args)) → (count : ℕ) (again : Key → Meaning) (found : Option Found) →
+    ((key : Key) → Leaves x (again key)) → Leaves x (scan_next scan count again found)
+unfolding scan_next
+leaves_scan_next x scan nums_above refs_above called count again None h = leaves_give x (Num (pos count))
+leaves_scan_next x scan nums_above refs_above called count again (Some found) h =
+    leaves_then x (touch (found.object ∷ [])) _ (leaves_touch x (found.object ∷ [])) (λ u.
+    leaves_choose x (nat_eq count most_scan_calls) _ _ (leaves_stop x _) (leaves_scan_call x scan nums_above refs_above called count again found h))
+
+leaves_scan_turns : (x : Spot) (n : ℕ) (scan : Scanning) → (x.number ≡ true → x.slot < scan.nums) → (x.number ≡ false → x.slot < scan.refs) →
+    ((args : List Value) → Leaves x (scan.call args)) → (last : Option Key) (count : ℕ) → Leaves x (scan_turns n scan last count)
+unfolding scan_turns
+leaves_scan_turns x zero scan nums_above refs_above called last count =
+    leaves_with_heap x _ (λ heap. leaves_attempt x scan.line (next_key scan.strings heap scan.table last) _
+    (λ found. leaves_scan_next x scan nums_above refs_above called count (λ key. stop OutOfTurns) found (λ key. leaves_stop x OutOfTurns)))
+leaves_scan_turns x (suc n) scan nums_above refs_above called last count =
+    leaves_with_heap x _ (λ heap. leaves_attempt x scan.line (next_key scan.strings heap scan.table last) _
+    (λ found. leaves_scan_next x scan nums_above refs_above called count (λ key. scan_turns n scan (Some key) (suc count)) found
+    (λ key. leaves_scan_turns x n scan nums_above refs_above called (Some key) (suc count))))
+
+leaves_begin_scan : (x : Spot) (strings : Bool) (refs nums : ℕ) (a f : Meaning) (next : Value → Value → Meaning) → (x.number ≡ true → x.slot < nums) →
+    (x.number ≡ false → x.slot < refs) → Leaves x a → Leaves x f → ((table procedure : Value) → Leaves x (next table procedure)) →
+    Leaves x (begin_scan strings refs nums a f next)
+unfolding begin_scan
+leaves_begin_scan x strings refs nums a f next nums_above refs_above ha hf h =
+    leaves_then x a _ ha (λ table. leaves_set_then x refs types.Pntr table _ (above x false refs refs refs_above (omega arith))
+    (leaves_then x f _ hf (λ procedure. leaves_set_then x (refs + 1) (caller (if strings then types.Str else types.Int)) procedure _
+    (above x false refs (refs + 1) refs_above (omega arith))
+    (leaves_set_then x nums types.Int (Num (pos 0)) _ (above x true nums nums nums_above (omega arith))
+    (leaves_set_then x (nums + 1) types.Int (Num (pos 0)) _ (above x true nums (nums + 1) nums_above (omega arith))
+    (leaves_set_then x (nums + 2) types.Int (Num (pos 0)) _ (above x true nums (nums + 2) nums_above (omega arith)) (h table procedure)))))))
+
 -- clauses that each keep a local
-abbrev pub KeepClaim : ℕ → Claim → Type 0
+abbrev pub KeepClaim : Spot → Claim → Type 0
 KeepClaim x claim = Keeps x claim.clause
 
 -- and clauses whose types don't matter
-abbrev KeepAll : ℕ → Nodes → Type 0
+abbrev KeepAll : Spot → Nodes → Type 0
 KeepAll x none = Unit {0}
 KeepAll x (more t ts) = Keeps x t × KeepAll x ts
 
@@ -244,14 +348,14 @@ pub each_right : {A : Type 0} (P : A → Type 0) (xs ys : List A) → Each P (xs
 each_right P [] ys h = h
 each_right P (x ∷ xs) ys h = each_right P xs ys h.1
 
-leaves_labels : (x : ℕ) (c : Context) (value : TyView) (v : Value) (labels : Nodes) → Each (KeepClaim x) (all_have value labels) →
+leaves_labels : (x : Spot) (c : Context) (value : TyView) (v : Value) (labels : Nodes) → Each (KeepClaim x) (all_have value labels) →
     Leaves x (eval_labels c value v labels)
 unfolding eval_labels
 leaves_labels x c value v none h = leaves_give x _
 leaves_labels x c value v (more label rest) h =
     leaves_then x (eval c label) _ (h.0 c) (λ w. leaves_choose x (is_equal value v w) _ _ (leaves_give x _) (leaves_labels x c value v rest h.1))
 
-leaves_arms : (x : ℕ) (c : Context) (value ty : TyView) (v : Value) (arms : Arms) (d : Meaning) → Each (KeepClaim x) (arms_have value ty arms) →
+leaves_arms : (x : Spot) (c : Context) (value ty : TyView) (v : Value) (arms : Arms) (d : Meaning) → Each (KeepClaim x) (arms_have value ty arms) →
     Leaves x d →
     Leaves x (eval_arms c value v arms d)
 unfolding eval_arms
@@ -263,37 +367,39 @@ leaves_arms x c value ty v (more_arms (arm labels a) rest) d h k =
     (λ found. leaves_choose x (flag_of found) _ _ (behind_labels.0 c) (leaves_arms x c value ty v rest d behind_labels.1 k))
 
 -- clauses one after the other that each keep a local, and what goes on with their values
-leaves_each : (x : ℕ) (c : Context) (ts : Nodes) (next : List Value → Meaning) → KeepAll x ts → ((vs : List Value) → Leaves x (next vs)) →
+leaves_each : (x : Spot) (c : Context) (ts : Nodes) (next : List Value → Meaning) → KeepAll x ts → ((vs : List Value) → Leaves x (next vs)) →
     Leaves x (eval_each c ts next)
 unfolding eval_each
 leaves_each x c none next h k = k []
 leaves_each x c (more t ts) next h k =
     leaves_then x (eval c t) _ (h.0 c) (λ v. leaves_each x c ts (λ vs. next (v ∷ vs)) h.1 (λ vs. k (v ∷ vs)))
 
-keep_items : (x : ℕ) (ty : TyView) (ts : Nodes) → Each (KeepClaim x) (all_have ty ts) → KeepAll x ts
+keep_items : (x : Spot) (ty : TyView) (ts : Nodes) → Each (KeepClaim x) (all_have ty ts) → KeepAll x ts
 keep_items x ty none h = tt
 keep_items x ty (more t ts) h = (h.0, keep_items x ty ts h.1)
 
-keep_arguments : (x : ℕ) {ts : Nodes} {tys : TyViews} {claims : List Claim} → Arguments ts tys claims → Each (KeepClaim x) claims → KeepAll x ts
+keep_arguments : (x : Spot) {ts : Nodes} {tys : TyViews} {claims : List Claim} → Arguments ts tys claims → Each (KeepClaim x) claims → KeepAll x ts
 keep_arguments x typed.Arguments.no_more h = tt
 keep_arguments x (typed.Arguments.one_more rest) h = (h.0, keep_arguments x rest h.1)
 
-leaves_read_line : (x : ℕ) (line : Line) → Leaves x (read_line line)
+leaves_read_line : (x : Spot) (line : Line) → Leaves x (read_line line)
 unfolding read_line
 leaves_read_line x line = leaves_with_input x _ (λ input. leaves_attempt x line (line_read input) _ (λ bytes.
     leaves_then x (put_input (behind_line input)) _ (leaves_put_input x (behind_line input)) (λ u. leaves_made_text x bytes)))
 
-leaves_at_end : (x : ℕ) → Leaves x at_end
+leaves_at_end : (x : Spot) → Leaves x at_end
 unfolding at_end
 leaves_at_end x = leaves_with_input x _ (λ input. leaves_give x _)
 
-leaves_lib : (x : ℕ) (line : Line) (code : ℕ) (vs : List Value) → Leaves x (lib_meant line code vs)
-leaves_lib x line code [] =
-    leaves_either x (nat_eq code 9) _ _ (leaves_read_line x line) (leaves_either x (nat_eq code 10) _ _ (leaves_at_end x) (leaves_unbuilt x))
-leaves_lib x line code (v ∷ vs) =
-    leaves_either x (nat_eq code 11) _ _ (leaves_give x _) (leaves_either x (nat_eq code 12) _ _ (leaves_made_text x _) (leaves_unbuilt x))
+leaves_lib : (x : Spot) (line : Line) (of : Option LibraryProcedure) (vs : List Value) → Leaves x (lib_meant line of vs)
+leaves_lib x line (Some (OnHeap of)) vs = leaves_answered x line (heap_call of vs)
+leaves_lib x line (Some ReadLine) vs = leaves_read_line x line
+leaves_lib x line (Some AtEnd) vs = leaves_at_end x
+leaves_lib x line (Some Length) vs = leaves_give x _
+leaves_lib x line (Some IntText) vs = leaves_made_text x _
+leaves_lib x line None vs = leaves_give x Nothing
 
-keeps_by_rule : (x : ℕ) {t : Node} {claims : List Claim} {ty : TyView} → Rule t claims ty → Each (KeepClaim x) claims → Keeps x t
+keeps_by_rule : (x : Spot) {t : Node} {claims : List Claim} {ty : TyView} → Rule t claims ty → Each (KeepClaim x) claims → Keeps x t
 unfolding eval
 keeps_by_rule x (typed.int {v = v}) h c = leaves_give x (Num v)
 keeps_by_rule x (typed.flag {v = v}) h c = leaves_give x (Flag v)
@@ -337,10 +443,9 @@ keeps_by_rule x (typed.part {a = a} {i = i} {n = n} {line = line}) h c =
 keeps_by_rule x (typed.make {class = class} {args = args} of are) h c =
     leaves_each x c args (make_meant class) (keep_arguments x are h) (λ vs. leaves_made x Pointer _)
 keeps_by_rule x (typed.field {p = p} {class = class} {index = index} {line = line} of) h c =
-    leaves_then x (eval c p) _ (h.0 c) (λ o. leaves_with_heap x _ (λ heap. leaves_attempt x line _ give (λ v. leaves_give x v)))
+    leaves_then x (eval c p) _ (h.0 c) (λ o. leaves_read x line _)
 keeps_by_rule x (typed.set_field {p = p} {e = e} {line = line} of) h c =
-    leaves_then x (eval c p) _ (h.0 c) (λ o. leaves_then x (eval c e) _ (h.1.0 c)
-    (λ v. leaves_with_heap x _ (λ heap. leaves_attempt x line _ put_heap (λ new. leaves_put_heap x new))))
+    leaves_then x (eval c p) _ (h.0 c) (λ o. leaves_then x (eval c e) _ (h.1.0 c) (λ v. leaves_put x line _ _))
 keeps_by_rule x (typed.fill {l = l} {u = u} {e = e} {line = line} isnt) h c =
     leaves_then x (eval c l) _ (h.0 c) (λ low. leaves_then x (eval c u) _ (h.1.0 c) (λ high. leaves_then x (eval c e) _ (h.1.1.0 c)
     (λ v. leaves_attempt x line _ (made Vector) (λ object. leaves_made x Vector object))))
@@ -348,65 +453,103 @@ keeps_by_rule x (typed.elems {l = l} {items = items} {t = t} {line = line}) h c 
     leaves_then x (eval c l) _ (h.0 c) (λ low. leaves_each x c items _ (keep_items x t items h.1)
     (λ vs. leaves_attempt x line _ (made Vector) (λ object. leaves_made x Vector object)))
 keeps_by_rule x (typed.element {v = v} {i = i} {line = line}) h c =
-    leaves_then x (eval c v) _ (h.0 c) (λ vector. leaves_then x (eval c i) _ (h.1.0 c)
-    (λ at. leaves_with_heap x _ (λ heap. leaves_attempt x line _ give (λ w. leaves_give x w))))
+    leaves_then x (eval c v) _ (h.0 c) (λ vector. leaves_then x (eval c i) _ (h.1.0 c) (λ at. leaves_read x line _))
 keeps_by_rule x (typed.set_element {v = v} {i = i} {e = e} {line = line}) h c =
     leaves_then x (eval c v) _ (h.0 c) (λ vector. leaves_then x (eval c i) _ (h.1.0 c) (λ at. leaves_then x (eval c e) _ (h.1.1.0 c)
-    (λ w. leaves_with_heap x _ (λ heap. leaves_attempt x line _ put_heap (λ new. leaves_put_heap x new)))))
+    (λ w. leaves_put x line _ _)))
 keeps_by_rule x (typed.bound {v = v} {upper = upper}) h c =
     leaves_then x (eval c v) _ (h.0 c) (λ vector. leaves_with_heap x _ (λ heap. leaves_give x _))
 keeps_by_rule x (typed.lib {code = code} {args = args} {line = line} of are) h c =
-    leaves_each x c args (lib_meant line code) (keep_arguments x are h) (λ vs. leaves_lib x line code vs)
+    leaves_each x c args (lib_meant line (library_procedure code)) (keep_arguments x are h) (λ vs. leaves_lib x line (library_procedure code) vs)
 keeps_by_rule x (typed.call {f = f} {args = args} {line = line} are) h c =
     leaves_then x (eval c f) _ (h.0 c)
     (λ v. leaves_each x c args (call_meant c line v) (keep_arguments x are h.1) (λ args. leaves_call x c line v args))
 
--- no name of a number in scope has this slot
-abbrev pub Unnamed : ℕ → Env → Type 0
-Unnamed x env = (ty : TyView) → Some_is (IsLocal x ty) env.locals → is_number ty ≡ true → ⊥
+-- no name in scope has this local
+abbrev pub Unnamed : Spot → Env → Type 0
+Unnamed x env = (ty : TyView) → Some_is (IsLocal x.slot ty) env.locals → is_number ty ≡ x.number → ⊥
 
-next_above : (x : ℕ) (free : Free) (number : Bool) → x < free.nums → number ≡ true → (if number then free.nums else free.refs) ≡ x → ⊥
-next_above x free true below is e = omega arith
-next_above x free false below is e = absurd cc
+-- the local lies below the free slots of its row
+abbrev pub IsFree : Spot → Free → Type 0
+IsFree x free = x.slot < limit x.number free
+
+-- and goes on to lie below them where they grow
+below_further : (number : Bool) (slot : ℕ) (free behind : Free) → Grows free behind → slot < limit number free → slot < limit number behind
+below_further true slot free behind grows below = let g = grows.nums in let l : slot < free.nums = below in omega arith
+below_further false slot free behind grows below = let g = grows.refs in let l : slot < free.refs = below in omega arith
+
+pub still_free : (x : Spot) (free behind : Free) → Grows free behind → IsFree x free → IsFree x behind
+still_free x free behind grows below = below_further x.number x.slot free behind grows below
+
+-- a local of the number row, and of the other one
+free_nums : (x : Spot) (free : Free) → IsFree x free → x.number ≡ true → x.slot < free.nums
+free_nums x free below is = subst (λ (number : Bool). x.slot < limit number free) is below
+
+free_refs : (x : Spot) (free : Free) → IsFree x free → x.number ≡ false → x.slot < free.refs
+free_refs x free below is = subst (λ (number : Bool). x.slot < limit number free) is below
+
+next_above : (number : Bool) (slot : ℕ) (free : Free) (row : Bool) → slot < limit number free → row ≡ number →
+    (if row then free.nums else free.refs) ≡ slot → ⊥
+next_above true slot free true below is e = let l : slot < free.nums = below in omega arith
+next_above true slot free false below is e = absurd cc
+next_above false slot free true below is e = absurd cc
+next_above false slot free false below is e = let l : slot < free.refs = below in omega arith
 
 -- a name that is declared has a slot of its own
-pub declared_apart : (x : ℕ) {env with_name : Env} {free behind : Free} {place : Place} {ty : TyView} → Declares env free place ty with_name behind →
-    x < free.nums → (v : Value) → Leaves x (set place ty v)
+pub declared_apart : (x : Spot) {env with_name : Env} {free behind : Free} {place : Place} {ty : TyView} → Declares env free place ty with_name behind →
+    IsFree x free → (v : Value) → Leaves x (set place ty v)
 declared_apart x (typed.as_local {free = free} {slot = slot} {ty = ty} e) below v =
-    leaves_set x slot ty v (λ is same. next_above x free (is_number ty) below is (sym e ∙ same))
+    leaves_set x slot ty v (λ is same. next_above x.number x.slot free (is_number ty) below is (sym e ∙ same))
 declared_apart x (typed.as_kept {position = position} {ty = ty} name scopes is) below v = leaves_kept x 0 position ty v
 
-pub declared_unnamed : (x : ℕ) {env with_name : Env} {free behind : Free} {place : Place} {ty : TyView} →
+pub declared_unnamed : (x : Spot) {env with_name : Env} {free behind : Free} {place : Place} {ty : TyView} →
     Declares env free place ty with_name behind →
-    x < free.nums → Unnamed x env → Unnamed x with_name
+    IsFree x free → Unnamed x env → Unnamed x with_name
 declared_unnamed x (typed.as_local {free = free} {slot = slot} {ty = ty} e) below h t (inl (same, is_ty)) is =
-    next_above x free (is_number ty) below (ap is_number is_ty ∙ is) (sym e ∙ same)
+    next_above x.number x.slot free (is_number ty) below (ap is_number is_ty ∙ is) (sym e ∙ same)
 declared_unnamed x (typed.as_local e) below h t (inr found) is = h t found is
 declared_unnamed x (typed.as_kept name scopes at) below h t found is = h t found is
 
-keeps_block : (x : ℕ) {around first last : _} (scope : Option (List ℕ)) (items : Nodes) → Opens scope around first last →
+keeps_block : (x : Spot) {around first last : _} (scope : Option (List ℕ)) (items : Nodes) → Opens scope around first last →
     ((c : Context) (v : Value) → Leaves x (eval_all c v items)) → Keeps x (node.Block scope items)
 unfolding eval
 keeps_block x None items typed.unscoped h c = h c Nothing
 keeps_block x (Some text) items typed.scoped h c = leaves_scoped x text _ (h c Nothing)
 
-keeps_for : (x : ℕ) {around first last : _} (slot : ℕ) (a b c : Node) (scope : Option (List ℕ)) (control : Place) (s : Node) (line : Line) →
-    Opens scope around first last → x < slot → ((v : Value) → Leaves x (set control types.Int v)) → Keeps x a → Keeps x b → Keeps x c → Keeps x s →
-    Keeps x (node.For slot a b c scope control s line)
+keeps_for : (x : Spot) {around first last : _} (slot : ℕ) (a b c : Node) (scope : Option (List ℕ)) (control : Place) (s : Node) (line : Line) →
+    Opens scope around first last → (x.number ≡ true → x.slot < slot) → ((v : Value) → Leaves x (set control types.Int v)) → Keeps x a → Keeps x b →
+    Keeps x c → Keeps x s → Keeps x (node.For slot a b c scope control s line)
 unfolding eval
 keeps_for x slot a b c scope control s line opens below at_control ha hb hc h context =
     leaves_for x context.bound line slot scope control (eval context a) (eval context b) (eval context c) (eval context s) below at_control (ha context)
     (hb context)
     (hc context) (h context)
 
--- inside a loop by `for`
+keeps_scan : (x : Spot) (strings : Bool) (a f : Node) (refs nums : ℕ) (line : Line) → (x.number ≡ true → x.slot < nums) →
+    (x.number ≡ false → x.slot < refs) → Keeps x a → Keeps x f → Keeps x (node.Scan strings a f refs nums line)
+unfolding eval
+keeps_scan x strings a f refs nums line nums_above refs_above ha hf context =
+    leaves_begin_scan x strings refs nums (eval context a) (eval context f) _ nums_above refs_above (ha context) (hf context) (λ table procedure.
+    leaves_scan_turns x context.bound (scan_by context line strings refs nums table procedure) nums_above refs_above
+    (λ args. leaves_call x context line procedure args) None 0)
+
+-- inside a scan, and inside a loop by `for`
+scan_grows : (free : Free) → Grows free (behind_scan free)
+scan_grows free = record { nums = omega arith; refs = omega arith }
+
+loop_grows : (free : Free) → Grows free (behind_loop free)
+loop_grows free = record { nums = omega arith; refs = omega arith }
+
+pub locals_in_scan : (env : Env) (free : Free) → LocalsBelow env free → LocalsBelow env (behind_scan free)
+locals_in_scan env free locals = locals_grow env free (behind_scan free) (scan_grows free) locals
+
 pub locals_in_loop : (env : Env) (free : Free) → LocalsBelow env free → LocalsBelow env (behind_loop free)
-locals_in_loop env free locals = locals_grow env free (behind_loop free) (record { nums = omega arith; refs = omega arith }) locals
+locals_in_loop env free locals = locals_grow env free (behind_loop free) (loop_grows free) locals
 
 mutual
   unfolding eval eval_all
 
-  pub keeps : (x : ℕ) {env : Env} {free free' : Free} {t : Node} {ty : TyView} → IsTyped env free t ty free' → LocalsBelow env free → x < free.nums →
+  pub keeps : (x : Spot) {env : Env} {free free' : Free} {t : Node} {ty : TyView} → IsTyped env free t ty free' → LocalsBelow env free → IsFree x free →
       Unnamed x env → Keeps x t
   keeps x (typed.by_rule r are) locals below apart = keeps_by_rule x r (keeps_each x are locals below apart)
   keeps x (typed.name {place = place} {ty = ty} is) locals below apart = λ c. leaves_get x place ty
@@ -421,47 +564,54 @@ mutual
       {scope = scope} {control = control} {line = line} slot_is opens declares is are t) locals below apart =
       let d = declared declares (locals_in_loop env free locals) in
       let grows : Grows free behind = record { nums = let y = d.nums in omega arith; refs = let y = d.refs in omega arith } in
-      let further : x < behind.nums = let g = grows.nums in omega arith in
+      let in_loop = still_free x free (behind_loop free) (loop_grows free) below in
+      let further = still_free x free behind grows below in
       let three = keeps_each x are (locals_grow env free behind grows locals) further apart in
       let last = all_grows (track_all are (locals_grow env free behind grows locals)) in
-      let body = keeps x t (locals_grow own behind between last d.below) (let h = last.nums in omega arith)
-      (declared_unnamed x declares (omega arith) apart) in
-      keeps_for x slot a b c scope control s line opens (omega arith) (declared_apart x declares (omega arith)) three.0 three.1.0 three.1.1.0 body
-  keeps x (typed.scan q_is s_is are) locals below apart = λ c. leaves_unbuilt x
+      let body = keeps x t (locals_grow own behind between last d.below) (still_free x behind between last further)
+      (declared_unnamed x declares in_loop apart) in
+      keeps_for x slot a b c scope control s line opens (λ row. let l = free_nums x free below row in omega arith) (declared_apart x declares in_loop)
+      three.0 three.1.0 three.1.1.0 body
+  keeps x (typed.scan {env = env} {free = free} {string = string} {a = a} {f = f} {q = q} {s = s} {line = line} q_is s_is are) locals below apart =
+      let both = keeps_each x are (locals_in_scan env free locals) (still_free x free (behind_scan free) (scan_grows free) below) apart in
+      keeps_scan x string a f q s line (λ row. let l = free_nums x free below row in omega arith)
+      (λ row. let l = free_refs x free below row in omega arith) both.0 both.1.0
   keeps x (typed.literal is_body) locals below apart = λ c. leaves_made_procedure x _
 
-  pub keeps_each : (x : ℕ) {env : Env} {free free' : Free} {claims : List Claim} → AreTyped env free claims free' → LocalsBelow env free →
-      x < free.nums →
+  pub keeps_each : (x : Spot) {env : Env} {free free' : Free} {claims : List Claim} → AreTyped env free claims free' → LocalsBelow env free →
+      IsFree x free →
       Unnamed x env → Each (KeepClaim x) claims
   keeps_each x typed.no_more locals below apart = tt
   keeps_each x (typed.one_more {env = env} {free = free} {between = between} first others) locals below apart =
       let grows = tree_grows (track first locals) in
-      (keeps x first locals below apart, keeps_each x others (locals_grow env free between grows locals) (let h = grows.nums in omega arith) apart)
+      (keeps x first locals below apart, keeps_each x others (locals_grow env free between grows locals) (still_free x free between grows below) apart)
 
-  keeps_items : (x : ℕ) {env last : Env} {free free' : Free} {before ty : TyView} {items : Nodes} → AreItems env free before items ty last free' →
-      LocalsBelow env free → x < free.nums → Unnamed x env → (c : Context) (v : Value) → Leaves x (eval_all c v items)
+  keeps_items : (x : Spot) {env last : Env} {free free' : Free} {before ty : TyView} {items : Nodes} → AreItems env free before items ty last free' →
+      LocalsBelow env free → IsFree x free → Unnamed x env → (c : Context) (v : Value) → Leaves x (eval_all c v items)
   keeps_items x typed.at_end locals below apart c v = leaves_give x v
   keeps_items x (typed.a_clause {env = env} {free = free} {between = between} {item = item} first others) locals below apart c v =
       let grows = tree_grows (track first locals) in
       leaves_then x (eval c item) _ (keeps x first locals below apart c)
-      (λ w. keeps_items x others (locals_grow env free between grows locals) (let h = grows.nums in omega arith) apart c w)
+      (λ w. keeps_items x others (locals_grow env free between grows locals) (still_free x free between grows below) apart c w)
   keeps_items x (typed.a_value {env = env} {with_name = with_name} {free = free} {behind = behind} {between = between} {place = place} {e = e}
       {rest = rest}
       {of = of} isnt declares te others) locals below apart c v =
       let d = declared declares locals in
       let grows : Grows free behind = record { nums = let y = d.nums in omega arith; refs = let y = d.refs in omega arith } in
       let of_e = tree_grows (track te (locals_grow env free behind grows locals)) in
+      let further = still_free x free behind grows below in
       leaves_then x (eval c (node.Let place of e)) _
-      (leaves_then x (eval c e) _ (keeps x te (locals_grow env free behind grows locals) (let h = grows.nums in omega arith) apart c)
+      (leaves_then x (eval c e) _ (keeps x te (locals_grow env free behind grows locals) further apart c)
       (λ w. declared_apart x declares below w))
-      (λ w. keeps_items x others (locals_grow with_name behind between of_e d.below) (let h = grows.nums in let k = of_e.nums in omega arith)
+      (λ w. keeps_items x others (locals_grow with_name behind between of_e d.below) (still_free x behind between of_e further)
       (declared_unnamed x declares below apart) c w)
   keeps_items x (typed.a_literal {env = env} {with_name = with_name} {free = free} {behind = behind} {between = between} {place = place}
       {procedure = procedure} {rest = rest} {of = of} declares te others) locals below apart c v =
       let d = declared declares locals in
       let grows : Grows free behind = record { nums = let y = d.nums in omega arith; refs = let y = d.refs in omega arith } in
       let of_e = tree_grows (track te d.below) in
+      let further = still_free x free behind grows below in
       leaves_then x (eval c (node.Let place of (node.Proc procedure))) _
       (leaves_then x (eval c (node.Proc procedure)) _ (leaves_made_procedure x procedure) (λ w. declared_apart x declares below w))
-      (λ w. keeps_items x others (locals_grow with_name behind between of_e d.below) (let h = grows.nums in let k = of_e.nums in omega arith)
+      (λ w. keeps_items x others (locals_grow with_name behind between of_e d.below) (still_free x behind between of_e further)
       (declared_unnamed x declares below apart) c w)

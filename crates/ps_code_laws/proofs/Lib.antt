@@ -1,13 +1,17 @@
 pub mod Compiling
+pub mod HeldCompiling
+pub mod CommitCompiling
+pub mod LibraryCompiling
 pub mod Standing
 pub mod Keeps
 pub mod Known
-pub mod InputCalls
+pub mod LibraryResults
 pub mod Giving
 pub mod Clauses
 pub mod Naming
 pub mod Building
 pub mod TypeOf
+pub mod LibraryWalks
 pub mod Falls
 pub mod Staying
 pub mod Literals
@@ -20,6 +24,7 @@ pub mod Loops
 pub mod Operands
 pub mod Attempts
 pub mod TextForms
+pub mod LibraryForms
 pub mod StructureForms
 pub mod VectorForms
 pub mod RowForms
@@ -29,6 +34,7 @@ pub mod Scoping
 pub mod Arguments
 pub mod CallForms
 pub mod Calls
+pub mod ScanForms
 pub mod Handed
 pub mod Beginning
 pub mod Simulation

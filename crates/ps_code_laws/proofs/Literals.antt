@@ -12,7 +12,7 @@ use Rattle.ps_stepping.specs.ps_heap.Texts.{Attempt, Yields, Fails}
 use Rattle.ps_stepping.specs.ps_heap.Objects.{Heap, Object, Structure, Elements, Scope, Keyed, object_at, with_object, with_new, value_at, kept_as, is_of, fields_in, field_of, with_field, is_vector, is_made, vector_of, filled_vector, low_in, elements_in, type_in, vector_in, found_at, put_at, with_element, element_of as element_at}
 use Rattle.ps_stepping.specs.ps_heap.Scopes.{first_value, scope_at, names_in, scope_out, name_in, with_name_in, with_name, kept_name, with_kept_name}
 use Rattle.ps_stepping.specs.ps_meaning.Meaning.{Frame, with_local}
-use Rattle.ps_stepping.specs.ps_meaning.Evaluation.{kept_all, kept_elements}
+use Rattle.ps_stepping.specs.ps_meaning.Operations.{kept_all, kept_elements}
 use Rattle.ps_soundness.proofs.Fields.{all_set, all_same}
 use Rattle.ps_code_laws.specs.Literals.{ValueIs, ValuesAre, ObjectIs, HeapIs, FrameIs}
 
@@ -110,7 +110,7 @@ module _ (P : BodyNode → Type 0) where
   OnYield Is (Yields a) = Is a
   OnYield Is (Fails trap) = Unit {0}
 
-  yield_if : {A : Type 0} (Is : A → Type 0) (b : Bool) (a : A) (trap : Trap) → Is a → OnYield Is (if b then Yields a else Fails trap)
+  pub yield_if : {A : Type 0} (Is : A → Type 0) (b : Bool) (a : A) (trap : Trap) → Is a → OnYield Is (if b then Yields a else Fails trap)
   yield_if Is true a trap h = h
   yield_if Is false a trap h = tt
 

@@ -1,6 +1,7 @@
 -- Loops by `for`: the machine reads the limit and the step from their locals at each turn, and nothing but the loop sets them.
 use Rattle.std.proofs.Common.{◌≡◌, ℕ, zero, suc, ◌+◌, ◌<◌, ◌≤◌, ℤ, pos, ◌+ℤ◌, Bool, true, false, List, [], ◌∷◌, Option, Some, None, refl, sym, ap, ◌∙◌, subst, arith, eq-eqb}
 use Rattle.std.specs.Prelude.{nat_eq}
+use Rattle.ps_gen.specs.ps_program.Node.{BodyNode}
 use Rattle.ps_gen.specs.ps_base.TyView.{TyView}
 use Rattle.ps_gen.specs.ps_base.TyView as types
 use Rattle.ps_gen.specs.ps_base.CodeUnit.{text}
@@ -17,12 +18,11 @@ use Rattle.ps_stepping.specs.ps_heap.Operators.{is_int, is_same}
 use Rattle.ps_stepping.specs.ps_heap.Objects.{Heap}
 use Rattle.ps_stepping.specs.ps_heap.Ends.{Trapped}
 use Rattle.ps_stepping.specs.ps_heap.Values.{Value, Num, Nothing, word_of}
-use Rattle.ps_stepping.specs.ps_meaning.Meaning.{Frame, Store, State, Outcome, Value_is, Ends, Meaning, give, stop, after, ◌>>=◌, choose, in_scope, with_turns, spent, take_turn, with_local, set}
-use Rattle.ps_stepping.specs.ps_meaning.Evaluation.{Counting, goes_on, in_turn, for_turns, for_loop, for_meant}
+use Rattle.ps_stepping.specs.ps_meaning.Meaning.{Frame, Store, State, Outcome, Value_is, Ends, Meaning, give, stop, after, ◌>>=◌, choose, in_scope, with_turns, spent, take_turn, with_local, change, set}
+use Rattle.ps_stepping.specs.ps_meaning.Loops.{Counting, goes_on, in_turn, for_turns, for_loop, for_meant}
 use Rattle.ps_stepping.specs.Config.{Config, code_in, constants_in, constant_at, frame_in, IsAt}
 use Rattle.ps_stepping.specs.Machine.{turn_to, started, counted, act}
 use Rattle.ps_code_laws.specs.Compiled.{compiled_store}
-use Rattle.ps_code_laws.specs.Literals.{Fits}
 use Rattle.ps_soundness.specs.Running.{IsScopeText}
 use Rattle.ps_soundness.specs.Shapes.{IsOf, Grows}
 use Rattle.ps_soundness.proofs.Combining.{Standing, Sound}
@@ -30,11 +30,12 @@ use Rattle.ps_soundness.proofs.Growing.{grows_not, grows_then}
 use Rattle.ps_soundness.proofs.Loops.{goes_on_int}
 use Rattle.ps_code_laws.proofs.Known.{HasPlace, next, opened}
 use Rattle.ps_code_laws.proofs.Clauses.{int, KeepsTypes, Controls}
-use Rattle.ps_code_laws.proofs.Keeps.{Same, Leaves, other_local, leaves_set, leaves_then, leaves_kept, leaves_scoped}
+use Rattle.ps_code_laws.proofs.Keeps.{on_nums, Same, Leaves, other_local, leaves_set, leaves_then, leaves_kept, leaves_scoped}
 use Rattle.ps_code_laws.proofs.Falls.{falls_set, falls_then, falls_scoped}
 use Rattle.ps_code_laws.proofs.Staying.{Stays, stays_then, stays_set}
 use Rattle.ps_code_laws.proofs.Literals.{IsLiteral}
 use Rattle.ps_code_laws.proofs.Holding.{holds_set, holds_then, holds_scoped}
+use Rattle.ps_code_laws.proofs.Standing.{AtBy}
 use Rattle.ps_code_laws.proofs.Doing.{Origin, IsSince, after_it, Leads, leads_more, leads_then, Way, if_true, if_false, if_lt, words_set, place, Comes, Room, Does, later, moved, step, quiet, halt, halt_there, less_room, jump_goes, push_goes, with_words, set_goes, does_set, turn_goes}
 use Rattle.ps_code_laws.proofs.From.{On, From, from_does, then_from, fewer_from}
 use Rattle.ps_code_laws.proofs.ScopeForms.{does_set_kept}
@@ -47,7 +48,7 @@ same_local row slot v = if_true (nat_eq slot slot) v (row slot) (eq-eqb slot slo
 abbrev Reads : ℕ → ℤ → Frame → Type 0
 Reads x z f = word_of (f.nums x) ≡ z
 
-reads_on : (x : ℕ) (z : ℤ) (f : Frame) (o : Outcome) → Reads x z f → Same x f o → On (λ v g. Reads x z g) o
+reads_on : (x : ℕ) (z : ℤ) (f : Frame) (o : Outcome) → Reads x z f → Same (on_nums x) f o → On (λ v g. Reads x z g) o
 reads_on x z f (Value_is v g s) h k = ap word_of k ∙ h
 reads_on x z f (Ends e s) h k = tt
 
@@ -61,13 +62,13 @@ record Two (slot : ℕ) (z limit : ℤ) (f : Frame) : Type 0 where
   pub control_is : Reads slot z f
   pub limit_is : Reads (slot + 1) limit f
 
-two_on : (slot : ℕ) (z limit : ℤ) (f : Frame) (o : Outcome) → Two slot z limit f → Same slot f o → Same (slot + 1) f o →
+two_on : (slot : ℕ) (z limit : ℤ) (f : Frame) (o : Outcome) → Two slot z limit f → Same (on_nums slot) f o → Same (on_nums (slot + 1)) f o →
     On (λ v g. Two slot z limit g) o
 two_on slot z limit f (Value_is v g s) h k l = record { control_is = ap word_of k ∙ h.control_is; limit_is = ap word_of l ∙ h.limit_is }
 two_on slot z limit f (Ends e s) h k l = tt
 
-three_on : (slot : ℕ) (z limit step : ℤ) (f : Frame) (o : Outcome) → Three slot z limit step f → Same slot f o → Same (slot + 1) f o →
-    Same (slot + 2) f o →
+three_on : (slot : ℕ) (z limit step : ℤ) (f : Frame) (o : Outcome) → Three slot z limit step f → Same (on_nums slot) f o → Same (on_nums (slot + 1)) f o →
+    Same (on_nums (slot + 2)) f o →
     On (λ v g. Three slot z limit step g) o
 three_on slot z limit step f (Value_is v g s) h k l m =
     record { control_is = ap word_of k ∙ h.control_is; limit_is = ap word_of l ∙ h.limit_is; step_is = ap word_of m ∙ h.step_is }
@@ -77,24 +78,24 @@ three_on slot z limit step f (Ends e s) h k l m = tt
 abbrev pub turn_meant : Option (List ℕ) → Place → Meaning → ℤ → Meaning
 turn_meant scope control clause z = in_scope scope (set control types.Int (Num z) >>= λ u. clause)
 
-int_literal : (heap : Heap) (v : Value) → IsOf heap types.Int v → IsLiteral Fits v
-int_literal heap (Num z) is = tt
-int_literal heap _ is = absurd is
+int_literal : (P : BodyNode → Type 0) (heap : Heap) (v : Value) → IsOf heap types.Int v → IsLiteral P v
+int_literal P heap (Num z) is = tt
+int_literal P heap _ is = absurd is
 
 module _ (w : Way) where
   -- what a loop by `for` needs, and where it stands: its turns begin here, and the step to the next is here
   pub record Stands (n : Origin) (own_known : Standing) (slot : ℕ) (scope : Option (List ℕ)) (control : Place) (need turn q : ℕ) (clause : Meaning) :
       Type 0 where
     pub typed : KeepsTypes n.known own_known slot
-    pub leads : (z : ℤ) → is_int z ≡ true → Leads n own_known types.Void (turn_meant scope control clause z)
+    pub leads : (z : ℤ) → is_int z ≡ true → Leads w.Body n own_known types.Void (turn_meant scope control clause z)
     pub three : slot + 2 < (frame_in w.unit).nums
     pub does : (z limit step : ℤ) → is_int z ≡ true →
         From w n (Three slot z limit step) [] [] (turn_meant scope control clause z) types.Void need turn q
-    pub next_at : IsAt (code_in w.unit) q (instr.ForNext slot turn)
+    pub next_at : AtBy w.Allows w.unit q (instr.ForNext slot turn)
     pub back : turn < q
-    pub keeps : (z : ℤ) → Leaves slot (turn_meant scope control clause z)
-    pub keeps_limit : (z : ℤ) → Leaves (slot + 1) (turn_meant scope control clause z)
-    pub keeps_step : (z : ℤ) → Leaves (slot + 2) (turn_meant scope control clause z)
+    pub keeps : (z : ℤ) → Leaves (on_nums slot) (turn_meant scope control clause z)
+    pub keeps_limit : (z : ℤ) → Leaves (on_nums (slot + 1)) (turn_meant scope control clause z)
+    pub keeps_step : (z : ℤ) → Leaves (on_nums (slot + 2)) (turn_meant scope control clause z)
 
   module _ (n : Origin) (own_known : Standing) (slot : ℕ) (scope : Option (List ℕ)) (control : Place) (need turn q : ℕ) (clause : Meaning)
       (limit step_by : ℤ) (h : Stands n own_known slot scope control need turn q clause) where
@@ -111,9 +112,9 @@ module _ (w : Way) where
     -- from an instruction that takes a turn to the turns with this number, where so many may be left
     abbrev Turns : ℕ → Type 0
     Turns m = (z : ℤ) (before : Config) (i : Instr) (nums : List ℤ) (refs : List Value) (f : Frame) (s : State) →
-        before.store.counted ≡ s.store.counted → IsAt (code_in before.unit) before.at i →
+        before.store.held.counted ≡ s.store.held.counted → AtBy w.Allows before.unit before.at i →
         act i before ≡ turn_to (spent (compiled_store s.store)) turn (place w (before.at + width_of i) nums refs f s.store) →
-        IsSince (since m s.store.heap n.known) f s → m ≤ n.turns → Grows n.heap s.store.heap → is_int z ≡ true → At z f → Room w need nums refs →
+        IsSince w.Body (since m s.store.held.objects n.known) f s → m ≤ n.turns → Grows n.heap s.store.held.objects → is_int z ≡ true → At z f → Room w need nums refs →
         Comes w (q + 9) nums refs types.Void (for_turns m loop clause z f s) → w.Holds before s.events
 
     counted_is : (z : ℤ) (nums : List ℤ) (refs : List Value) (f : Frame) (store : Store) → At z f →
@@ -144,11 +145,11 @@ module _ (w : Way) where
             limit_is = ap word_of (other_local f.nums slot (slot + 1) (Num z') (λ e. omega arith)) ∙ is.limit_is;
             step_is = ap word_of (other_local f.nums slot (slot + 2) (Num z') (λ e. omega arith)) ∙ is.step_is;
           } in
-          let set_types = (h.typed.counts z' s.store.heap).runs f s (grows_not s.store.heap) known.typed known.are in
-          let held = holds_set Fits (Plain slot) types.Int (Num z') tt f s known.held.0 known.held.1 in
+          let set_types = (h.typed.counts z' s.store.held.objects).runs f s (grows_not s.store.held.objects) known.typed known.are in
+          let held = holds_set w.Body (Plain slot) types.Int (Num z') tt f s known.held.0 known.held.1 in
           rest z' (place w q nums refs f s.store) (instr.ForNext slot turn) nums refs g s refl h.next_at acts
-          (record { few = known.few; grows = grows_not s.store.heap; typed = known.typed; are = set_types.are; held = (held.1, held.2) }) le
-          (grows_then n.heap heap s.store.heap grown known.grows)
+          (record { few = known.few; grows = grows_not s.store.held.objects; typed = known.typed; are = set_types.are; held = (held.1, held.2); weighs = known.weighs }) le
+          (grows_then n.heap heap s.store.held.objects grown known.grows)
           (goes_on_int limit step_by z' on_it) now room reach;
     }
     next_does m heap z le grown rest false on_it = record {
@@ -176,17 +177,18 @@ module _ (w : Way) where
         none_left) reach
     turns_go (suc m) z before i nums refs f s same at acts known le grown is_number is room reach =
         turn_goes w (q + 9) turn before i nums nums refs refs types.Void f s s.store.turns _ same at acts
-        (λ events left less reach'. (turn_does m s.store.heap z (omega arith) grown is_number (turns_go m)).by nums refs f _ is room
+        (λ events left less reach'. (turn_does m s.store.held.objects z (omega arith) grown is_number (turns_go m)).by nums refs f _ is room
         (record {
           few = let few = known.few in omega arith;
-          grows = grows_not s.store.heap;
+          grows = grows_not s.store.held.objects;
           typed = known.typed;
           are = known.are;
           held = known.held;
+          weighs = known.weighs;
         }) reach') reach
 
     -- the start of a loop
-    module _ (p : ℕ) (line : Line) (start_at : IsAt (code_in w.unit) p (instr.ForStart slot (q + 9) line)) (turn_is : p + 13 ≡ turn) where
+    module _ (p : ℕ) (line : Line) (start_at : AtBy w.Allows w.unit p (instr.ForStart slot (q + 9) line)) (turn_is : p + 13 ≡ turn) where
       started_is : (z : ℤ) (nums : List ℤ) (refs : List Value) (f : Frame) (store : Store) → At z f →
           act (instr.ForStart slot (q + 9) line) (place w p nums refs f store) ≡ started p (q + 9) line z limit step_by
           (place w (p + 13) nums refs f store)
@@ -212,8 +214,8 @@ module _ (w : Way) where
             on_it
             ∙ ap (λ (to : ℕ). turn_to (spent (compiled_store s.store)) to (place w (p + 13) nums refs f s.store)) turn_is in
             turns_go n.turns z (place w p nums refs f s.store) (instr.ForStart slot (q + 9) line) nums refs f s refl start_at acts
-            (record { few = known.few; grows = grows_not s.store.heap; typed = known.typed; are = known.are; held = known.held }) (omega arith)
-            (grows_then n.heap heap s.store.heap grown known.grows) (goes_on_int limit step_by z on_it) is room reach;
+            (record { few = known.few; grows = grows_not s.store.held.objects; typed = known.typed; are = known.are; held = known.held; weighs = known.weighs }) (omega arith)
+            (grows_then n.heap heap s.store.held.objects grown known.grows) (goes_on_int limit step_by z on_it) is room reach;
       }
       start_does heap grown z false false is_zero on_it = record {
         by = λ nums refs f s is room known reach. jump_goes w p (q + 9) (place w (p + 13) nums refs f s.store) (instr.ForStart slot (q + 9) line)
@@ -255,22 +257,22 @@ module _ (w : Way) where
   -- the start, the limit and the step, and then the loop
   pub does_for : (n : Origin) (own_known : Standing) (slot : ℕ) (scope : Option (List ℕ)) (control : Place) (need q na nb nc p pa pb pc : ℕ)
       (a b c clause : Meaning) (line : Line) → Stands n own_known slot scope control need (pc + 5 + 13) q clause → na ≤ need → nb ≤ need → nc ≤ need →
-      Leads n n.known types.Int a → Leads n n.known types.Int b → Leads n n.known types.Int c →
-      Does w n [] [] a types.Int na p pa → IsAt (code_in w.unit) pa (instr.SetM slot) →
-      Does w n [] [] b types.Int nb (pa + 5) pb → IsAt (code_in w.unit) pb (instr.SetM (slot + 1)) →
-      Does w n [] [] c types.Int nc (pb + 5) pc → IsAt (code_in w.unit) pc (instr.SetM (slot + 2)) →
-      IsAt (code_in w.unit) (pc + 5) (instr.ForStart slot (q + 9) line) → Leaves slot b → Leaves slot c → Leaves (slot + 1) c →
+      Leads w.Body n n.known types.Int a → Leads w.Body n n.known types.Int b → Leads w.Body n n.known types.Int c →
+      Does w n [] [] a types.Int na p pa → AtBy w.Allows w.unit pa (instr.SetM slot) →
+      Does w n [] [] b types.Int nb (pa + 5) pb → AtBy w.Allows w.unit pb (instr.SetM (slot + 1)) →
+      Does w n [] [] c types.Int nc (pb + 5) pc → AtBy w.Allows w.unit pc (instr.SetM (slot + 2)) →
+      AtBy w.Allows w.unit (pc + 5) (instr.ForStart slot (q + 9) line) → Leaves (on_nums slot) b → Leaves (on_nums slot) c → Leaves (on_nums (slot + 1)) c →
       Does w n [] [] (for_meant n.turns line slot scope control a b c clause) types.Void need p (q + 9)
   unfolding for_meant
   does_for n own_known slot scope control need q na nb nc p pa pb pc a b c clause line h le_a le_b le_c la lb lc da at_a db at_b dc at_c at_start
       keeps_b keeps_c keeps_limit =
       let three = h.three in
       let sets : (at : ℕ) (heap : Heap) (v : Value) → slot ≤ at → IsOf heap types.Int v →
-      Leads (after_it n heap n.known) n.known types.Void (set (Plain at) types.Int v)
+      Leads w.Body (after_it n heap n.known) n.known types.Void (set (Plain at) types.Int v)
       = λ at heap v le is. record {
         falls = falls_set (Plain at) types.Int v;
         sound = h.typed.spares at le heap v;
-        holds = holds_set Fits (Plain at) types.Int v (int_literal heap v is);
+        holds = holds_set w.Body (Plain at) types.Int v (int_literal w.Body heap v is);
       } in
       let chain : From w n (λ f. Unit {0}) [] [] (for_meant n.turns line slot scope control a b c clause) types.Void need p (q + 9)
       = then_from w _ (λ v g. Unit {0}) na need p pa (q + 9) le_a la (λ f s is. on_unit (a f s)) (from_does w _ da)
@@ -298,8 +300,8 @@ module _ (w : Way) where
   -- The turns of a loop whose control is a local.
   module _ (n : Origin) (own : Standing) (slot control ns need turn q : ℕ) (clause : Meaning) (three : slot + 2 < (frame_in w.unit).nums)
       (apart : slot + 2 < control) (below : control < (frame_in w.unit).nums) (few : ns ≤ need) (one : 1 ≤ need)
-      (controls : Controls n.known own (Plain control)) (leads : Leads (after_it n n.heap own) own types.Void clause)
-      (get_at : IsAt (code_in w.unit) turn (instr.GetM slot)) (set_at : IsAt (code_in w.unit) (turn + 5) (instr.SetM control))
+      (controls : Controls n.known own (Plain control)) (leads : Leads w.Body (after_it n n.heap own) own types.Void clause)
+      (get_at : AtBy w.Allows w.unit turn (instr.GetM slot)) (set_at : AtBy w.Allows w.unit (turn + 5) (instr.SetM control))
       (does : Does w (after_it n n.heap own) [] [] clause types.Void ns (turn + 5 + 5) q) where
     -- the control has the number of the turn
     plain_does : (z limit step : ℤ) → From w n (Three slot z limit step) [] [] (set (Plain control) types.Int (Num z)) types.Void 1 turn (turn + 5 + 5)
@@ -320,11 +322,11 @@ module _ (w : Way) where
       step_is = ap word_of (other_local f.nums control (slot + 2) (Num z) (λ e. omega arith)) ∙ is.step_is;
     }
 
-    set_leads : (z : ℤ) → is_int z ≡ true → Leads n own types.Void (set (Plain control) types.Int (Num z))
+    set_leads : (z : ℤ) → is_int z ≡ true → Leads w.Body n own types.Void (set (Plain control) types.Int (Num z))
     set_leads z is = record {
       falls = falls_set (Plain control) types.Int (Num z);
       sound = controls z is n.heap;
-      holds = holds_set Fits (Plain control) types.Int (Num z) tt;
+      holds = holds_set w.Body (Plain control) types.Int (Num z) tt;
     }
 
     plain_turn : (z limit step : ℤ) → is_int z ≡ true →
@@ -334,15 +336,15 @@ module _ (w : Way) where
         (plain_does z limit step)
         (λ new u g done. from_does w _ (moved w ns need (turn + 5 + 5) q q few refl (later w new g does)))
 
-    plain_leads : (z : ℤ) → is_int z ≡ true → Leads n own types.Void (turn_meant None (Plain control) clause z)
+    plain_leads : (z : ℤ) → is_int z ≡ true → Leads w.Body n own types.Void (turn_meant None (Plain control) clause z)
     plain_leads z is = leads_then (set_leads z is) (λ new g. leads_more (omega arith) g leads)
 
-    plain_keeps : (x : ℕ) → x ≤ slot + 2 → Leaves x clause → (z : ℤ) → Leaves x (turn_meant None (Plain control) clause z)
+    plain_keeps : (x : ℕ) → x ≤ slot + 2 → Leaves (on_nums x) clause → (z : ℤ) → Leaves (on_nums x) (turn_meant None (Plain control) clause z)
     plain_keeps x le h z =
-        leaves_then x (set (Plain control) types.Int (Num z)) _ (leaves_set x control types.Int (Num z) (λ number e. omega arith)) (λ u. h)
+        leaves_then (on_nums x) (set (Plain control) types.Int (Num z)) _ (leaves_set (on_nums x) control types.Int (Num z) (λ number e. omega arith)) (λ u. h)
 
-    pub plain_stands : KeepsTypes n.known own slot → IsAt (code_in w.unit) q (instr.ForNext slot turn) → turn < q → Leaves slot clause →
-        Leaves (slot + 1) clause → Leaves (slot + 2) clause → Stands n own slot None (Plain control) need turn q clause
+    pub plain_stands : KeepsTypes n.known own slot → AtBy w.Allows w.unit q (instr.ForNext slot turn) → turn < q → Leaves (on_nums slot) clause →
+        Leaves (on_nums (slot + 1)) clause → Leaves (on_nums (slot + 2)) clause → Stands n own slot None (Plain control) need turn q clause
     plain_stands typed next_at back keeps keeps_limit keeps_step = record {
       typed = typed;
       leads = plain_leads;
@@ -359,12 +361,12 @@ module _ (w : Way) where
   module _ (n : Origin) (own : Standing) (slot ns need turn q k : ℕ) (clause : Meaning) (bytes : List ℕ) (wholes : List (List Field))
       (its : IsScopeText bytes) (are : n.known.wholes ≡ Some wholes) (at : IsNth (IsOfType types.Int) its.fields 0)
       (three : slot + 2 < (frame_in w.unit).nums) (few : ns ≤ need) (one : 1 ≤ need)
-      (controls : Controls (opened n.known its.fields wholes) own (Kept 0 0)) (leads : Leads (after_it n n.heap own) own types.Void clause)
+      (controls : Controls (opened n.known its.fields wholes) own (Kept 0 0)) (leads : Leads w.Body (after_it n n.heap own) own types.Void clause)
       (sound : (z : ℤ) → is_int z ≡ true → Sound n.heap n.known n.known types.Void (turn_meant (Some bytes) (Kept 0 0) clause z))
-      (stays : Stays clause) (scope_at : IsAt (code_in w.unit) turn (instr.Scope k))
-      (named : constant_at (constants_in w.unit) k ≡ Some (text bytes)) (get_at : IsAt (code_in w.unit) (turn + 5) (instr.GetM slot))
-      (keep_at : IsAt (code_in w.unit) (turn + 5 + 5) (instr.KeepM 0 0))
-      (does : Does w (after_it n n.heap own) [] [] clause types.Void ns (turn + 5 + 5 + 9) q) (leave_at : IsAt (code_in w.unit) q instr.Leave) where
+      (stays : Stays clause) (scope_at : AtBy w.Allows w.unit turn (instr.Scope k))
+      (named : constant_at (constants_in w.unit) k ≡ Some (text bytes)) (get_at : AtBy w.Allows w.unit (turn + 5) (instr.GetM slot))
+      (keep_at : AtBy w.Allows w.unit (turn + 5 + 5) (instr.KeepM 0 0))
+      (does : Does w (after_it n n.heap own) [] [] clause types.Void ns (turn + 5 + 5 + 9) q) (leave_at : AtBy w.Allows w.unit q instr.Leave) where
     abbrev inside : Heap → Origin
     inside new = after_it n new (opened n.known its.fields wholes)
 
@@ -391,18 +393,18 @@ module _ (w : Way) where
 
     kept_post : (z limit step : ℤ) (f : Frame) (s : State) → Three slot z limit step f →
         On (λ v g. Three slot z limit step g) (set (Kept 0 0) types.Int (Num z) f s)
-    unfolding set
+    unfolding set change
     kept_post z limit step f s is = is
 
-    kept_leads : (new : Heap) (z : ℤ) → is_int z ≡ true → Leads (inside new) own types.Void (set (Kept 0 0) types.Int (Num z))
+    kept_leads : (new : Heap) (z : ℤ) → is_int z ≡ true → Leads w.Body (inside new) own types.Void (set (Kept 0 0) types.Int (Num z))
     kept_leads new z is = record {
       falls = falls_set (Kept 0 0) types.Int (Num z);
       sound = controls z is new;
-      holds = holds_set Fits (Kept 0 0) types.Int (Num z) tt;
+      holds = holds_set w.Body (Kept 0 0) types.Int (Num z) tt;
     }
 
     turn_leads : (new : Heap) → Grows n.heap new → (z : ℤ) → is_int z ≡ true →
-        Leads (inside new) own types.Void (set (Kept 0 0) types.Int (Num z) >>= λ u. clause)
+        Leads w.Body (inside new) own types.Void (set (Kept 0 0) types.Int (Num z) >>= λ u. clause)
     turn_leads new g z is = leads_then (kept_leads new z is) (λ last l. leads_more (omega arith) (grows_then n.heap new last g l) leads)
 
     kept_turn : (z limit step : ℤ) → is_int z ≡ true →
@@ -415,19 +417,19 @@ module _ (w : Way) where
         (kept_post z limit step) (kept_does new z limit step)
         (λ last u l done. from_does w _ (moved w ns need (turn + 5 + 5 + 9) q q few refl (later w last (grows_then n.heap new last g l) does))))
 
-    scoped_leads : (z : ℤ) → is_int z ≡ true → Leads n n.known types.Void (turn_meant (Some bytes) (Kept 0 0) clause z)
+    scoped_leads : (z : ℤ) → is_int z ≡ true → Leads w.Body n n.known types.Void (turn_meant (Some bytes) (Kept 0 0) clause z)
     scoped_leads z is = record {
       falls = falls_scoped bytes _ (falls_then _ _ (falls_set (Kept 0 0) types.Int (Num z)) (λ u. leads.falls));
       sound = sound z is;
-      holds = holds_scoped Fits bytes _ (holds_then Fits _ _ (holds_set Fits (Kept 0 0) types.Int (Num z) tt) (λ u literal. leads.holds));
+      holds = holds_scoped w.Body bytes _ (holds_then w.Body _ _ (holds_set w.Body (Kept 0 0) types.Int (Num z) tt) (λ u literal. leads.holds));
     }
 
-    kept_keeps : (x : ℕ) → Leaves x clause → (z : ℤ) → Leaves x (turn_meant (Some bytes) (Kept 0 0) clause z)
+    kept_keeps : (x : ℕ) → Leaves (on_nums x) clause → (z : ℤ) → Leaves (on_nums x) (turn_meant (Some bytes) (Kept 0 0) clause z)
     kept_keeps x h z =
-        leaves_scoped x bytes _ (leaves_then x (set (Kept 0 0) types.Int (Num z)) _ (leaves_kept x 0 0 types.Int (Num z)) (λ u. h))
+        leaves_scoped (on_nums x) bytes _ (leaves_then (on_nums x) (set (Kept 0 0) types.Int (Num z)) _ (leaves_kept (on_nums x) 0 0 types.Int (Num z)) (λ u. h))
 
-    pub kept_stands : KeepsTypes n.known n.known slot → IsAt (code_in w.unit) (q + 1) (instr.ForNext slot turn) → turn < q + 1 → Leaves slot clause →
-        Leaves (slot + 1) clause → Leaves (slot + 2) clause → Stands n n.known slot (Some bytes) (Kept 0 0) need turn (q + 1) clause
+    pub kept_stands : KeepsTypes n.known n.known slot → AtBy w.Allows w.unit (q + 1) (instr.ForNext slot turn) → turn < q + 1 → Leaves (on_nums slot) clause →
+        Leaves (on_nums (slot + 1)) clause → Leaves (on_nums (slot + 2)) clause → Stands n n.known slot (Some bytes) (Kept 0 0) need turn (q + 1) clause
     kept_stands typed next_at back keeps keeps_limit keeps_step = record {
       typed = typed;
       leads = scoped_leads;

@@ -1,11 +1,12 @@
 -- Operands, one after the other, and what is done with their values.
-use Rattle.std.proofs.Common.{◌≡◌, ℕ, ◌+◌, ◌≤◌, ℤ, List, [], ◌∷◌, ◌++◌, length, ap, subst, length-append, arith as by_arith}
+use Rattle.std.proofs.Common.{◌≡◌, ℕ, ◌+◌, ◌≤◌, ℤ, List, [], ◌∷◌, ◌++◌, length, sym, ap, subst, length-append, arith as by_arith}
 use Rattle.ps_gen.specs.ps_base.TyView.{TyView}
 use Rattle.ps_gen.specs.ps_base.Instr.{width_of}
 use Rattle.ps_gen.specs.ps_base.declared.instr.Instr.{Instr}
 use Rattle.ps_gen.specs.ps_program.Node.{Node}
-use Rattle.ps_gen.specs.ps_program.Parts.{Part}
-use Rattle.ps_gen.specs.ps_program.Slots.{reaches}
+use Rattle.ps_gen.specs.ps_program.Parts.{Part, fold}
+use Rattle.ps_gen.proofs.of_ps_program.PartLemmas.{fold_parts}
+use Rattle.ps_gen.specs.ps_program.Slots.{reaches, depth}
 use Rattle.ps_stepping.specs.ps_heap.Values.{Value}
 use Rattle.ps_stepping.specs.ps_heap.Objects.{Heap}
 use Rattle.ps_stepping.specs.ps_meaning.Meaning.{Meaning, ◌>>=◌}
@@ -15,11 +16,11 @@ use Rattle.ps_stepping.specs.Config.{code_in, frame_in, IsAt}
 use Rattle.ps_soundness.specs.Shapes.{IsOf, Grows}
 use Rattle.ps_soundness.proofs.Growing.{grows_then, of_kept}
 use Rattle.ps_code_laws.specs.Meets.{nums_left, refs_left}
-use Rattle.ps_code_laws.proofs.Standing.{Ahead, ahead_at}
+use Rattle.ps_code_laws.proofs.Standing.{AtBy, Ahead, ahead_at}
 use Rattle.ps_code_laws.proofs.Falls.{Falling, falls_eval, calls_fall}
 use Rattle.ps_code_laws.proofs.Clauses.{sounds_in, bodies_in}
 use Rattle.ps_soundness.specs.Valued.{IsValued}
-use Rattle.ps_code_laws.specs.Literals.{BodiesAre, Fits}
+use Rattle.ps_code_laws.specs.Literals.{BodiesAre}
 use Rattle.ps_code_laws.proofs.Holding.{Holds, holds_eval, calls_hold}
 use Rattle.ps_code_laws.proofs.Clauses as clause
 use Rattle.ps_code_laws.proofs.Doing.{Origin, after_it, Leads, leads_more, Way, Does, later, does_then, does_over, nums_few, refs_few}
@@ -40,6 +41,11 @@ pub at_least_one : (before : ℕ) (parts : List (Part ℕ)) → 1 ≤ reaches be
 at_least_one before [] = omega by_arith
 at_least_one before (part ∷ parts) = let h = at_least_one (before + 1) parts in omega by_arith
 
+-- a clause needs room for a word at least
+pub some_depth : (tree : Node) → 1 ≤ depth tree
+some_depth tree =
+    subst (λ (n : ℕ). 1 ≤ n) (sym (fold_parts (λ (clause : Node) (parts : List (Part ℕ)). reaches 0 parts) tree)) (at_least_one 0 _)
+
 module _ (w : Way) where
   abbrev pub nums_of : ℕ
   nums_of = (frame_in w.unit).nums
@@ -48,7 +54,7 @@ module _ (w : Way) where
   refs_of = (frame_in w.unit).refs
 
   abbrev pub Stand : ℕ → Instr → Type 0
-  Stand p i = IsAt (code_in w.unit) p i
+  Stand p i = AtBy w.Allows w.unit p i
 
   pub to_end : {n : Origin} {bn : List ℤ} {br : List Value} {m : Meaning} {ty : TyView} {need p : ℕ} (k k' : ℕ) → k ≡ k' →
       Does w n bn br m ty need p k →
@@ -61,17 +67,17 @@ module _ (w : Way) where
   from_place {n = n} {bn = bn} {br = br} {m = m} {ty = ty} {need = need} {k = k} p p' e d = subst (λ (q : ℕ). Does w n bn br m ty need q k) e d
 
   -- after an instruction of this width
-  pub next_of : (p n : ℕ) (i : Instr) (is : List Instr) → width_of i ≡ n → Ahead w.unit p (i ∷ is) → Ahead w.unit (p + n) is
-  next_of p n i is e h = ahead_at w.unit (p + width_of i) (p + n) is (ap (λ k. p + k) e) h.1
+  pub next_of : (p n : ℕ) (i : Instr) (is : List Instr) → width_of i ≡ n → Ahead w.Allows w.unit p (i ∷ is) → Ahead w.Allows w.unit (p + n) is
+  next_of p n i is e h = ahead_at w.Allows w.unit (p + width_of i) (p + n) is (ap (λ k. p + k) e) h.1
 
   pub falls_in : (n : ℕ) (t : Node) → Falling (eval (context_in w n) t)
   falls_in n t = falls_eval (context_in w n) (calls_fall n (length w.callers)) t
 
-  pub holds_in : (n : ℕ) (t : Node) → BodiesAre Fits IsValued t → Holds Fits (eval (context_in w n) t)
-  holds_in n t fit = holds_eval Fits (context_in w n) (calls_hold Fits n (length w.callers)) t fit
+  pub holds_in : (n : ℕ) (t : Node) → BodiesAre w.Body IsValued t → Holds w.Body (eval (context_in w n) t)
+  holds_in n t fit = holds_eval w.Body (context_in w n) (calls_hold w.Body n (length w.callers)) t fit
 
   -- what is known of a clause where it begins
-  pub leads_of : (n : Origin) {t : Node} {ty : TyView} → clause.Part nums_of refs_of n.known t ty → Leads n n.known ty (eval (context_in w n.turns) t)
+  pub leads_of : (n : Origin) {t : Node} {ty : TyView} → clause.Part w.Body nums_of refs_of n.known t ty → Leads w.Body n n.known ty (eval (context_in w n.turns) t)
   leads_of n {t = t} h = record {
     falls = falls_in n.turns t;
     sound = sounds_in h n.turns (length w.callers) n.heap;
@@ -80,7 +86,7 @@ module _ (w : Way) where
 
   -- one operand, and an instruction that takes it
   pub does_one : {n : Origin} {a : Meaning} {tya ty : TyView} (op : Value → Meaning) (na ni need p q k : ℕ) → na ≤ need → ni ≤ need →
-      Leads n n.known tya a → Does w n [] [] a tya na p q →
+      Leads w.Body n n.known tya a → Does w n [] [] a tya na p q →
       ((new : Heap) (v : Value) → Grows n.heap new → IsOf new tya v →
       Does w (after_it n new n.known) (nums_left tya v) (refs_left tya v) (op v) ty ni q k) →
       Does w n [] [] (a >>= λ v. op v) ty need p k
@@ -89,7 +95,7 @@ module _ (w : Way) where
   -- two operands, and an instruction that takes them
   pub does_two : {n : Origin} {a b : Meaning} {tya tyb ty : TyView} (op : Value → Value → Meaning) (na nb ni need p q r k : ℕ) → na ≤ need →
       nb + 1 ≤ need →
-      ni ≤ need → Leads n n.known tya a → Leads n n.known tyb b → Does w n [] [] a tya na p q → Does w n [] [] b tyb nb q r →
+      ni ≤ need → Leads w.Body n n.known tya a → Leads w.Body n n.known tyb b → Does w n [] [] a tya na p q → Does w n [] [] b tyb nb q r →
       ((new : Heap) (v u : Value) → Grows n.heap new → IsOf new tya v → IsOf new tyb u →
       Does w (after_it n new n.known) (nums_left tyb u ++ nums_left tya v) (refs_left tyb u ++ refs_left tya v) (op v u) ty ni r k) →
       Does w n [] [] (a >>= λ v. b >>= λ u. op v u) ty need p k
@@ -102,7 +108,7 @@ module _ (w : Way) where
   -- three
   pub does_three : {n : Origin} {a b d : Meaning} {tya tyb tyd ty : TyView} (op : Value → Value → Value → Meaning) (na nb nd ni need p q r t k : ℕ) →
       na ≤ need →
-      nb + 1 ≤ need → nd + 2 ≤ need → ni ≤ need → Leads n n.known tya a → Leads n n.known tyb b → Leads n n.known tyd d →
+      nb + 1 ≤ need → nd + 2 ≤ need → ni ≤ need → Leads w.Body n n.known tya a → Leads w.Body n n.known tyb b → Leads w.Body n n.known tyd d →
       Does w n [] [] a tya na p q →
       Does w n [] [] b tyb nb q r → Does w n [] [] d tyd nd r t →
       ((new : Heap) (v u x : Value) → Grows n.heap new → IsOf new tya v → IsOf new tyb u → IsOf new tyd x →

@@ -18,7 +18,7 @@ use Rattle.ps_stepping.proofs.of_text_forms.ClassForms.{class-told}
 use Rattle.ps_stepping.specs.ps_heap.Values.{Value, Num, Flag, Pointer, Vector, word_of}
 use Rattle.ps_stepping.specs.ps_heap.Objects.{Heap, Structure, vector_of}
 use Rattle.ps_stepping.specs.ps_meaning.Meaning.{Frame, Store, made}
-use Rattle.ps_stepping.specs.ps_meaning.Evaluation.{kept_as, kept_all, kept_elements, make_meant, elements_meant}
+use Rattle.ps_stepping.specs.ps_meaning.Operations.{kept_as, kept_all, kept_elements, make_meant, elements_meant}
 use Rattle.ps_gen.specs.ps_emitter.Choices as choice
 use Rattle.ps_stepping.specs.Config.{Config, constants_in, constant_at}
 use Rattle.ps_stepping.specs.Machine.{Step, act}

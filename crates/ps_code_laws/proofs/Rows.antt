@@ -1,5 +1,5 @@
 -- Programs of which the law speaks: they are well typed, they run, and they have units.
-use Rattle.std.proofs.Common.{ℕ, ◌^◌, ◌<◌, FitsSigned, w32, List, [], ◌∷◌, inl, refl, pos, false, Some, None, arith}
+use Rattle.std.proofs.Common.{ℕ, ◌^◌, ◌<◌, FitsSigned, w32, List, [], ◌∷◌, inl, refl, pos, true, false, Some, None, arith}
 use Rattle.std.specs.List.{AllByRecursion}
 use Rattle.std.specs.Prelude.{codes}
 use Rattle.std.proofs.lemmas.Int.{fits_signed_from_abs}
@@ -12,14 +12,14 @@ use Rattle.ps_gen.specs.ps_program.Node as node
 use Rattle.ps_type_text.specs.Texts.{Field, class_text, is_name_byte}
 use Rattle.ps_typing_laws.specs.ps_typing.WellTyped.{IsTyped, IsWellTyped}
 use Rattle.ps_typing_laws.specs.ps_typing.WellTyped as typed
-use Rattle.ps_stepping.specs.ps_heap.Weights.{code_weight}
+use Rattle.ps_stepping.specs.ps_heap.Values.{Routine}
 use Rattle.ps_soundness.specs.Running.{IsScopeText, BodyRuns}
 use Rattle.ps_soundness.proofs.Telling.{Told}
-use Rattle.ps_stepping.specs.ps_meaning.Runs.{fresh_store, run_events}
-use Rattle.ps_gen.specs.Units.{HasUnit, unit_of}
-use Rattle.ps_stepping.specs.Config.{start}
-use Rattle.ps_stepping.specs.Machine.{Runs}
-use Rattle.ps_code_laws.proofs.Bodies.{program_runs}
+use Rattle.ps_stepping.specs.ps_meaning.Runs.{Given}
+use Rattle.ps_gen.specs.Units.{HasUnit}
+use Rattle.ps_code_laws.specs.Compiled.{WeighsUnits}
+use Rattle.ps_code_laws.specs.Meets.{IsFittingHeap}
+use Rattle.ps_code_laws.proofs.Bodies.{RunsAsMeant, all_true, program_runs}
 
 abbrev line : Line
 line = record { 0 = 1 }
@@ -101,8 +101,8 @@ has_unit = (
   ),
 )
 
-it_runs : Told → (turns : ℕ) → Runs (run_events turns [] program) (start (unit_of program) (fresh_store turns [] (code_weight program))) []
-it_runs told turns = program_runs told program turns [] is_typed it_has_a_run ((tt, tt), tt) refl (has_unit, tt)
+it_runs : Told → (weigh : Routine → ℕ) (given : Given) → WeighsUnits weigh → IsFittingHeap (λ i. true) given.heap → RunsAsMeant (λ i. true) weigh given program
+it_runs told weigh given weighs heap = program_runs told (λ i. true) program weigh given weighs heap is_typed it_has_a_run ((tt, tt), tt) refl (has_unit, tt) (all_true (program ∷ []))
 
 -- let v = @1 of string ["ab"]; write v(1) ++ "c"
 abbrev strings : Node
@@ -134,9 +134,9 @@ strings_are_typed = (
 strings_have_a_run : BodyRuns [] of_strings
 strings_have_a_run = (tt, ((tt, (tt, refl, (refl, tt))), ((((tt, refl), refl), tt), tt)))
 
-strings_run : Told → (turns : ℕ) → HasUnit of_strings →
-    Runs (run_events turns [] of_strings) (start (unit_of of_strings) (fresh_store turns [] (code_weight of_strings))) []
-strings_run told turns has = program_runs told of_strings turns [] strings_are_typed strings_have_a_run ((tt, tt), tt) refl (has, tt)
+strings_run : Told → (weigh : Routine → ℕ) (given : Given) → WeighsUnits weigh → IsFittingHeap (λ i. true) given.heap → HasUnit of_strings →
+    RunsAsMeant (λ i. true) weigh given of_strings
+strings_run told weigh given weighs heap has = program_runs told (λ i. true) of_strings weigh given weighs heap strings_are_typed strings_have_a_run ((tt, tt), tt) refl (has, tt) (all_true (of_strings ∷ []))
 
 -- let make = proc(int k -> proc( -> int)); proc( -> int); k
 -- for i = 1 to 2 do write make(i)()
@@ -209,7 +209,7 @@ procedures_have_a_run = (
   ),
 )
 
-procedures_run : Told → (turns : ℕ) (input : List ℕ) → AllByRecursion HasUnit (of_procedures ∷ make ∷ reads_k ∷ []) →
-    Runs (run_events turns input of_procedures) (start (unit_of of_procedures) (fresh_store turns input (code_weight of_procedures))) []
-procedures_run told turns input have =
-    program_runs told of_procedures turns input procedures_are_typed procedures_have_a_run ((tt, tt), (((tt, tt), (tt, tt)), ((tt, tt), tt))) refl have
+procedures_run : Told → (weigh : Routine → ℕ) (given : Given) → WeighsUnits weigh → IsFittingHeap (λ i. true) given.heap →
+    AllByRecursion HasUnit (of_procedures ∷ make ∷ reads_k ∷ []) → RunsAsMeant (λ i. true) weigh given of_procedures
+procedures_run told weigh given weighs heap have =
+    program_runs told (λ i. true) of_procedures weigh given weighs heap procedures_are_typed procedures_have_a_run ((tt, tt), (((tt, tt), (tt, tt)), ((tt, tt), tt))) refl have (all_true (of_procedures ∷ make ∷ reads_k ∷ []))

@@ -8,16 +8,17 @@ use Rattle.ps_gen.specs.ps_base.declared.instr.Instr.TheVariants as instr
 use Rattle.ps_gen.specs.ps_program.declared.place.Place.TheVariants.{Kept}
 use Rattle.ps_gen.specs.ps_program.Node.{BodyNode}
 use Rattle.ps_type_text.specs.Texts.{Field}
-use Rattle.ps_stepping.specs.ps_heap.Values.{Value, Procedure, as_written, word_of, number_of}
+use Rattle.ps_stepping.specs.ps_heap.Values.{Value, Num, Procedure, as_written, word_of, number_of}
+use Rattle.ps_stepping.specs.ps_heap.Held.{reading_name, assigned_name}
 use Rattle.ps_stepping.specs.ps_heap.Texts.{line_read, behind_line, is_at_end}
 use Rattle.ps_stepping.specs.ps_heap.Objects.{Heap, new_number}
 use Rattle.ps_stepping.specs.ps_heap.Scopes.{new_scope, kept_name}
-use Rattle.ps_stepping.specs.ps_meaning.Meaning.{Frame, Store, State, give, after, ◌>>=◌, made_text, made_procedure, with_input, put_input, enter, on_input, and_object, and_closure, get, set}
-use Rattle.ps_stepping.specs.ps_meaning.Evaluation.{read_line, at_end}
+use Rattle.ps_stepping.specs.ps_meaning.Meaning.{Frame, Store, State, give, after, ◌>>=◌, made_text, made_procedure, with_input, put_input, enter, on_input, and_object, and_closure, change, get, set}
+use Rattle.ps_stepping.specs.ps_meaning.Operations.{read_line, at_end}
 use Rattle.ps_gen.specs.Units.{unit_of}
 use Rattle.ps_stepping.specs.Config.{constants_in, constant_at}
 use Rattle.ps_stepping.specs.Machine.{Step, on, push_num, push_ref}
-use Rattle.ps_stepping.specs.Objects.{holding, changed}
+use Rattle.ps_stepping.specs.Objects.{holding, having}
 use Rattle.ps_stepping.specs.Procedures.{procedure_of}
 use Rattle.ps_soundness.proofs.Combining.{AreAround}
 use Rattle.ps_soundness.proofs.Scopes.{found}
@@ -25,27 +26,28 @@ use Rattle.ps_code_laws.specs.Compiled.{compiled, compiled_routine, compiled_sto
 use Rattle.ps_code_laws.proofs.Known.{HasPlace, declared, next}
 use Rattle.ps_code_laws.proofs.Clauses.{IsNum, IsRef}
 use Rattle.ps_code_laws.proofs.Compiling.{number_compiled, new_scope_compiled, and_object_compiled, kept_name_compiled, with_kept_name_compiled}
+use Rattle.ps_code_laws.proofs.HeldCompiling.{reading_name_compiled, assigned_name_compiled}
 use Rattle.ps_code_laws.proofs.KeptNames.{IsThere, declared_there, next_there, level_there, number_there, reference_there, word_kept}
 use Rattle.ps_code_laws.proofs.Doing.{Origin, IsSince, IsQuietly, Way, place, Does, does_meant, push_goes, push_ref_goes}
 use Rattle.ps_code_laws.proofs.Operands.{Stand}
-use Rattle.ps_code_laws.proofs.Attempts.{quiet_attempt, text_there, attempt_steps, text_steps, number_steps, reference_steps}
+use Rattle.ps_code_laws.proofs.Attempts.{quiet_attempt, text_there, attempt_steps, text_steps, number_held, reference_held, held_steps}
 
-pub there_of : {n : Origin} {up position : ℕ} {ty : TyView} (f : Frame) (s : State) → HasPlace n.known up position ty → IsSince n f s →
-    IsThere s.store.heap f.scope up position ty
+pub there_of : {P : BodyNode → Type 0} {n : Origin} {up position : ℕ} {ty : TyView} (f : Frame) (s : State) → HasPlace n.known up position ty → IsSince P n f s →
+    IsThere s.store.held.objects f.scope up position ty
 there_of {n = n} {up = up} {position = position} {ty = ty} f s (declared kept) since =
-    declared_there s.store.heap f.scope up position ty (found s.store.heap kept.wholes n.known.scopes f.scope up position ty kept.at
-    (subst (λ (wholes : Option (List (List Field))). AreAround s.store.heap f.scope wholes n.known.scopes) kept.are since.are.1))
+    declared_there s.store.held.objects f.scope up position ty (found s.store.held.objects kept.wholes n.known.scopes f.scope up position ty kept.at
+    (subst (λ (wholes : Option (List (List Field))). AreAround s.store.held.objects f.scope wholes n.known.scopes) kept.are since.are.1))
 there_of {n = n} {position = position} {ty = ty} f s (next h) since =
-    let around = subst (λ (scopes : List (List Field)). AreAround s.store.heap f.scope (Some (h.whole ∷ h.wholes)) scopes) h.scopes_are
-    (subst (λ (wholes : Option (List (List Field))). AreAround s.store.heap f.scope wholes n.known.scopes) h.are since.are.1) in
-    next_there s.store.heap f.scope h.whole h.fields position ty around.0 h.at
+    let around = subst (λ (scopes : List (List Field)). AreAround s.store.held.objects f.scope (Some (h.whole ∷ h.wholes)) scopes) h.scopes_are
+    (subst (λ (wholes : Option (List (List Field))). AreAround s.store.held.objects f.scope wholes n.known.scopes) h.are since.are.1) in
+    next_there s.store.held.objects f.scope h.whole h.fields position ty around.0 h.at
 
 quiet_get : (up position : ℕ) (ty : TyView) → IsQuietly (get (Kept up position) ty)
-unfolding get
+unfolding get change
 quiet_get up position ty f s = refl
 
 quiet_set : (up position : ℕ) (ty : TyView) (v : Value) → IsQuietly (set (Kept up position) ty v)
-unfolding set
+unfolding set change
 quiet_set up position ty v f s = refl
 
 quiet_enter : (bytes : List ℕ) → IsQuietly (enter bytes)
@@ -56,20 +58,6 @@ quiet_procedure : (of : BodyNode) → IsQuietly (made_procedure of)
 unfolding made_procedure
 quiet_procedure of f s = refl
 
-quiet_line : (input bytes : List ℕ) → IsQuietly (put_input input >>= λ u. made_text bytes)
-unfolding put_input made_text ◌>>=◌ after
-quiet_line input bytes f s = refl
-
-quiet_read_line : (line : Line) → IsQuietly (read_line line)
-unfolding read_line with_input
-quiet_read_line line f s =
-    quiet_attempt line (line_read s.store.input) (λ bytes. put_input (behind_line s.store.input) >>= λ u. made_text bytes)
-    (λ bytes. quiet_line (behind_line s.store.input) bytes) f s
-
-quiet_at_end : IsQuietly at_end
-unfolding at_end with_input give
-quiet_at_end f s = refl
-
 module _ (w : Way) where
   pub does_get_kept : (n : Origin) (p up position : ℕ) {ty : TyView} → IsNum ty → HasPlace n.known up position ty → Stand w p (instr.KeptM up position) →
       Does w n [] [] (get (Kept up position) ty) ty 1 p (p + 9)
@@ -78,10 +66,12 @@ module _ (w : Way) where
       does_meant w p 1 (instr.KeptM up position)
       (λ nums refs f s room since.
       let name = there_of {n = n} f s kept since in
-      level_there s.store.heap f.scope up name.whole name.names name.at_scope _
-      ∙ number_there s.store.heap f.scope up position name num _
-      ∙ ap (λ (v : Value). push_num (word_of v) (place w (p + 9) nums refs f s.store)) (kept_name_compiled s.store.heap f.scope up position)
-      ∙ number_steps w (p + 9) nums refs f s num (kept_name s.store.heap f.scope up position) room)
+      level_there s.store.held.objects f.scope up name.whole name.names name.at_scope _
+      ∙ number_there s.store.held.objects f.scope up position name num _
+      ∙ ap (λ (v : Value). push_num (word_of v) (having (reading_name f.scope up position) (place w (p + 9) nums refs f s.store)))
+      (kept_name_compiled s.store.held.objects f.scope up position)
+      ∙ number_held w (p + 9) nums refs f s num (kept_name s.store.held.objects f.scope up position) (reading_name f.scope up position)
+      (reading_name f.scope up position) (reading_name_compiled f.scope up position s.store.held since.weighs) room)
       (quiet_get up position ty) at
 
   pub does_get_kept_ref : (n : Origin) (p up position : ℕ) {ty : TyView} → IsRef ty → HasPlace n.known up position ty →
@@ -91,10 +81,12 @@ module _ (w : Way) where
       does_meant w p 1 (instr.KeptP up position)
       (λ nums refs f s room since.
       let name = there_of {n = n} f s kept since in
-      level_there s.store.heap f.scope up name.whole name.names name.at_scope _
-      ∙ reference_there s.store.heap f.scope up position name ref _
-      ∙ ap (λ (v : Value). push_ref v (place w (p + 9) nums refs f s.store)) (kept_name_compiled s.store.heap f.scope up position)
-      ∙ reference_steps w (p + 9) nums refs f s ref (kept_name s.store.heap f.scope up position) room)
+      level_there s.store.held.objects f.scope up name.whole name.names name.at_scope _
+      ∙ reference_there s.store.held.objects f.scope up position name ref _
+      ∙ ap (λ (v : Value). push_ref v (having (reading_name f.scope up position) (place w (p + 9) nums refs f s.store)))
+      (kept_name_compiled s.store.held.objects f.scope up position)
+      ∙ reference_held w (p + 9) nums refs f s ref (kept_name s.store.held.objects f.scope up position) (reading_name f.scope up position)
+      (reading_name f.scope up position) (reading_name_compiled f.scope up position s.store.held since.weighs) room)
       (quiet_get up position ty) at
 
   pub does_set_kept : (n : Origin) (p up position : ℕ) {ty : TyView} (v : Value) → IsNum ty → HasPlace n.known up position ty →
@@ -104,9 +96,11 @@ module _ (w : Way) where
       does_meant w p 0 (instr.KeepM up position)
       (λ nums refs f s room since.
       let name = there_of {n = n} f s kept since in
-      level_there s.store.heap f.scope up name.whole name.names name.at_scope _
-      ∙ number_there s.store.heap f.scope up position name num _
-      ∙ ap (λ (heap : Heap). changed heap (place w (p + 9) nums refs f s.store)) (word_kept s.store.heap f.scope up position v name num))
+      level_there s.store.held.objects f.scope up name.whole name.names name.at_scope _
+      ∙ number_there s.store.held.objects f.scope up position name num _
+      ∙ held_steps w (p + 9) nums refs f s (assigned_name f.scope up position (Num (word_of v))) (assigned_name f.scope up position v)
+      (assigned_name_compiled f.scope up position (Num (word_of v)) v s.store.held since.weighs
+      (word_kept s.store.held.objects f.scope up position v name num)))
       (quiet_set up position ty v) at
 
   pub does_set_kept_ref : (n : Origin) (p up position : ℕ) {ty : TyView} (v : Value) → IsRef ty → HasPlace n.known up position ty →
@@ -116,9 +110,11 @@ module _ (w : Way) where
       does_meant w p 0 (instr.KeepP up position)
       (λ nums refs f s room since.
       let name = there_of {n = n} f s kept since in
-      level_there s.store.heap f.scope up name.whole name.names name.at_scope _
-      ∙ reference_there s.store.heap f.scope up position name ref _
-      ∙ ap (λ (heap : Heap). changed heap (place w (p + 9) nums refs f s.store)) (with_kept_name_compiled s.store.heap f.scope up position v))
+      level_there s.store.held.objects f.scope up name.whole name.names name.at_scope _
+      ∙ reference_there s.store.held.objects f.scope up position name ref _
+      ∙ held_steps w (p + 9) nums refs f s (assigned_name f.scope up position (compiled v)) (assigned_name f.scope up position v)
+      (assigned_name_compiled f.scope up position (compiled v) v s.store.held since.weighs
+      (with_kept_name_compiled s.store.held.objects f.scope up position v)))
       (quiet_set up position ty v) at
 
   -- a new scope is the current one
@@ -131,8 +127,8 @@ module _ (w : Way) where
       let entered : Store → ℕ → Step = λ store id.
       on (record (holding store (place w (p + 5) nums refs f s.store)) { scope = Some id }) in
       text_there w k bytes (place w (p + 5) nums refs f s.store) _ there
-      ∙ ap (λ (id : ℕ). entered (and_object (new_scope bytes f.scope) (compiled_store s.store)) id) (number_compiled s.store.heap)
-      ∙ ap (λ (store : Store). entered store (new_number s.store.heap))
+      ∙ ap (λ (id : ℕ). entered (and_object (new_scope bytes f.scope) (compiled_store s.store)) id) (number_compiled s.store.held.objects)
+      ∙ ap (λ (store : Store). entered store (new_number s.store.held.objects))
       (ap (λ (object : _). and_object object (compiled_store s.store)) (new_scope_compiled bytes f.scope)
       ∙ and_object_compiled (new_scope bytes f.scope) s.store))
       (quiet_enter bytes) at
@@ -148,18 +144,3 @@ module _ (w : Way) where
       ap (λ (constant : Option ConstantView). procedure_of constant (place w (p + 5) nums refs f s.store)) there
       ∙ push_ref_goes w (p + 5) (compiled (Procedure (as_written of) f.scope)) nums refs f (and_closure s.store) room)
       (quiet_procedure of) at
-
-  -- the input
-  pub does_read_line : (n : Origin) (p : ℕ) (line : Line) → Stand w p (instr.Lib 9 line) → Does w n [] [] (read_line line) types.Str 1 p (p + 9)
-  unfolding read_line with_input put_input ◌>>=◌ after
-  does_read_line n p line at =
-      does_meant w p 1 (instr.Lib 9 line)
-      (λ nums refs f s room since. attempt_steps w (p + 9) nums refs types.Str f s line (line_read s.store.input) _ _
-      (λ bytes. text_steps w (p + 9) nums refs f (record s { store = on_input (behind_line s.store.input) s.store }) bytes room))
-      (quiet_read_line line) at
-
-  pub does_at_end : (n : Origin) (p : ℕ) (line : Line) → Stand w p (instr.Lib 10 line) → Does w n [] [] at_end types.Bool 1 p (p + 9)
-  unfolding at_end with_input give
-  does_at_end n p line at =
-      does_meant w p 1 (instr.Lib 10 line)
-      (λ nums refs f s room since. push_goes w (p + 9) (number_of (is_at_end s.store.input)) nums refs f s.store room) quiet_at_end at

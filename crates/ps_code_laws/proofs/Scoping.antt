@@ -1,5 +1,6 @@
 -- A clause in a scope of its own: the scope is made and entered, the clause's code runs, and the scope round it is the current one again.
 use Rattle.std.proofs.Common.{◌≡◌, ℕ, ◌+◌, ℤ, List, [], ◌∷◌, ◌++◌, map, Option, Some, sym, ap, ◌∙◌, subst, arith}
+use Rattle.ps_gen.specs.ps_program.Node.{BodyNode}
 use Rattle.ps_gen.specs.ps_base.TyView.{TyView}
 use Rattle.ps_gen.specs.ps_base.CodeUnit.{text}
 use Rattle.ps_gen.specs.ps_base.declared.instr.Instr.TheVariants as instr
@@ -15,7 +16,7 @@ use Rattle.ps_stepping.specs.Machine.{Step, on, act}
 use Rattle.ps_stepping.specs.Procedures.{of_scope}
 use Rattle.ps_soundness.specs.Running.{IsScopeText}
 use Rattle.ps_soundness.specs.Shapes.{AreScopes, IsTypedHeap, AreLocals, IsSameSort, Grows}
-use Rattle.ps_soundness.proofs.Growing.{grows_not, grows_then, grows_new, at_new, locals_kept}
+use Rattle.ps_soundness.proofs.Growing.{grows_not, grows_then, grows_new, at_new, roots_kept, locals_kept}
 use Rattle.ps_soundness.proofs.Combining.{Standing, AreAround}
 use Rattle.ps_soundness.proofs.Scopes.{scope_made}
 use Rattle.ps_code_laws.specs.Compiled.{compiled_heap}
@@ -27,7 +28,6 @@ use Rattle.ps_code_laws.proofs.Doing.{Origin, IsSince, after_it, Behind, Leads, 
 use Rattle.ps_code_laws.proofs.Operands.{Stand}
 use Rattle.ps_code_laws.proofs.From.{From, from_does}
 use Rattle.ps_code_laws.proofs.Holding.{holds_enter}
-use Rattle.ps_code_laws.specs.Literals.{Fits}
 use Rattle.ps_code_laws.proofs.ScopeForms.{does_enter}
 
 -- a scope keeps its text and its parent
@@ -54,14 +54,14 @@ inside_kept old new bytes parent g =
     record { text = bytes; names = kept.0; is = stays.is ∙ ap (λ (o : Object). Some o) kept.1 }
 
 abbrev InsideOn : ℕ → Option ℕ → Outcome → Type 0
-InsideOn id parent (Value_is v g t) = IsInside t.store.heap id parent
+InsideOn id parent (Value_is v g t) = IsInside t.store.held.objects id parent
 InsideOn id parent (Ends e t) = Unit {0}
 
-inside_on : (n : Origin) (last : Standing) (ty : TyView) (old : Heap) (bytes : List ℕ) (parent : Option ℕ) (o : Outcome) →
-    Grows (with_new old (new_scope bytes parent)) n.heap → Behind n last ty o → InsideOn (new_number old) parent o
-inside_on n last ty old bytes parent (Value_is v g t) from left =
-    inside_kept old t.store.heap bytes parent (grows_then (with_new old (new_scope bytes parent)) n.heap t.store.heap from left.grows)
-inside_on n last ty old bytes parent (Ends e t) from left = tt
+inside_on : (P : BodyNode → Type 0) (n : Origin) (last : Standing) (ty : TyView) (old : Heap) (bytes : List ℕ) (parent : Option ℕ) (o : Outcome) →
+    Grows (with_new old (new_scope bytes parent)) n.heap → Behind P n last ty o → InsideOn (new_number old) parent o
+inside_on P n last ty old bytes parent (Value_is v g t) from left =
+    inside_kept old t.store.held.objects bytes parent (grows_then (with_new old (new_scope bytes parent)) n.heap t.store.held.objects from left.grows)
+inside_on P n last ty old bytes parent (Ends e t) from left = tt
 
 locals_in : (heap : Heap) (frame : Frame) (scope : Option ℕ) (locals : List Local) → AreLocals heap frame locals →
     AreLocals heap (record frame { scope = scope }) locals
@@ -69,39 +69,40 @@ locals_in heap frame scope [] h = tt
 locals_in heap frame scope (local ∷ locals) h = (h.0, locals_in heap frame scope locals h.1)
 
 -- what is known where a new scope has been entered
-pub entered_since : (n : Origin) (bytes : List ℕ) (wholes : List (List Field)) (own : IsScopeText bytes) (f : Frame) (s : State) →
-    n.known.wholes ≡ Some wholes → IsSince n f s →
-    IsSince (after_it n (with_new s.store.heap (new_scope bytes f.scope)) (opened n.known own.fields wholes))
-    (record f { scope = Some (new_number s.store.heap) }) (record s { store = and_object (new_scope bytes f.scope) s.store })
+pub entered_since : {P : BodyNode → Type 0} (n : Origin) (bytes : List ℕ) (wholes : List (List Field)) (own : IsScopeText bytes) (f : Frame) (s : State) →
+    n.known.wholes ≡ Some wholes → IsSince P n f s →
+    IsSince P (after_it n (with_new s.store.held.objects (new_scope bytes f.scope)) (opened n.known own.fields wholes))
+    (record f { scope = Some (new_number s.store.held.objects) }) (record s { store = and_object (new_scope bytes f.scope) s.store })
 unfolding enter
-entered_since n bytes wholes own f s are since =
-    let old = s.store.heap in
+entered_since {P = P} n bytes wholes own f s are since =
+    let old = s.store.held.objects in
     let new = with_new old (new_scope bytes f.scope) in
     let around = subst (λ (of : Option (List (List Field))). AreAround old f.scope of n.known.scopes) are since.are.1 in
     let made = subst (λ (t : List ℕ). IsTypedHeap (with_new old (new_scope t f.scope))
     × AreScopes (with_new old (new_scope t f.scope)) (Some (new_number old)) (own.fields ∷ wholes) ([] ∷ n.known.scopes)) (sym own.text_is)
-    (scope_made old f.scope own.fields wholes n.known.scopes own.named since.typed around) in
-    let held = holds_enter Fits bytes f s since.held.0 since.held.1 in
+    (scope_made old f.scope own.fields wholes n.known.scopes own.named since.typed.0 around) in
+    let held = holds_enter P bytes f s since.held.0 since.held.1 in
     record {
       few = since.few;
       grows = grows_not new;
-      typed = made.0;
+      typed = (made.0, roots_kept old new (grows_new old (new_scope bytes f.scope)) s.store.held.directory since.typed.1);
       are = (
         locals_in new f (Some (new_number old)) n.known.locals
             (locals_kept old new (grows_new old (new_scope bytes f.scope)) f n.known.locals since.are.0),
         made.1,
       );
       held = (held.1, held.2);
+      weighs = since.weighs;
     }
 
 module _ (w : Way) where
   leave_acts : (q : ℕ) (nums : List ℤ) (refs : List Value) (g : Frame) (store : Store) (id : ℕ) (parent : Option ℕ) → g.scope ≡ Some id →
-      IsInside store.heap id parent →
+      IsInside store.held.objects id parent →
       act instr.Leave (place w q nums refs g store) ≡ on (place w (q + 1) nums refs (record g { scope = parent }) store)
   leave_acts q nums refs g store id parent in_it inside =
       let behind : Option ℕ → Step = λ scope. on (place w (q + 1) nums refs (record g { scope = scope }) store) in
-      ap (λ (at : Option ℕ). of_scope (scope_at (compiled_heap store.heap) at) (λ of round. behind round)) in_it
-      ∙ ap (λ (found : Option Object). of_scope found (λ of round. behind round)) (object_compiled store.heap id ∙ ap compiled_found inside.is)
+      ap (λ (at : Option ℕ). of_scope (scope_at (compiled_heap store.held.objects) at) (λ of round. behind round)) in_it
+      ∙ ap (λ (found : Option Object). of_scope found (λ of round. behind round)) (object_compiled store.held.objects id ∙ ap compiled_found inside.is)
 
   comes_left : (q : ℕ) (nums : List ℤ) (refs : List Value) (ty : TyView) (scope : Option ℕ) (id : ℕ) (o : Outcome) → IsIn (Some id) o →
       InsideOn id scope o → Stand w q instr.Leave → Comes w (q + 1) nums refs ty (back_in scope o) → Comes w q nums refs ty o
@@ -115,13 +116,13 @@ module _ (w : Way) where
       (wholes : List (List Field)) (own : IsScopeText bytes) → n.known.wholes ≡ Some wholes → Stand w p (instr.Scope k) →
       constant_at (constants_in w.unit) k ≡ Some (text bytes) → Stand w q instr.Leave → Stays m →
       ((f : Frame) (scope : Option ℕ) → pre f → pre (record f { scope = scope })) →
-      ((new : Heap) → Grows n.heap new → Leads (after_it n new (opened n.known own.fields wholes)) last ty m) →
+      ((new : Heap) → Grows n.heap new → Leads w.Body (after_it n new (opened n.known own.fields wholes)) last ty m) →
       ((new : Heap) → Grows n.heap new → From w (after_it n new (opened n.known own.fields wholes)) pre [] [] m ty need (p + 5) q) →
       From w n pre [] [] (scoped bytes m) ty need p (q + 1)
   unfolding scoped ◌>>=◌ after enter
   from_scoped {n = n} {m = m} {ty = ty} {need = need} {last = last} p q k bytes wholes own are at there leave stays into leads d = record {
     by = λ nums refs f s is room since reach.
-        let old = s.store.heap in
+        let old = s.store.held.objects in
         let new = with_new old (new_scope bytes f.scope) in
         let inner : Frame = record f { scope = Some (new_number old) } in
         let held : State = record s { store = and_object (new_scope bytes f.scope) s.store } in
@@ -130,14 +131,14 @@ module _ (w : Way) where
         (does_enter w n p k bytes at there).by nums refs f s (less_room w 0 need nums refs (omega arith) room) since
         ((d new grown).by nums refs inner held (into f (Some (new_number old)) is) room now
         (comes_left q nums refs ty f.scope (new_number old) (m inner held) (stays inner held)
-        (inside_on (after_it n new (opened n.known own.fields wholes)) last ty old bytes f.scope (m inner held) (grows_not new)
+        (inside_on w.Body (after_it n new (opened n.known own.fields wholes)) last ty old bytes f.scope (m inner held) (grows_not new)
         (leads_left (leads new grown) now)) leave reach));
   }
 
   pub does_scoped : {n : Origin} {m : Meaning} {ty : TyView} {need : ℕ} {last : Standing} (p q k : ℕ) (bytes : List ℕ) (wholes : List (List Field))
       (own : IsScopeText bytes) → n.known.wholes ≡ Some wholes → Stand w p (instr.Scope k) →
       constant_at (constants_in w.unit) k ≡ Some (text bytes) → Stand w q instr.Leave → Stays m →
-      ((new : Heap) → Grows n.heap new → Leads (after_it n new (opened n.known own.fields wholes)) last ty m) →
+      ((new : Heap) → Grows n.heap new → Leads w.Body (after_it n new (opened n.known own.fields wholes)) last ty m) →
       ((new : Heap) → Grows n.heap new → Does w (after_it n new (opened n.known own.fields wholes)) [] [] m ty need (p + 5) q) →
       Does w n [] [] (scoped bytes m) ty need p (q + 1)
   does_scoped {n = n} {m = m} {ty = ty} {need = need} {last = last} p q k bytes wholes own are at there leave stays leads d =

@@ -12,29 +12,33 @@ use Rattle.ps_gen.specs.Units.{constants, row_of}
 use Rattle.ps_gen.proofs.Widths.{widths, width_emit, width_all, count_constants}
 use Rattle.ps_stepping.specs.Config.{code_in, constants_in, constant_at, IsAt}
 
--- these instructions stand from this offset on
-abbrev pub Ahead : UnitView → ℕ → List Instr → Type 0
-Ahead u at [] = Unit {0}
-Ahead u at (i ∷ is) = IsAt (code_in u) at i × Ahead u (at + width_of i) is
+-- this instruction stands at an offset, and is such as may run
+abbrev pub AtBy : (Instr → Type 0) → UnitView → ℕ → Instr → Type 0
+AtBy Allows u at i = IsAt (code_in u) at i × Allows i
+
+-- these instructions stand from this offset on, and are such as may run
+abbrev pub Ahead : (Instr → Type 0) → UnitView → ℕ → List Instr → Type 0
+Ahead Allows u at [] = Unit {0}
+Ahead Allows u at (i ∷ is) = AtBy Allows u at i × Ahead Allows u (at + width_of i) is
 
 -- these constants stand from this number on
 abbrev pub Named : UnitView → ℕ → List ConstantView → Type 0
 Named u k [] = Unit {0}
 Named u k (c ∷ cs) = (constant_at (constants_in u) k ≡ Some c) × Named u (k + 1) cs
 
-pub ahead_at : (u : UnitView) (i j : ℕ) (is : List Instr) → i ≡ j → Ahead u i is → Ahead u j is
-ahead_at u i j is e h = subst (λ (n : ℕ). Ahead u n is) e h
+pub ahead_at : (Allows : Instr → Type 0) (u : UnitView) (i j : ℕ) (is : List Instr) → i ≡ j → Ahead Allows u i is → Ahead Allows u j is
+ahead_at Allows u i j is e h = subst (λ (n : ℕ). Ahead Allows u n is) e h
 
 pub named_at : (u : UnitView) (k l : ℕ) (cs : List ConstantView) → k ≡ l → Named u k cs → Named u l cs
 named_at u k l cs e h = subst (λ (n : ℕ). Named u n cs) e h
 
-pub front : (u : UnitView) (at : ℕ) (xs ys : List Instr) → Ahead u at (xs ++ ys) → Ahead u at xs
-front u at [] ys h = tt
-front u at (x ∷ xs) ys h = (h.0, front u (at + width_of x) xs ys h.1)
+pub front : (Allows : Instr → Type 0) (u : UnitView) (at : ℕ) (xs ys : List Instr) → Ahead Allows u at (xs ++ ys) → Ahead Allows u at xs
+front Allows u at [] ys h = tt
+front Allows u at (x ∷ xs) ys h = (h.0, front Allows u (at + width_of x) xs ys h.1)
 
-pub behind : (u : UnitView) (at j : ℕ) (xs ys : List Instr) → at + widths xs ≡ j → Ahead u at (xs ++ ys) → Ahead u j ys
-behind u at j [] ys e h = ahead_at u at j ys (omega arith) h
-behind u at j (x ∷ xs) ys e h = behind u (at + width_of x) j xs ys (omega arith) h.1
+pub behind : (Allows : Instr → Type 0) (u : UnitView) (at j : ℕ) (xs ys : List Instr) → at + widths xs ≡ j → Ahead Allows u at (xs ++ ys) → Ahead Allows u j ys
+behind Allows u at j [] ys e h = ahead_at Allows u at j ys (omega arith) h
+behind Allows u at j (x ∷ xs) ys e h = behind Allows u (at + width_of x) j xs ys (omega arith) h.1
 
 pub named_front : (u : UnitView) (k : ℕ) (xs ys : List ConstantView) → Named u k (xs ++ ys) → Named u k xs
 named_front u k [] ys h = tt
@@ -45,11 +49,11 @@ named_behind u k l [] ys e h = named_at u k l ys (omega arith) h
 named_behind u k l (x ∷ xs) ys e h = named_behind u (k + 1) l xs ys (omega arith) h.1
 
 -- after a clause
-pub after_clause : (u : UnitView) (t : Node) (at k : ℕ) (ys : List Instr) → Ahead u at (emit t at k ++ ys) → Ahead u (at + size t) ys
-after_clause u t at k ys h = behind u at (at + size t) (emit t at k) ys (ap (λ n. at + n) (width_emit t at k)) h
+pub after_clause : (Allows : Instr → Type 0) (u : UnitView) (t : Node) (at k : ℕ) (ys : List Instr) → Ahead Allows u at (emit t at k ++ ys) → Ahead Allows u (at + size t) ys
+after_clause Allows u t at k ys h = behind Allows u at (at + size t) (emit t at k) ys (ap (λ n. at + n) (width_emit t at k)) h
 
-pub after_clauses : (u : UnitView) (ts : Nodes) (at k : ℕ) (ys : List Instr) → Ahead u at (emit_all ts at k ++ ys) → Ahead u (at + size_all ts) ys
-after_clauses u ts at k ys h = behind u at (at + size_all ts) (emit_all ts at k) ys (ap (λ n. at + n) (width_all ts at k)) h
+pub after_clauses : (Allows : Instr → Type 0) (u : UnitView) (ts : Nodes) (at k : ℕ) (ys : List Instr) → Ahead Allows u at (emit_all ts at k ++ ys) → Ahead Allows u (at + size_all ts) ys
+after_clauses Allows u ts at k ys h = behind Allows u at (at + size_all ts) (emit_all ts at k) ys (ap (λ n. at + n) (width_all ts at k)) h
 
 pub names_behind : (u : UnitView) (t : Node) (k : ℕ) (ys : List ConstantView) → Named u k (constants t ++ ys) → Named u (k + count t) ys
 names_behind u t k ys h = named_behind u k (k + count t) (constants t) ys (ap (λ n. k + n) (count_constants t)) h
@@ -65,13 +69,13 @@ drop_whole (x ∷ xs) ys = drop_whole xs ys
 drop_more : (m n : ℕ) (xs : List ℕ) → drop (m + n) xs ≡ drop n (drop m xs)
 drop_more m n xs = sym (drop-drop n m xs)
 
-pub all_ahead : (u : UnitView) (at : ℕ) (is : List Instr) → AllByRecursion IsInstr is → drop at (code_in u) ≡ spelled is → Ahead u at is
-all_ahead u at [] h e = tt
-all_ahead u at (i ∷ is) h e =
+pub all_ahead : (Allows : Instr → Type 0) (u : UnitView) (at : ℕ) (is : List Instr) → AllByRecursion IsInstr is → AllByRecursion Allows is → drop at (code_in u) ≡ spelled is → Ahead Allows u at is
+all_ahead Allows u at [] h k e = tt
+all_ahead Allows u at (i ∷ is) h k e =
     let here : drop at (code_in u) ≡ spelling i ++ spelled is = e ∙ spelled_more i is in
     let next : drop (at + width_of i) (code_in u) ≡ spelled is = drop_more at (width_of i) (code_in u) ∙ ap (drop (width_of i)) here
     ∙ ap (λ n. drop n (spelling i ++ spelled is)) (sym (length-spelling i)) ∙ drop_whole (spelling i) (spelled is) in
-    (record { is_instr = h.0; rest = spelled is; spelled = here }, all_ahead u (at + width_of i) is h.1 next)
+    ((record { is_instr = h.0; rest = spelled is; spelled = here }, k.0), all_ahead Allows u (at + width_of i) is h.1 k.1 next)
 
 -- the constants of a row
 constants_from : (u : UnitView) (k : ℕ) (cs : List ConstantView) → ((n : ℕ) → constant_at (constants_in u) (k + n) ≡ constant_at (row_of cs) n) →

@@ -9,14 +9,24 @@ use Rattle.ps_gen.specs.ps_program.declared.place.Place.TheVariants.{Plain, Kept
 use Rattle.ps_gen.specs.ps_program.Node.{Node, Nodes, none, more, Arms, no_arms, more_arms, arm, BodyNode}
 use Rattle.ps_gen.specs.ps_program.Node as node
 use Rattle.ps_typing_laws.specs.ps_typing.Placing.{is_number}
+use Rattle.ps_typing_laws.specs.ps_typing.Library.{caller}
 use Rattle.ps_stepping.specs.ps_heap.Operators.{Answer, Gives, Traps, is_same}
-use Rattle.ps_stepping.specs.ps_heap.Ends.{End}
+use Rattle.ps_stepping.specs.ps_heap.Ends.{End, OutOfTurns}
 use Rattle.ps_stepping.specs.ps_heap.Values.{Value, Num, Flag, Text, Nil, Pointer, Vector, Procedure, Nothing, as_written, word_of, flag_of}
 use Rattle.ps_stepping.specs.ps_heap.Texts.{Attempt, Yields, Fails, line_read, behind_line}
 use Rattle.ps_stepping.specs.ps_heap.Objects.{Heap, Object}
-use Rattle.ps_stepping.specs.ps_meaning.Meaning.{Frame, State, Outcome, Value_is, Ends, Meaning, give, stop, after, ◌>>=◌, choose, answer, attempt, with_heap, put_heap, made, made_text, made_procedure, with_input, put_input, enter, back_in, back_to, scoped, in_scope, in_frame, emit, in_places, is_width, written, with_turns, turned, take_turn, with_local, unbuilt, get, set}
+use Rattle.ps_stepping.specs.ps_heap.Tables.{Key, string_key, int_key}
+use Rattle.ps_stepping.specs.ps_heap.Held.{Held, assigning, touching, reading}
+use Rattle.ps_stepping.specs.ps_heap.Held as held
+use Rattle.ps_stepping.specs.ps_heap.Calls as calls
+use Rattle.ps_stepping.specs.ps_heap.Library.{LibraryProcedure, OnHeap, ReadLine, AtEnd, Length, IntText, library_procedure, heap_call}
+use Rattle.ps_stepping.specs.ps_heap.Scans.{Found, most_scan_calls, next_key, scan_arguments}
+use Rattle.ps_stepping.specs.ps_meaning.Meaning.{Frame, State, Outcome, Value_is, Ends, Meaning, give, stop, after, ◌>>=◌, choose, answer, attempt, with_heap, change, touch, read, assign, put_answer, answered, made, made_text, made_procedure, with_input, put_input, enter, back_in, back_to, scoped, in_scope, in_frame, emit, in_places, is_width, written, with_turns, turned, take_turn, with_local, get, set}
 use Rattle.ps_stepping.specs.ps_meaning.Frames.{frame_of_call}
-use Rattle.ps_stepping.specs.ps_meaning.Evaluation.{Context, while_turns, Counting, goes_on, in_turn, for_turns, for_loop, for_meant, is_equal, make_meant, most_calls, call_meant, read_line, at_end, lib_meant, eval, eval_all, eval_each, eval_arms, eval_labels}
+use Rattle.ps_stepping.specs.ps_meaning.Operations.{is_equal, make_meant, read_line, at_end, lib_meant}
+use Rattle.ps_stepping.specs.ps_meaning.Loops.{while_turns, Counting, goes_on, in_turn, for_turns, for_loop, for_meant, Scanning, set_last, scan_call, scan_next, scan_turns, begin_scan}
+use Rattle.ps_stepping.specs.ps_meaning.Evaluation.{Context, most_calls, call_meant, eval, eval_all, eval_each, eval_arms, eval_labels}
+use Rattle.ps_code_laws.proofs.LibraryWalks.{scan_by}
 
 abbrev pub IsIn : Option ℕ → Outcome → Type 0
 IsIn scope (Value_is v f s) = f.scope ≡ scope
@@ -58,11 +68,28 @@ stays_attempt line (Fails trap) next h = stays_stop _
 
 pub stays_with_heap : (next : Heap → Meaning) → ((heap : Heap) → Stays (next heap)) → Stays (with_heap next)
 unfolding with_heap
-stays_with_heap next h f s = h s.store.heap f s
+stays_with_heap next h f s = h s.store.held.objects f s
 
-pub stays_put_heap : (heap : Heap) → Stays (put_heap heap)
-unfolding put_heap
-stays_put_heap heap f s = refl
+stays_change : (v : Value) (does : Held → Held) → Stays (change v does)
+unfolding change
+stays_change v does f s = refl
+
+stays_touch : (ids : List ℕ) → Stays (touch ids)
+stays_touch ids = stays_change Nothing (touching ids)
+
+stays_read_value : (v : Value) → Stays (read v)
+stays_read_value v = stays_change v (reading v)
+
+stays_assign : (place : held.Place) (heap : Heap) → Stays (assign place heap)
+stays_assign place heap = stays_change Nothing (assigning place heap)
+
+stays_put_answer : (a : calls.Answer) → Stays (put_answer a)
+unfolding put_answer
+stays_put_answer a f s = refl
+
+stays_answered : (line : Line) (call : Held → Attempt calls.Answer) → Stays (answered line call)
+unfolding answered
+stays_answered line call f s = stays_attempt line (call s.store.held) put_answer (λ a. stays_put_answer a) f s
 
 pub stays_made : (denoting : ℕ → Value) (object : Object) → Stays (made denoting object)
 unfolding made
@@ -92,19 +119,19 @@ pub stays_turn : Stays take_turn
 unfolding take_turn
 stays_turn f s = turned_stays f s s.store.turns
 
-stays_unbuilt : Stays unbuilt
-unfolding unbuilt give
-stays_unbuilt f s = refl
-
 scope_of_frame : (f : Frame) (slot : ℕ) (v : Value) (number : Bool) →
     (if number then record f { nums = with_local f.nums slot v } else record f { refs = with_local f.refs slot v }).scope ≡ f.scope
 scope_of_frame f slot v true = refl
 scope_of_frame f slot v false = refl
 
 pub stays_set : (place : Place) (ty : TyView) (v : Value) → Stays (set place ty v)
-unfolding set
+unfolding set change
 stays_set (Plain slot) ty v f s = scope_of_frame f slot v (is_number ty)
 stays_set (Kept up position) ty v f s = refl
+
+-- a value is put in a place, and then comes something
+stays_set_then : (place : Place) (ty : TyView) (v : Value) (next : Meaning) → Stays next → Stays (set place ty v >>= λ u. next)
+stays_set_then place ty v next h = stays_then (set place ty v) (λ u. next) (stays_set place ty v) (λ u. h)
 
 stays_made_procedure : (of : BodyNode) → Stays (made_procedure of)
 unfolding made_procedure
@@ -177,7 +204,7 @@ stays_for n line slot scope control a b c clause ha hb hc h =
     stays_for_loop n line (record { slot = slot; scope = scope; control = control; limit = word_of limit; step = word_of step }) clause h (word_of start)))))))
 
 stays_get : (place : Place) (ty : TyView) → Stays (get place ty)
-unfolding get
+unfolding get change
 stays_get (Plain slot) ty f s = refl
 stays_get (Kept up position) ty f s = refl
 
@@ -202,15 +229,63 @@ stays_at_end : Stays at_end
 unfolding at_end
 stays_at_end = stays_with_input _ (λ input. stays_give _)
 
-stays_lib : (line : Line) (code : ℕ) (vs : List Value) → Stays (lib_meant line code vs)
-stays_lib line code [] = stays_either (nat_eq code 9) _ _ (stays_read_line line) (stays_either (nat_eq code 10) _ _ stays_at_end stays_unbuilt)
-stays_lib line code (v ∷ vs) = stays_either (nat_eq code 11) _ _ (stays_give _) (stays_either (nat_eq code 12) _ _ (stays_made_text _) stays_unbuilt)
+stays_lib : (line : Line) (of : Option LibraryProcedure) (vs : List Value) → Stays (lib_meant line of vs)
+stays_lib line (Some (OnHeap of)) vs = stays_answered line (heap_call of vs)
+stays_lib line (Some ReadLine) vs = stays_read_line line
+stays_lib line (Some AtEnd) vs = stays_at_end
+stays_lib line (Some Length) vs = stays_give _
+stays_lib line (Some IntText) vs = stays_made_text _
+stays_lib line None vs = stays_give Nothing
 
-stays_put : (line : Line) (a : Heap → Attempt Heap) → Stays (with_heap (λ heap. attempt line (a heap) put_heap))
-stays_put line a = stays_with_heap _ (λ heap. stays_attempt line (a heap) put_heap (λ new. stays_put_heap new))
+stays_put : (line : Line) (a : Heap → Attempt Heap) (place : Heap → held.Place) →
+    Stays (with_heap (λ heap. attempt line (a heap) (assign (place heap))))
+stays_put line a place = stays_with_heap _ (λ heap. stays_attempt line (a heap) (assign (place heap)) (λ new. stays_assign (place heap) new))
 
-stays_read : (line : Line) (a : Heap → Attempt Value) → Stays (with_heap (λ heap. attempt line (a heap) give))
-stays_read line a = stays_with_heap _ (λ heap. stays_attempt line (a heap) give (λ v. stays_give v))
+stays_read : (line : Line) (a : Heap → Attempt Value) → Stays (with_heap (λ heap. attempt line (a heap) read))
+stays_read line a = stays_with_heap _ (λ heap. stays_attempt line (a heap) read (λ v. stays_read_value v))
+
+-- scans
+stays_last : (scan : Scanning) (key : Key) → Stays (set_last scan key)
+stays_last scan (string_key bytes) = stays_set (Plain (scan.refs + 2)) types.Str (Text bytes)
+stays_last scan (int_key z) = stays_set (Plain (scan.nums + 1)) types.Int (Num z)
+
+stays_scan_call : (scan : Scanning) → ((args : List Value) → Stays (scan.call args)) → (count : ℕ) (again : Key → Meaning) (found : Found) →
+    ((key : Key) → Stays (again key)) → Stays (scan_call scan count again found)
+unfolding scan_call
+stays_scan_call scan called count again found h =
+    stays_then (set_last scan found.key) _ (stays_last scan found.key) (λ u.
+    stays_set_then (Plain (scan.nums + 2)) types.Int (Num (pos 1)) _
+    (stays_then (scan.call (scan_arguments found)) _ (called (scan_arguments found)) (λ more.
+    stays_set_then (Plain scan.nums) types.Int (Num (pos (suc count))) _
+    (stays_choose (flag_of more) _ _ (stays_then take_turn _ stays_turn (λ t. h found.key)) (stays_give (Num (pos (suc count))))))))
+
+stays_scan_next : (scan : Scanning) → ((args : List Value) → Stays (scan.call args)) → (count : ℕ) (again : Key → Meaning) (found : Option Found) →
+    ((key : Key) → Stays (again key)) → Stays (scan_next scan count again found)
+unfolding scan_next
+stays_scan_next scan called count again None h = stays_give (Num (pos count))
+stays_scan_next scan called count again (Some found) h =
+    stays_then (touch (found.object ∷ [])) _ (stays_touch (found.object ∷ [])) (λ u.
+    stays_choose (nat_eq count most_scan_calls) _ _ (stays_stop _) (stays_scan_call scan called count again found h))
+
+stays_scan_turns : (n : ℕ) (scan : Scanning) → ((args : List Value) → Stays (scan.call args)) → (last : Option Key) (count : ℕ) →
+    Stays (scan_turns n scan last count)
+unfolding scan_turns
+stays_scan_turns zero scan called last count =
+    stays_with_heap _ (λ heap. stays_attempt scan.line (next_key scan.strings heap scan.table last) _
+    (λ found. stays_scan_next scan called count (λ key. stop OutOfTurns) found (λ key. stays_stop OutOfTurns)))
+stays_scan_turns (suc n) scan called last count =
+    stays_with_heap _ (λ heap. stays_attempt scan.line (next_key scan.strings heap scan.table last) _
+    (λ found. stays_scan_next scan called count (λ key. scan_turns n scan (Some key) (suc count)) found
+    (λ key. stays_scan_turns n scan called (Some key) (suc count))))
+
+stays_begin_scan : (strings : Bool) (refs nums : ℕ) (a f : Meaning) (next : Value → Value → Meaning) → Stays a → Stays f →
+    ((table procedure : Value) → Stays (next table procedure)) → Stays (begin_scan strings refs nums a f next)
+unfolding begin_scan
+stays_begin_scan strings refs nums a f next ha hf h =
+    stays_then a _ ha (λ table. stays_set_then (Plain refs) types.Pntr table _
+    (stays_then f _ hf (λ procedure. stays_set_then (Plain (refs + 1)) (caller (if strings then types.Str else types.Int)) procedure _
+    (stays_set_then (Plain nums) types.Int (Num (pos 0)) _ (stays_set_then (Plain (nums + 1)) types.Int (Num (pos 0)) _
+    (stays_set_then (Plain (nums + 2)) types.Int (Num (pos 0)) _ (h table procedure)))))))
 
 -- two clauses, and three, and then what is done with their values
 stays_two : (a b : Meaning) (next : Value → Value → Meaning) → Stays a → Stays b → ((v w : Value) → Stays (next v w)) →
@@ -261,7 +336,7 @@ mutual
       (λ v from count. stays_attempt line _ _ (λ bytes. stays_made_text bytes))
   stays_eval c (node.Make class args) = stays_each c args (make_meant class) (λ vs. stays_made Pointer _)
   stays_eval c (node.Field e class n ty line) = stays_then (eval c e) _ (stays_eval c e) (λ o. stays_read line _)
-  stays_eval c (node.SetField p class n ty e line) = stays_two (eval c p) (eval c e) _ (stays_eval c p) (stays_eval c e) (λ o v. stays_put line _)
+  stays_eval c (node.SetField p class n ty e line) = stays_two (eval c p) (eval c e) _ (stays_eval c p) (stays_eval c e) (λ o v. stays_put line _ _)
   stays_eval c (node.Fill l u e ty line) =
       stays_three (eval c l) (eval c u) (eval c e) _ (stays_eval c l) (stays_eval c u) (stays_eval c e)
       (λ low high v. stays_attempt line _ (made Vector) (λ object. stays_made Vector object))
@@ -270,16 +345,19 @@ mutual
       (λ low. stays_each c items _ (λ vs. stays_attempt line _ (made Vector) (λ object. stays_made Vector object)))
   stays_eval c (node.Element v i ty line) = stays_two (eval c v) (eval c i) _ (stays_eval c v) (stays_eval c i) (λ vector at. stays_read line _)
   stays_eval c (node.SetElement v i e ty line) =
-      stays_three (eval c v) (eval c i) (eval c e) _ (stays_eval c v) (stays_eval c i) (stays_eval c e) (λ vector at w. stays_put line _)
+      stays_three (eval c v) (eval c i) (eval c e) _ (stays_eval c v) (stays_eval c i) (stays_eval c e) (λ vector at w. stays_put line _ _)
   stays_eval c (node.Bound v upper) = stays_then (eval c v) _ (stays_eval c v) (λ vector. stays_with_heap _ (λ heap. stays_give _))
-  stays_eval c (node.Lib code args line) = stays_each c args (lib_meant line code) (λ vs. stays_lib line code vs)
+  stays_eval c (node.Lib code args line) =
+      stays_each c args (lib_meant line (library_procedure code)) (λ vs. stays_lib line (library_procedure code) vs)
   stays_eval c (node.Write e w false ty line) = stays_then (eval c e) _ (stays_eval c e) (λ v. stays_written line None _)
   stays_eval c (node.Write e w true ty line) = stays_two (eval c e) (eval c w) _ (stays_eval c e) (stays_eval c w) (λ v width. stays_written line _ _)
   stays_eval c (node.Abort line) = stays_stop _
   stays_eval c (node.Proc of) = stays_made_procedure of
   stays_eval c (node.Call f args line) =
       stays_then (eval c f) _ (stays_eval c f) (λ v. stays_each c args (call_meant c line v) (λ args. stays_call c line v args))
-  stays_eval c (node.Scan text a f q s line) = stays_unbuilt
+  stays_eval c (node.Scan text a f q s line) =
+      stays_begin_scan text q s (eval c a) (eval c f) _ (stays_eval c a) (stays_eval c f) (λ table procedure.
+      stays_scan_turns c.bound (scan_by c line text q s table procedure) (λ args. stays_call c line procedure args) None 0)
 
   pub stays_all : (c : Context) → (v : Value) (ts : Nodes) → Stays (eval_all c v ts)
   stays_all c v none = stays_give v

@@ -7,7 +7,7 @@ use Rattle.ps_gen.specs.ps_base.declared.instr.Instr.TheVariants as instr
 use Rattle.ps_stepping.specs.ps_heap.Values.{Value, Num, Text, word_of, bytes_of}
 use Rattle.ps_stepping.specs.ps_heap.Texts.{join_of, part_of}
 use Rattle.ps_stepping.specs.ps_meaning.Meaning.{give, made_text}
-use Rattle.ps_stepping.specs.ps_meaning.Evaluation.{join_meant, part_meant}
+use Rattle.ps_stepping.specs.ps_meaning.Operations.{join_meant, part_meant}
 use Rattle.ps_soundness.specs.Shapes.{IsOf}
 use Rattle.ps_code_laws.specs.Compiled.{compiled}
 use Rattle.ps_code_laws.proofs.Doing.{Origin, Way, Does, does_meant, push_goes}
@@ -34,17 +34,3 @@ module _ (w : Way) where
       (λ bytes. text_steps w (p + 5) nums refs f s bytes room))
       (quiet_attempt line part made_text quiet_made_text) at
   does_part n p line _ from count is at = absurd is
-
-  pub does_length : (n : Origin) (p : ℕ) (line : Line) (v : Value) → IsOf n.heap types.Str v → Stand w p (instr.Lib 11 line) →
-      Does w n [] (compiled v ∷ []) (give (Num (pos (length (bytes_of v))))) types.Int 1 p (p + 9)
-  unfolding give
-  does_length n p line (Text a) is at =
-      does_meant w p 1 (instr.Lib 11 line) (λ nums refs f s room since. push_goes w (p + 9) (pos (length a)) nums refs f s.store room)
-      (quiet_give (Num (pos (length a)))) at
-  does_length n p line _ is at = absurd is
-
-  pub does_iformat : (n : Origin) (p : ℕ) (line : Line) (v : Value) → Stand w p (instr.Lib 12 line) →
-      Does w n (word_of v ∷ []) [] (made_text (signed_decimal (word_of v))) types.Str 1 p (p + 9)
-  does_iformat n p line v at =
-      does_meant w p 1 (instr.Lib 12 line) (λ nums refs f s room since. text_steps w (p + 9) nums refs f s (signed_decimal (word_of v)) room)
-      (quiet_made_text (signed_decimal (word_of v))) at

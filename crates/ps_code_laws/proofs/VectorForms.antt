@@ -11,8 +11,9 @@ use Rattle.ps_stepping.specs.text_forms.Forms.{element_of}
 use Rattle.ps_stepping.proofs.of_text_forms.ClassForms.{element-told}
 use Rattle.ps_stepping.specs.ps_heap.Values.{Value, Num, Vector, word_of}
 use Rattle.ps_stepping.specs.ps_heap.Objects.{Heap, filled_vector, vector_in, type_in, with_element, low_of, high_of, element_of as element_at}
-use Rattle.ps_stepping.specs.ps_meaning.Meaning.{give, with_heap, put_heap, made}
-use Rattle.ps_stepping.specs.ps_meaning.Evaluation.{kept_as, fill_meant, element_meant, set_element_meant, bound_meant}
+use Rattle.ps_stepping.specs.ps_meaning.Meaning.{give, with_heap, read, assign, made}
+use Rattle.ps_stepping.specs.ps_heap.Held.{element_place}
+use Rattle.ps_stepping.specs.ps_meaning.Operations.{kept_as, fill_meant, element_meant, set_element_meant, bound_meant}
 use Rattle.ps_gen.specs.ps_emitter.Choices as choice
 use Rattle.ps_stepping.specs.Config.{constants_in, constant_at}
 use Rattle.ps_stepping.specs.Machine.{Step, push_num}
@@ -23,10 +24,11 @@ use Rattle.ps_soundness.proofs.Fields.{kept_in_vector}
 use Rattle.ps_code_laws.specs.Compiled.{compiled, compiled_object, compiled_heap}
 use Rattle.ps_code_laws.specs.Meets.{nums_left, refs_left}
 use Rattle.ps_code_laws.proofs.Compiling.{compiled_found, object_compiled, filled_compiled, element_compiled, with_element_compiled, low_bound_compiled, high_bound_compiled}
+use Rattle.ps_code_laws.proofs.HeldCompiling.{element_place_compiled}
 use Rattle.ps_code_laws.proofs.Clauses.{IsNum, IsRef, vector, Kind, of_num, of_ref}
 use Rattle.ps_code_laws.proofs.Doing.{Origin, Way, place, Does, does_meant, push_goes}
 use Rattle.ps_code_laws.proofs.Operands.{Stand}
-use Rattle.ps_code_laws.proofs.Attempts.{at_num, at_ref, quiet_give, quiet_attempt, quiet_with_heap, quiet_made, quiet_read, quiet_put, number_form, reference_form, kept_word, text_there, compiled_steps, number_steps, reference_steps, object_steps, change_steps, over_num, over_ref}
+use Rattle.ps_code_laws.proofs.Attempts.{at_num, at_ref, quiet_give, quiet_attempt, quiet_with_heap, quiet_made, quiet_read, quiet_put, number_form, reference_form, kept_word, text_there, compiled_steps, number_read, reference_read, object_steps, change_steps, over_num, over_ref}
 
 -- the text of a vector's type, where a value denotes one
 abbrev pub text_of : TyView → List ℕ
@@ -92,15 +94,15 @@ module _ (w : Way) where
   unfolding with_heap
   does_element n p line {t = t} v i (of_num num) is at =
       does_meant w p 1 (instr.ElemM line)
-      (λ nums refs f s room since. vector_pops s.store.heap t v (of_kept n.heap s.store.heap since.grows (types.Vector t) v is) _
-      ∙ compiled_steps w compiled (p + 5) nums refs t f s line (element_at s.store.heap v (word_of i)) _ _ give (element_compiled s.store.heap v (word_of i))
-      (λ x. element_number num _ ∙ number_steps w (p + 5) nums refs f s num x room))
+      (λ nums refs f s room since. vector_pops s.store.held.objects t v (of_kept n.heap s.store.held.objects since.grows (types.Vector t) v is) _
+      ∙ compiled_steps w compiled (p + 5) nums refs t f s line (element_at s.store.held.objects v (word_of i)) _ _ read (element_compiled s.store.held.objects v (word_of i))
+      (λ x. element_number num _ ∙ number_read w (p + 5) nums refs f s num since.weighs x room))
       (quiet_read line (λ heap. element_at heap v (word_of i))) (at_num w _ _ num at)
   does_element n p line {t = t} v i (of_ref ref) is at =
       does_meant w p 1 (instr.ElemP line)
-      (λ nums refs f s room since. vector_pops s.store.heap t v (of_kept n.heap s.store.heap since.grows (types.Vector t) v is) _
-      ∙ compiled_steps w compiled (p + 5) nums refs t f s line (element_at s.store.heap v (word_of i)) _ _ give (element_compiled s.store.heap v (word_of i))
-      (λ x. element_reference ref _ ∙ reference_steps w (p + 5) nums refs f s ref x room))
+      (λ nums refs f s room since. vector_pops s.store.held.objects t v (of_kept n.heap s.store.held.objects since.grows (types.Vector t) v is) _
+      ∙ compiled_steps w compiled (p + 5) nums refs t f s line (element_at s.store.held.objects v (word_of i)) _ _ read (element_compiled s.store.held.objects v (word_of i))
+      (λ x. element_reference ref _ ∙ reference_read w (p + 5) nums refs f s ref since.weighs x room))
       (quiet_read line (λ heap. element_at heap v (word_of i))) (at_ref w _ _ ref at)
 
   pub does_set_element : (n : Origin) (p : ℕ) (line : Line) {t : TyView} (v i e : Value) → Kind t → IsOf n.heap (types.Vector t) v → IsOf n.heap t e →
@@ -111,41 +113,43 @@ module _ (w : Way) where
       over_num w (word_of i ∷ []) (compiled v ∷ []) num e
       (does_meant w p 1 (instr.SetElemM line)
       (λ nums refs f s room since.
-      let now = of_kept n.heap s.store.heap since.grows (types.Vector t) v is in
-      vector_pops s.store.heap t v now _
+      let now = of_kept n.heap s.store.held.objects since.grows (types.Vector t) v is in
+      vector_pops s.store.held.objects t v now _
       ∙ compiled_steps w compiled_heap (p + 5) nums refs types.Void f s line
-      (with_element s.store.heap v (word_of i) (kept_as (Some (element_of (type_in (vector_in s.store.heap v)))) e)) _ _ put_heap
-      (ap (with_element (compiled_heap s.store.heap) (compiled v) (word_of i))
-      (element_kept num e ∙ ap (λ (ty : List ℕ). compiled (kept_as (Some (element_of ty)) e)) (sym (type_in_is s.store.heap t v now)))
-      ∙ with_element_compiled s.store.heap v (word_of i) (kept_as (Some (element_of (type_in (vector_in s.store.heap v)))) e))
-      (λ heap. element_number num _ ∙ change_steps w (p + 5) nums refs f s heap))
-      (quiet_put line (λ heap. with_element heap v (word_of i) (kept_as (Some (element_of (type_in (vector_in heap v)))) e))) (at_num w _ _ num at))
+      (with_element s.store.held.objects v (word_of i) (kept_as (Some (element_of (type_in (vector_in s.store.held.objects v)))) e)) _ _ (assign (element_place s.store.held.objects v (word_of i)))
+      (ap (with_element (compiled_heap s.store.held.objects) (compiled v) (word_of i))
+      (element_kept num e ∙ ap (λ (ty : List ℕ). compiled (kept_as (Some (element_of ty)) e)) (sym (type_in_is s.store.held.objects t v now)))
+      ∙ with_element_compiled s.store.held.objects v (word_of i) (kept_as (Some (element_of (type_in (vector_in s.store.held.objects v)))) e))
+      (λ heap. element_number num _ ∙ change_steps w (p + 5) nums refs f s (element_place (compiled_heap s.store.held.objects) (compiled v) (word_of i))
+      (element_place s.store.held.objects v (word_of i)) heap (element_place_compiled s.store.held.objects v (word_of i))))
+      (quiet_put line (λ heap. with_element heap v (word_of i) (kept_as (Some (element_of (type_in (vector_in heap v)))) e)) (λ heap. element_place heap v (word_of i))) (at_num w _ _ num at))
   does_set_element n p line {t = t} v i e (of_ref ref) is of at =
       over_ref w (word_of i ∷ []) (compiled v ∷ []) ref e
       (does_meant w p 1 (instr.SetElemP line)
       (λ nums refs f s room since.
-      let now = of_kept n.heap s.store.heap since.grows (types.Vector t) v is in
-      vector_pops s.store.heap t v now _
+      let now = of_kept n.heap s.store.held.objects since.grows (types.Vector t) v is in
+      vector_pops s.store.held.objects t v now _
       ∙ compiled_steps w compiled_heap (p + 5) nums refs types.Void f s line
-      (with_element s.store.heap v (word_of i) (kept_as (Some (element_of (type_in (vector_in s.store.heap v)))) e)) _ _ put_heap
-      (ap (λ (x : Value). with_element (compiled_heap s.store.heap) (compiled v) (word_of i) (compiled x))
-      (sym (ap (λ (ty : List ℕ). kept_as (Some (element_of ty)) e) (type_in_is s.store.heap t v now) ∙ kept_in_vector n.heap t e of))
-      ∙ with_element_compiled s.store.heap v (word_of i) (kept_as (Some (element_of (type_in (vector_in s.store.heap v)))) e))
-      (λ heap. element_reference ref _ ∙ change_steps w (p + 5) nums refs f s heap))
-      (quiet_put line (λ heap. with_element heap v (word_of i) (kept_as (Some (element_of (type_in (vector_in heap v)))) e))) (at_ref w _ _ ref at))
+      (with_element s.store.held.objects v (word_of i) (kept_as (Some (element_of (type_in (vector_in s.store.held.objects v)))) e)) _ _ (assign (element_place s.store.held.objects v (word_of i)))
+      (ap (λ (x : Value). with_element (compiled_heap s.store.held.objects) (compiled v) (word_of i) (compiled x))
+      (sym (ap (λ (ty : List ℕ). kept_as (Some (element_of ty)) e) (type_in_is s.store.held.objects t v now) ∙ kept_in_vector n.heap t e of))
+      ∙ with_element_compiled s.store.held.objects v (word_of i) (kept_as (Some (element_of (type_in (vector_in s.store.held.objects v)))) e))
+      (λ heap. element_reference ref _ ∙ change_steps w (p + 5) nums refs f s (element_place (compiled_heap s.store.held.objects) (compiled v) (word_of i))
+      (element_place s.store.held.objects v (word_of i)) heap (element_place_compiled s.store.held.objects v (word_of i))))
+      (quiet_put line (λ heap. with_element heap v (word_of i) (kept_as (Some (element_of (type_in (vector_in heap v)))) e)) (λ heap. element_place heap v (word_of i))) (at_ref w _ _ ref at))
 
   pub does_bound : (n : Origin) (p : ℕ) (upper : Bool) (t : TyView) (v : Value) → IsOf n.heap (types.Vector t) v → Stand w p (choice.bound upper) →
       Does w n [] (compiled v ∷ []) (bound_meant upper v) types.Int 1 p (p + 1)
   unfolding with_heap give
   does_bound n p true t v is at =
       does_meant w p 1 instr.Upb
-      (λ nums refs f s room since. vector_pops s.store.heap t v (of_kept n.heap s.store.heap since.grows (types.Vector t) v is) _
-      ∙ ap (λ (z : ℤ). push_num z (place w (p + 1) nums refs f s.store)) (high_bound_compiled s.store.heap v)
-      ∙ push_goes w (p + 1) (high_of s.store.heap v) nums refs f s.store room)
+      (λ nums refs f s room since. vector_pops s.store.held.objects t v (of_kept n.heap s.store.held.objects since.grows (types.Vector t) v is) _
+      ∙ ap (λ (z : ℤ). push_num z (place w (p + 1) nums refs f s.store)) (high_bound_compiled s.store.held.objects v)
+      ∙ push_goes w (p + 1) (high_of s.store.held.objects v) nums refs f s.store room)
       (quiet_with_heap (λ heap. give (Num (high_of heap v))) (λ heap. quiet_give (Num (high_of heap v)))) at
   does_bound n p false t v is at =
       does_meant w p 1 instr.Lwb
-      (λ nums refs f s room since. vector_pops s.store.heap t v (of_kept n.heap s.store.heap since.grows (types.Vector t) v is) _
-      ∙ ap (λ (z : ℤ). push_num z (place w (p + 1) nums refs f s.store)) (low_bound_compiled s.store.heap v)
-      ∙ push_goes w (p + 1) (low_of s.store.heap v) nums refs f s.store room)
+      (λ nums refs f s room since. vector_pops s.store.held.objects t v (of_kept n.heap s.store.held.objects since.grows (types.Vector t) v is) _
+      ∙ ap (λ (z : ℤ). push_num z (place w (p + 1) nums refs f s.store)) (low_bound_compiled s.store.held.objects v)
+      ∙ push_goes w (p + 1) (low_of s.store.held.objects v) nums refs f s.store room)
       (quiet_with_heap (λ heap. give (Num (low_of heap v))) (λ heap. quiet_give (Num (low_of heap v)))) at

@@ -1,5 +1,5 @@
 -- The bodies of a program: those of its procedure literals, and of the literals inside them. What a run of it holds has no other procedures.
-use Rattle.std.specs.Prelude.{ℕ, ◌≤◌, List}
+use Rattle.std.specs.Prelude.{◌≡◌, ℕ, ◌≤◌, Bool, true, List}
 use Rattle.std.specs.List.{AllByRecursion}
 use Rattle.ps_gen.specs.ps_base.TyView.{TyView}
 use Rattle.ps_gen.specs.ps_program.Node.{Node, Nodes, none, more, Arms, no_arms, more_arms, arm, BodyNode, body}
@@ -11,7 +11,8 @@ use Rattle.ps_stepping.specs.ps_heap.Objects.{Heap, Object, Structure, Elements,
 use Rattle.ps_stepping.specs.ps_meaning.Meaning.{Frame}
 use Rattle.ps_soundness.specs.Valued.{IsValued}
 use Rattle.ps_soundness.specs.Shapes.{type_of_body}
-use Rattle.ps_gen.specs.Units.{HasUnit}
+use Rattle.ps_gen.specs.ps_base.declared.instr.Instr.{Instr}
+use Rattle.ps_gen.specs.Units.{HasUnit, body_instrs}
 use Rattle.ps_stepping.specs.Config.{frame_words}
 
 -- each body of a clause is such a one, and each name that is mentioned in it is of such a type
@@ -90,6 +91,15 @@ pub record Fits (of : BodyNode) : Type 0 where
   pub valued : IsValued (type_of_body of)
   pub slots : slot_count of ≤ frame_words
   pub unit : HasUnit of
+
+-- the instructions of a body
+abbrev pub instrs_of : BodyNode → List Instr
+instrs_of (body params gives tree scope line) = body_instrs params gives tree scope
+
+-- what is needed where these instructions may run: each of the body may
+pub record FitsBy (may : Instr → Bool) (of : BodyNode) : Type 0 where
+  pub fits : Fits of
+  pub each_may : AllByRecursion (λ i. may i ≡ true) (instrs_of of)
 
 -- the names that scopes keep are of types that have values
 abbrev pub AreFieldsValued : List Field → Type 0

@@ -1,5 +1,5 @@
 -- Why each end of a command comes.
-use Rattle.std.proofs.Common.{◌≡◌, ℕ, ◌≤◌, ◌↔◌, inl, inr, List, [], Option, Some, None, refl, sym, ap, ◌∙◌, subst, arith}
+use Rattle.std.proofs.Common.{◌≡◌, ℕ, ◌≤◌, ◌↔◌, inl, inr, List, Option, Some, None, refl, sym, ap, ◌∙◌, subst, arith}
 use Rattle.std.specs.Prelude.{Result, Ok, Err, IfErr, IsErrOf, IsErrAnd, codes}
 use Rattle.std.proofs.lemmas.Result.{err_from_is_err_and}
 use Rattle.ps_base.specs.Limits.{most_text_bytes as LONGEST_TEXT}
@@ -7,9 +7,8 @@ use Rattle.ps_program.specs.Node.{BodyNode}
 use Rattle.ps_base.specs.declared.line.Line.{Line}
 use Rattle.ps_port.specs.ps_outside.Outside.{Rose, Outside}
 use Rattle.ps_port.specs.Texts.{TooLongFor}
-use Rattle.ps_port.specs.Telling.{LeavesDevice}
 use Rattle.ps_port.specs.declared.shelf.ShelfFault.{ShelfFault}
-use Rattle.ps_port.specs.declared.shelf.ShelfFault.TheVariants.{Failed, TooLong, Memory}
+use Rattle.ps_port.specs.declared.shelf.ShelfFault.TheVariants.{Failed, TooLong}
 use Rattle.ps_port.proofs.Telling.{all_none, device_none}
 use Rattle.ps_causes.specs.ps_scan.Fault as scanning
 use Rattle.ps_tree.specs.Fault as parsing
@@ -20,19 +19,19 @@ use Rattle.ps_check.specs.ps_declared.declared.fault.CheckFault.TheVariants.{Unk
 use Rattle.ps_check.specs.ps_declared.Faults as checking
 use Rattle.ps_command.specs.declared.source_fault.SourceFault.{SourceFault}
 use Rattle.ps_command.specs.declared.source_fault.SourceFault.TheVariants as source
-use Rattle.ps_causes.specs.ps_words.Words.{RunOf, CommandOf, a_run, a_volume}
+use Rattle.ps_causes.specs.ps_words.Words.{RunOf, a_run, a_volume}
 use Rattle.ps_causes.specs.ps_reports.declared.status.Status.{Status}
 use Rattle.ps_causes.specs.ps_reports.declared.status.Status.TheVariants.{Done}
 use Rattle.ps_causes.specs.ps_reports.declared.report.Report.{Report}
 use Rattle.ps_causes.specs.ps_reports.declared.report.Report.TheVariants as reports
 use Rattle.ps_causes.specs.ps_reports.Reporting.{line_of, status_of, name_of}
 use Rattle.ps_causes.specs.ps_reports.Statuses.{number_of as number_of_status}
-use Rattle.ps_causes.specs.ps_reports.Reports.{fault_line, unreadable_line}
+use Rattle.ps_causes.specs.ps_reports.Reports.{fault_line}
 use Rattle.ps_causes.specs.ps_reports.Answering.{ended, reported, whole}
 use Rattle.ps_causes.proofs.of_ps_reports.Behind.{told_none, reports_alone}
 use Rattle.ps_causes.specs.ps_volumes.Attaching.{report_for, IsUnattached}
 use Rattle.ps_causes.specs.ps_volumes.Making.{Makes}
-use Rattle.ps_causes.proofs.of_ps_volumes.Settled.{device_kept}
+use Rattle.ps_causes.proofs.of_ps_volumes.Settled.{device_kept, held_kept}
 use Rattle.ps_causes.specs.Source.{IsProgram, IsSourceFault, in_scan, in_parse, in_check}
 use Rattle.ps_causes.specs.Source as told
 use Rattle.ps_causes.specs.Command.{Gives, GivesTooLong, GivesInput, GivesProgram, IsUnread, Unready, Due, WhyEnds}
@@ -174,7 +173,7 @@ module _ (holds : List ℕ → List ℕ → Type 0) (lacks may_fail : List ℕ �
     status = _;
     due = Due.unready refl why (device_none old);
     ends = reported (all_none old);
-    device = device_kept old old (device_none old);
+    device = held_kept old old (device_kept old old (device_none old));
   }
 
   pub ends_made : (old new : Outside (List ℕ)) (pages : ℕ) (done : Unit {0}) → Makes pages old new (Ok done) → WhyEnds old new (Some (a_volume pages)) holds lacks may_fail failed (Ok Done)

@@ -1,10 +1,11 @@
 -- What a run of a program's unit returns is what the program means.
-use Rattle.std.proofs.Common.{◌≡◌, ◌⊎◌, inl, inr, ℕ, ◌+◌, ◌*◌, ◌≤◌, List, [], ◌∷◌, ◌++◌, reverse, refl, sym, ap, ◌∙◌, subst, append_assoc, arith}
-use Rattle.std.specs.Prelude.{Result, Ok, Err, None}
+use Rattle.std.proofs.Common.{◌≡◌, ◌⊎◌, inl, inr, rules, ℕ, ◌+◌, ◌*◌, ◌≤◌, List, [], ◌∷◌, ◌++◌, refl, sym, ap, ◌∙◌, subst, append_assoc, arith}
+use Rattle.std.specs.Prelude.{Bool, true, false, Result, Ok, Err, Some, None}
 use Rattle.std.specs.List.{AllByRecursion}
-use Rattle.std.proofs.lemmas.List.{reverse-append, append-nil}
+use Rattle.std.proofs.lemmas.List.{append-nil}
 use Rattle.ps_base.specs.CodeUnit.{UnitView, unit_view}
 use Rattle.ps_base.specs.declared.code_unit.CodeUnit.{CodeUnit}
+use Rattle.ps_base.specs.declared.instr.Instr.{Instr}
 use Rattle.ps_port.specs.Telling.{TellsAll, FailsAfter}
 use Rattle.ps_port.proofs.Telling.{all_then, fails_then, fails_more}
 use Rattle.ps_port.specs.ps_outside.Outside.{Outside, LeavesSame, TellsNothing, Rose}
@@ -18,20 +19,26 @@ use Rattle.ps_causes.specs.ps_typing.WellTyped.{IsWellTyped}
 use Rattle.ps_code_laws.specs.ps_typing_laws.Counted.{IsCounted}
 use Rattle.ps_code_laws.proofs.of_ps_typing_laws.Tracked.{program_counted}
 use Rattle.ps_causes.specs.ps_heap.Ends.{End, Done, report_of, status_of}
-use Rattle.ps_causes.specs.ps_meaning.Event.{Event, Finish, outputs, output_of}
+use Rattle.ps_causes.specs.ps_meaning.ps_heap.Events.{Event, Finish, outputs, output_of}
+use Rattle.ps_causes.specs.ps_meaning.ps_heap.Values.{Routine, as_written, as_compiled}
+use Rattle.ps_causes.specs.ps_meaning.ps_heap.Held.{nothing_stored}
 use Rattle.ps_causes.specs.ps_meaning.Meaning.{Outcome, Value_is, Ends}
-use Rattle.ps_causes.specs.ps_meaning.Runs.{run_events, run_end, outcome_of, all_events, end_reached, fresh_store}
-use Rattle.ps_causes.specs.ps_heap.Weights.{code_weight}
+use Rattle.ps_causes.specs.ps_meaning.Runs.{Given, over_nothing, events_with, run_events, run_end, outcome_of, all_events, end_reached, fresh_store}
+use Rattle.ps_causes.specs.ps_heap.Weights.{code_weight, routine_weight}
 use Rattle.ps_causes.specs.ps_typing.Program.{bodies, first_complex}
 use Rattle.ps_code_laws.specs.ps_soundness.Running.{BodyRuns}
 use Rattle.ps_code_laws.specs.ps_soundness.Shapes.{type_of_body}
 use Rattle.ps_code_laws.specs.ps_soundness.Valued.{IsValued}
-use Rattle.ps_unit_weights.specs.ps_gen.Units.{unit_of, frame_of, HasUnit}
+use Rattle.ps_unit_weights.specs.ps_gen.Units.{unit_of, frame_of, instrs_of, HasUnit}
+use Rattle.ps_unit_weights.specs.Weights.{weight_as_unit}
+use Rattle.ps_unit_weights.proofs.UnitWords.{lighter}
+use Rattle.ps_code_laws.specs.Compiled.{compiled_routine, compiled_store, compiled_events, WeighsUnits}
+use Rattle.ps_code_laws.specs.Meets.{IsFittingHeap}
+use Rattle.count_laws.specs.Heavier.{Weighs, AreLess}
 use Rattle.ps_code_laws.specs.ps_stepping.Config.{Config, start, frame_in}
-use Rattle.ps_code_laws.specs.ps_stepping.Machine.{Step, Stops, Steps, Runs}
+use Rattle.ps_code_laws.specs.ps_stepping.Machine.{Step, Goes, Stops, Stuck, Steps, Runs, RunsBy, and_touched, at_instruction, at_nothing}
 use Rattle.ps_code_laws.specs.ps_stepping.Path.{Reaches}
-use Rattle.ps_code_laws.proofs.of_ps_stepping.Paths.{on_the_way, stops_at_the_end, is_never_stuck, front_on_the_way}
-use Rattle.ps_code_laws.proofs.of_ps_stepping.Following.{follow}
+use Rattle.ps_code_laws.proofs.of_ps_stepping.Paths.{runs_by, follow_by, by_the_way, each_may, stops_at_the_end, is_never_stuck, front_on_the_way}
 use Rattle.machine_run.specs.obj_layout.Stored.{Space}
 use Rattle.machine_run.specs.obj_layout.declared.vault.VaultFault.{VaultFault}
 use Rattle.machine_run.specs.obj_layout.declared.vault.VaultFault.TheVariants.{Device, Damaged}
@@ -43,6 +50,7 @@ use Rattle.machine_run.specs.machine_core.declared.machine.Machine.{Machine}
 use Rattle.machine_run.specs.machine_core.declared.run_end.RunEnd.{RunEnd}
 use Rattle.machine_run.specs.machine_core.Full.{MakesOne, StoresOne}
 use Rattle.machine_run.specs.machine_core.Holding.{Holds}
+use Rattle.machine_run.specs.machine_core.ps_stepping.Plain.{is_plain, PlainSteps, at_plain, at_another, at_none}
 use Rattle.machine_run.specs.machine_core.Stepped.{end_of}
 use Rattle.machine_run.proofs.of_joint_ops.CodeLaws.{no-names}
 use Rattle.machine_run.specs.Loaded.{IsFrame, IsLoaded, EndsBefore, HasNoRoom, RunsAs, itself, LoadsUnit, Loads}
@@ -50,6 +58,7 @@ use Rattle.machine_run.specs.Loaded as load
 use Rattle.machine_run.specs.Ran as vault
 use Rattle.machine_run.specs.Ran.{Ran, ended, broke, cut, report_cut}
 use Rattle.machine_run.proofs.Counting.{next_counted}
+use Rattle.machine_run.proofs.Between.{goes_plainly}
 use Rattle.no_store.specs.NoObjects.{outside_of}
 use Rattle.no_store.proofs.HoldingLaws.{device-left}
 use Rattle.ps_causes.specs.ps_words.Words.{RunOf}
@@ -64,10 +73,11 @@ use Rattle.ps_causes.specs.ps_reports.Reports.{area_full_line}
 use Rattle.ps_causes.proofs.of_ps_reports.Behind.{answers_then, told_none}
 use Rattle.ps_causes.proofs.of_ps_volumes.Settled.{answers_keep}
 use Rattle.ps_causes.specs.Command.{its_end, area_full}
-use Rattle.ps_causes.specs.Filling.{area_size, begin, FillsArea, of_the_unit, of_a_step}
+use Rattle.ps_causes.specs.Filling.{area_size, begin, unit_events, FillsArea, of_the_unit, of_a_step}
 use Rattle.ps_causes.specs.Steps.{EndsRun}
 use Rattle.ps_command.specs.inside.Steps.{IsRunnable, IsReady, Concludes}
 use Rattle.ps_command.proofs.Programs.{first_fits}
+use Rattle.ps_command.proofs.Events.{ending, ending-append, same-outputs, same-ending, compiled-outputs, compiled-ending}
 
 outputs-append : (xs ys : List Event) → outputs (xs ++ ys) ≡ outputs xs ++ outputs ys
 outputs-append [] ys = refl
@@ -77,22 +87,34 @@ outputs-append (x ∷ xs) ys = ap (λ (bs : List ℕ). output_of x ++ bs) (outpu
 told_to_the_end : (total events : List Event) (e : End) (count : ℕ) → total ≡ events ++ Finish e count ∷ [] → outputs total ≡ outputs events ++ report_of e
 told_to_the_end total events e count is = ap outputs is ∙ outputs-append events (Finish e count ∷ []) ∙ ap (λ (bs : List ℕ). outputs events ++ bs) (append-nil (report_of e))
 
-last_same : {A : Type 0} (xs ys : List A) (x y : A) → xs ++ x ∷ [] ≡ ys ++ y ∷ [] → x ≡ y
-last_same xs ys x y e =
-    let back : (zs : List _) (z : _) → reverse (zs ++ z ∷ []) ≡ z ∷ reverse zs = λ zs z. reverse-append zs (z ∷ []) in
-    let both : x ∷ reverse xs ≡ y ∷ reverse ys = sym (back xs x) ∙ ap reverse e ∙ back ys y in
-    cc
-
-end_is_of : (o : Outcome) (so_far : List Event) (e : End) (count : ℕ) → all_events o ≡ so_far ++ Finish e count ∷ [] → e ≡ end_reached o
+ends_in_its_end : (o : Outcome) → ending None (all_events o) ≡ Some (end_reached o)
 unfolding all_events end_reached
-end_is_of (Value_is v f s) so_far e count is =
-    let same : Finish Done s.store.counted ≡ Finish e count = last_same s.events so_far (Finish Done s.store.counted) (Finish e count) is in cc
-end_is_of (Ends e' s) so_far e count is =
-    let same : Finish e' s.store.counted ≡ Finish e count = last_same s.events so_far (Finish e' s.store.counted) (Finish e count) is in cc
+ends_in_its_end (Value_is v f s) = ending-append None s.events Done s.store.held.counted
+ends_in_its_end (Ends e s) = ending-append None s.events e s.store.held.counted
 
-end_is : (turns : ℕ) (input : List ℕ) (program : BodyNode) (so_far : List Event) (e : End) (count : ℕ) → run_events turns input program ≡ so_far ++ Finish e count ∷ [] → e ≡ run_end turns input program
-unfolding run_events run_end
-end_is turns input program so_far e count is = end_is_of (outcome_of turns input program) so_far e count is
+run_ends : (given : Given) (program : BodyNode) → ending None (run_events given program) ≡ Some (run_end given program)
+unfolding events_with run_end
+run_ends given program = ends_in_its_end (outcome_of given program)
+
+-- the events as the unit has them output what the program's do, and end as they do
+same_as_meant : (run : RunOf) (input : List ℕ) (program : BodyNode)
+    → AreLess (events_with weight_as_unit (over_nothing run.turns input) program) (run_events (over_nothing run.turns input) program)
+    → outputs (unit_events run input program) ≡ outputs (run_events (over_nothing run.turns input) program)
+same_as_meant run input program less =
+    let given = over_nothing run.turns input in
+    let events = events_with weight_as_unit given program in
+    compiled-outputs events ∙ same-outputs events (run_events given program) less
+
+end_is : (run : RunOf) (input : List ℕ) (program : BodyNode) (so_far : List Event) (e : End) (count : ℕ)
+    → AreLess (events_with weight_as_unit (over_nothing run.turns input) program) (run_events (over_nothing run.turns input) program)
+    → unit_events run input program ≡ so_far ++ Finish e count ∷ [] → e ≡ run_end (over_nothing run.turns input) program
+end_is run input program so_far e count less is =
+    let given = over_nothing run.turns input in
+    let events = events_with weight_as_unit given program in
+    let both : Some e ≡ Some (run_end given program) =
+    sym (ending-append None so_far e count) ∙ sym (ap (ending None) is) ∙ compiled-ending None events ∙ same-ending None events (run_events given program) less
+    ∙ run_ends given program in
+    cc
 
 -- the frame of a program that can be run is none that a machine refuses
 frame_is : (program : BodyNode) → IsCounted program → slot_count program ≤ 512 → IsFrame (frame_of program)
@@ -120,16 +142,31 @@ loads_itself outside u turns input old new answer fits l =
 
 -- what the laws say of each program
 abbrev pub AreRun : Type 0
-AreRun = (program : BodyNode) (turns : ℕ) (input : List ℕ) → IsWellTyped program → BodyRuns [] program
-    → AllByRecursion (λ of. IsValued (type_of_body of)) (bodies program) → first_complex (bodies program) ≡ None → AllByRecursion HasUnit (bodies program)
-    → Runs (run_events turns input program) (start (unit_of program) (fresh_store turns input (code_weight program))) []
+AreRun = (may : Instr → Bool) (program : BodyNode) (weigh : Routine → ℕ) (given : Given) → WeighsUnits weigh → IsFittingHeap may given.heap →
+    IsWellTyped program → BodyRuns [] program → AllByRecursion (λ of. IsValued (type_of_body of)) (bodies program) →
+    first_complex (bodies program) ≡ None → AllByRecursion HasUnit (bodies program) →
+    AllByRecursion (λ of. AllByRecursion (λ i. may i ≡ true) (instrs_of of)) (bodies program) →
+    RunsBy may (compiled_events (events_with weigh given program)) (start (unit_of program) (compiled_store (fresh_store weigh given (code_weight program)))) []
+
+abbrev pub AreCounted : Type 0
+AreCounted = (light heavy : Routine → ℕ) (given : Given) (program : BodyNode) → Weighs light heavy
+    → AreLess (events_with light given program) (events_with heavy given program)
+
+weighs_units : WeighsUnits weight_as_unit
+unfolding compiled_routine
+weighs_units (as_written of) = refl
+weighs_units (as_compiled of) = refl
+
+nothing_fits : IsFittingHeap is_plain nothing_stored
+nothing_fits = search rules
 
 abbrev pub AreWeighed : Type 0
 AreWeighed = (of : BodyNode) → 8 + 8 * unit_words (unit_of of) ≤ code_weight of
 
-module _ (unit : CodeUnit) (run : RunOf) (input : List ℕ) (program : BodyNode) (are_run : AreRun) (are_weighed : AreWeighed) (r : IsRunnable unit program) (old m : Machine) where
-  runs : Runs (run_events run.turns input program) (begin run input program) []
-  runs = are_run program run.turns input r.typed r.runs r.valued r.simple r.units
+module _ (unit : CodeUnit) (run : RunOf) (input : List ℕ) (program : BodyNode) (are_run : AreRun) (are_weighed : AreWeighed) (are_counted : AreCounted) (r : IsRunnable unit program) (old m : Machine) where
+  runs : RunsBy is_plain (unit_events run input program) (begin run input program) []
+  runs =
+      are_run is_plain program weight_as_unit (over_nothing run.turns input) weighs_units nothing_fits r.typed r.runs r.valued r.simple r.units r.plain
 
   weighs : 8 + 8 * unit_words (unit_view unit) ≤ code_weight program
   weighs = subst (λ (u : UnitView). 8 + 8 * unit_words u ≤ code_weight program) (sym r.unit_is) (are_weighed program)
@@ -141,10 +178,11 @@ module _ (unit : CodeUnit) (run : RunOf) (input : List ℕ) (program : BodyNode)
     sound = l.sound;
     named = l.named;
     area = l.size ∙ size;
-    starts = subst (λ (u : UnitView). Holds outside m (start u (fresh_store run.turns input (code_weight program)))) r.unit_is
-        (l.starts (fresh_store run.turns input (code_weight program))
+    starts = subst (λ (u : UnitView). Holds outside m (start u (fresh_store weight_as_unit (over_nothing run.turns input) (code_weight program)))) r.unit_is
+        (l.starts (fresh_store weight_as_unit (over_nothing run.turns input) (code_weight program))
         (record { names = []; world = no-names (fresh_heap old.objects.size) outside; turns_are = refl; input_is = refl }));
     runs = runs;
+    counted = are_counted weight_as_unit routine_weight (over_nothing run.turns input) program lighter;
   }
 
   -- there was no room for its code
@@ -155,7 +193,7 @@ module _ (unit : CodeUnit) (run : RunOf) (input : List ℕ) (program : BodyNode)
       let t : top ≡ none.top = cc in
       let w : wanted ≡ none.wanted = cc in
       let whole : size ≡ old.objects.size = cc in
-      let first = next_counted (run_events run.turns input program) (begin run input program) [] runs in
+      let first = next_counted (unit_events run input program) (begin run input program) [] runs in
       let short = none.full in
       let within = none.within in (
         record {
@@ -202,7 +240,7 @@ module _ (old mid new : Outside (List ℕ)) where
 
   module _ (run : RunOf) (input : List ℕ) (program : BodyNode) (m : Machine) (r : IsReady (outside_of old) run input program m) where
     abbrev total : List Event
-    total = run_events run.turns input program
+    total = unit_events run input program
 
     abbrev RanTo : List ℕ → Result RunEnd SwizzleFault → Type 0
     RanTo owed answer = Ran (outside_of old) (outside_of mid) [] owed m.objects.size (begin run input program) answer
@@ -214,9 +252,27 @@ module _ (old mid new : Outside (List ℕ)) where
         subst (λ (bs : List ℕ). Ran (outside_of old) (outside_of mid) bs left m.objects.size (begin run input program) answer) none
         (subst (λ (x : Result RunEnd SwizzleFault). Ran (outside_of old) (outside_of mid) owed left m.objects.size (begin run input program) x) is ran)
 
-    ended_by : (events : List Event) (last : Config) (e : End) → Reaches (begin run input program) events last → Steps last (Stops e)
-        → total ≡ events ++ Finish e last.store.counted ∷ []
-    ended_by events last e way s = stops_at_the_end total (begin run input program) last events e r.runs way s
+    -- what the program means
+    abbrev meant : List Event
+    meant = run_events (over_nothing run.turns input) program
+
+    told_as_meant : outputs total ≡ outputs meant
+    told_as_meant = same_as_meant run input program r.counted
+
+    abbrev steps_run : Runs total (begin run input program) []
+    steps_run = runs_by is_plain total (begin run input program) [] r.runs
+
+    ended_by : (events : List Event) (last : Config) (e : End) (touched : ℕ) → Reaches (begin run input program) events last → Steps last (Stops e touched)
+        → total ≡ events ++ Finish e (and_touched touched last.store.held.counted) ∷ []
+    ended_by events last e touched way s = stops_at_the_end total (begin run input program) last events e touched steps_run way s
+
+    -- the machine has each instruction on the way
+    never_stuck : (last : Config) (events : List Event) {s : Step} → Reaches (begin run input program) events last → PlainSteps last s → s ≡ Stuck → ⊥
+    never_stuck last events way (at_plain at plain) is =
+        is_never_stuck total (begin run input program) last events steps_run way (subst (λ (x : Step). Steps last x) is (at_instruction at))
+    never_stuck last events way (at_another {i = i} at other) is =
+        let both : true ≡ false = sym (each_may is_plain total (begin run input program) last events i r.runs way at) ∙ other in cc
+    never_stuck last events way (at_none none) is = is_never_stuck total (begin run input program) last events steps_run way (at_nothing none)
 
     -- the run isn't damaged, and no device failed in it
     never_broke : (owed : List ℕ) (fault : VaultFault) → RanTo owed (Err (Vault fault)) → fault ≡ vault_fault.Output
@@ -227,7 +283,7 @@ module _ (old mid new : Outside (List ℕ)) where
     never_broke owed vault_fault.Output ran = refl
     never_broke owed (vault_fault.Full used wanted capacity) (broke way s by tells) = absurd by
     never_broke owed (Damaged at found wanted) (broke {events = events} {last = last} way s by tells) =
-        absurd (is_never_stuck total (begin run input program) last events r.runs way (subst (λ (x : Step). Steps last x) by s))
+        absurd (never_stuck last events way s by)
 
     -- so the area is full, where the output didn't fail
     pub only_full : (owed : List ℕ) (fault : SwizzleFault) → RanTo owed (Err fault) → (fault ≡ Vault vault_fault.Output → ⊥)
@@ -244,39 +300,47 @@ module _ (old mid new : Outside (List ℕ)) where
         inr (fails.0, subst (λ (bs : List ℕ). FailsAfter old new bs) (sym is) (fails_then old mid new sent owed told fails.1))
 
     -- where the output failed it was after a prefix of it
-    failed_in : FailsAfter old new (outputs total) → EndsRun old new run input program (Ok statuses.Output)
-    failed_in fails = record { bytes = outputs total; status = status_of (run_end run.turns input program); comes = its_end; ends = answers.ended (answers.cut fails) }
+    failed_in : FailsAfter old new (outputs meant) → EndsRun old new run input program (Ok statuses.Output)
+    failed_in fails = record { bytes = outputs meant; status = status_of (run_end (over_nothing run.turns input) program); comes = its_end; ends = answers.ended (answers.cut fails) }
 
-    failed_as : (answer : Result Status Report) → answer ≡ Ok statuses.Output → FailsAfter old new (outputs total) → EndsRun old new run input program answer
+    failed_as : (answer : Result Status Report) → answer ≡ Ok statuses.Output → FailsAfter old new (outputs meant) → EndsRun old new run input program answer
     failed_as answer is fails = subst (λ (e : Result Status Report). EndsRun old new run input program e) (sym is) (failed_in fails)
 
     -- where it ended all was output, and the end is the program's
     pub all_told : (owed : List ℕ) (e : RunEnd) (answered : Status) (answer : Result Status Report) → number_of answered ≡ status_of (end_of e) → RanTo owed (Ok e)
         → Concludes mid new owed (Ok answered) answer → EndsRun old new run input program answer
-    all_told owed e answered answer is_status (ended {events = events} {last = last} way s tells) ends =
-        let is = ended_by events last (end_of e) way s in
-        let status : number_of answered ≡ status_of (run_end run.turns input program) =
-        is_status ∙ ap status_of (end_is run.turns input program events (end_of e) last.store.counted is) in
-        let whole_is = told_to_the_end total events (end_of e) last.store.counted is ∙ tells.due_is in
-        elim (concluded owed tells.sent (outputs total) (Ok answered) answer whole_is (host_told tells.sent tells.tells) ends) [
+    all_told owed e answered answer is_status (ended {events = events} {last = last} {touched = touched} way s tells) ends =
+        let is = ended_by events last (end_of e) touched way s in
+        let count = and_touched touched last.store.held.counted in
+        let status : number_of answered ≡ status_of (run_end (over_nothing run.turns input) program) =
+        is_status ∙ ap status_of (end_is run input program events (end_of e) count r.counted is) in
+        let whole_is = sym told_as_meant ∙ told_to_the_end total events (end_of e) count is ∙ tells.due_is in
+        elim (concluded owed tells.sent (outputs meant) (Ok answered) answer whole_is (host_told tells.sent tells.tells) ends) [
           | inl all ↦
               subst (λ (x : Result Status Report). EndsRun old new run input program x) (sym all.0)
               (record {
-                bytes = outputs total;
-                status = status_of (run_end run.turns input program);
+                bytes = outputs meant;
+                status = status_of (run_end (over_nothing run.turns input) program);
                 comes = its_end;
-                ends = answers.ended (subst (λ (n : ℕ). Answers old new (outputs total) (status_of (run_end run.turns input program)) n) (sym status) (whole all.1));
+                ends = answers.ended (subst (λ (n : ℕ). Answers old new (outputs meant) (status_of (run_end (over_nothing run.turns input) program)) n) (sym status) (whole all.1));
               })
           | inr fails ↦ failed_as answer fails.0 fails.1
         ]
 
     -- what is still to come is none that was output
     front_failed : (events : List Event) (last : Config) → Reaches (begin run input program) events last → FailsAfter old new (outputs events)
-        → FailsAfter old new (outputs total)
+        → FailsAfter old new (outputs meant)
     front_failed events last way fails =
-        let front = front_on_the_way total (begin run input program) last events r.runs way in
-        let is : outputs total ≡ outputs events ++ outputs front.0 = ap outputs front.1 ∙ outputs-append events front.0 in
+        let front = front_on_the_way total (begin run input program) last events steps_run way in
+        let is : outputs meant ≡ outputs events ++ outputs front.0 = sym told_as_meant ∙ ap outputs front.1 ∙ outputs-append events front.0 in
         subst (λ (bs : List ℕ). FailsAfter old new bs) (sym is) (fails_more old new (outputs events) (outputs front.0) fails)
+
+    -- a step that goes on quietly is one of the run
+    goes_on_plainly : (last : Config) (events : List Event) (next : Config) {s : Step} → Reaches (begin run input program) events last → PlainSteps last s
+        → s ≡ Goes [] next → RunsBy is_plain total next (events ++ []) × Steps last (Goes [] next)
+    goes_on_plainly last events next way steps is =
+        let step = goes_plainly [] next steps is in
+        (follow_by is_plain total last next events [] (by_the_way is_plain total (begin run input program) last [] events r.runs way) step, step)
 
     -- where the area was full, others would have come
     pub fills : (owed : List ℕ) (top wanted size : ℕ) (answer : Result Status Report) → RanTo owed (Err (AreaFull top wanted size))
@@ -284,15 +348,16 @@ module _ (old mid new : Outside (List ℕ)) where
     fills owed top wanted size answer (broke {events = events} {last = last} {s = s} way steps by tells) ends =
         let area : size ≡ area_size run = by.0 ∙ r.area in
         let made = only_made by.2 in
-        let first = next_counted total made.next (events ++ [])
-        (follow total last made.next events [] (on_the_way total (begin run input program) last [] events r.runs way) (subst (λ (x : Step). Steps last x) made.step_is steps)) in
+        let goes = goes_on_plainly last events made.next way steps made.step_is in
+        let first = next_counted total made.next (events ++ []) goes.0 in
         let short = by.1 in
         let its = r.area in
         let full : FillsArea run input program events top wanted = record {
           next = first.0;
           rest = first.1;
           events_are = first.2 ∙ ap (λ (es : List Event). es ++ first.0 ∷ first.1) (append-nil events);
-          object = of_a_step way steps made;
+          object = of_a_step way goes.1
+              (record { next = made.next; step_is = refl; before = made.before; weight = made.weight; makes = made.makes; words = made.words });
           short = omega (arith, its, short);
         } in
         elim (concluded owed tells.sent (outputs events) (Err (reports.AreaFull top wanted size)) answer tells.due_is (host_told tells.sent tells.tells) ends) [
@@ -307,17 +372,17 @@ module _ (old mid new : Outside (List ℕ)) where
         only_made (inr stored) = absurd stored.stored.there.is
 
     -- where the output failed in the run, nothing was pending
-    cut_in : FailsAfter old mid (outputs total) → EndsRun old mid run input program (Ok statuses.Output)
-    cut_in fails = record { bytes = outputs total; status = status_of (run_end run.turns input program); comes = its_end; ends = answers.ended (answers.cut fails) }
+    cut_in : FailsAfter old mid (outputs meant) → EndsRun old mid run input program (Ok statuses.Output)
+    cut_in fails = record { bytes = outputs meant; status = status_of (run_end (over_nothing run.turns input) program); comes = its_end; ends = answers.ended (answers.cut fails) }
 
     pub front_told : (owed : List ℕ) → RanTo owed (Err (Vault vault_fault.Output)) → EndsRun old mid run input program (Ok statuses.Output)
     front_told owed (broke way s by tells) = absurd by
     front_told owed (cut {events = events} {last = last} way fails none) =
-        let front = front_on_the_way total (begin run input program) last events r.runs way in
-        let is : outputs total ≡ outputs events ++ outputs front.0 = ap outputs front.1 ∙ outputs-append events front.0 in
+        let front = front_on_the_way total (begin run input program) last events steps_run way in
+        let is : outputs meant ≡ outputs events ++ outputs front.0 = sym told_as_meant ∙ ap outputs front.1 ∙ outputs-append events front.0 in
         cut_in (subst (λ (bs : List ℕ). FailsAfter old mid bs) (sym is) (fails_more old mid (outputs events) (outputs front.0) (host_failed (outputs events) fails)))
-    front_told owed (report_cut {events = events} {last = last} e way s fails none) =
-        cut_in (subst (λ (bs : List ℕ). FailsAfter old mid bs) (sym (told_to_the_end total events (end_of e) last.store.counted (ended_by events last (end_of e) way s)))
+    front_told owed (report_cut {events = events} {last = last} {touched = touched} e way s fails none) =
+        cut_in (subst (λ (bs : List ℕ). FailsAfter old mid bs) (sym (sym told_as_meant ∙ told_to_the_end total events (end_of e) (and_touched touched last.store.held.counted) (ended_by events last (end_of e) touched way s)))
         (host_failed (outputs events ++ report_of (end_of e)) fails))
 
 -- What a run ends in after calls that output nothing.

@@ -18,6 +18,7 @@ ghost use Rattle.ps_causes.specs.Steps.{EndsRun, ProgramWhy};
 ghost use Rattle.ps_command.specs.inside.Steps.{IsRunnable, IsReady, Concludes};
 
 use crate::prepare::Prepared;
+use count_laws::heavier_code_counts_more;
 use machine_run::load::{load, machine};
 use machine_run::obj_layout::vault::VaultFault;
 use machine_run::run::run;
@@ -71,6 +72,7 @@ fn run_attached<H: Host>(
     ensures ran { (program : BodyNode) → IsRunnable prepared.unit program → EndsRun (H.outside host) (H.outside result.1) (run_in words.now) prepared.input.items program result.0 }
     ensures left { LeavesSame (H.outside host) (H.outside result.1) }
 {
+    heavier_code_counts_more();
     program_runs_as_meant();
     units_weigh_as_counted();
     let mut m = m;

@@ -10,7 +10,7 @@ use Rattle.ps_heap.specs.Tables.{string_key, entered, looked_up}
 use Rattle.ps_heap.specs.Objects.{Object, Structure, Scope, Elements, Heap, table_of}
 use Rattle.ps_heap.specs.References.{next_in}
 use Rattle.ps_heap.specs.Databases.{database_from, database_at, every_root, each_once, create_fault, admission}
-use Rattle.ps_heap.specs.Held.{Held, Under, StoredHeap, nothing_stored, made, is_among, home_at, noted, assigned_part, touched_once, touching, row, reached_from_roots, started}
+use Rattle.ps_heap.specs.Held.{Held, Under, StoredHeap, nothing_stored, made, is_among, home_at, assigned_part, row, reached_from_roots, started, touched_after, touched_weight, is_first_touch, places_with}
 use Rattle.ps_heap.specs.Commit.{NotWritable, loose_from, loose, roots_of, after_places, starts, newly_reached, at_home, source_of, sources, first_database, created_with, home_after, homes_after, are_writable, saved, decision}
 use Rattle.ps_heap.specs.Calls.{enter_call, lookup_call, asks_to_create, asks_to_open, create_answer, open_answer, commit_call}
 use Rattle.ps_heap.proofs.Scenes.{part_of, entry, creates, opens, new_run, table_with, database}
@@ -36,11 +36,11 @@ abbrev of_closure : Held
 of_closure = record (creates (codes "d") [] (new_run nothing_stored)).held { objects = closure }
 
 scopes_reached : newly_reached of_closure ≡ 0 ∷ 3 ∷ 2 ∷ 1 ∷ 5 ∷ 6 ∷ []
-unfolding newly_reached starts decision are_writable each_once saved homes_after row home_after first_database sources source_of at_home created_with after_places roots_of loose loose_from home_at database_at database_from started reached_from_roots every_root reach walk without is_in first_source next_in noted is_among assigned_part create_answer create_fault asks_to_create open_answer admission asks_to_open enter_call lookup_call table_of looked_up entered touching touched_once commit_call
+unfolding newly_reached starts decision are_writable each_once saved homes_after row home_after first_database sources source_of at_home created_with after_places roots_of loose loose_from home_at database_at database_from reached_from_roots every_root reach walk without is_in first_source next_in places_with is_among create_answer create_fault asks_to_create open_answer admission asks_to_open enter_call lookup_call table_of looked_up entered touched_after touched_weight is_first_touch commit_call
 scopes_reached = refl
 
 homes_of_reached : homes_after of_closure ≡ Some 1 ∷ Some 1 ∷ Some 1 ∷ Some 1 ∷ None ∷ Some 1 ∷ Some 1 ∷ []
-unfolding decision are_writable each_once saved homes_after row home_after first_database sources source_of at_home created_with after_places roots_of loose loose_from home_at database_at database_from started reached_from_roots every_root reach walk without is_in first_source next_in noted is_among assigned_part create_answer create_fault asks_to_create open_answer admission asks_to_open enter_call lookup_call table_of looked_up entered touching touched_once commit_call
+unfolding decision are_writable each_once saved homes_after row home_after first_database sources source_of at_home created_with after_places roots_of loose loose_from home_at database_at database_from reached_from_roots every_root reach walk without is_in first_source next_in places_with is_among create_answer create_fault asks_to_create open_answer admission asks_to_open enter_call lookup_call table_of looked_up entered touched_after touched_weight is_first_touch commit_call
 homes_of_reached = refl
 
 -- Reaching doesn't go on through an object that is committed: what it refers to by places that aren't assigned is committed too.
@@ -51,7 +51,7 @@ through_committed = record (new_run (record { objects = table_with (entry (codes
 }
 
 not_through_committed : newly_reached through_committed ≡ []
-unfolding newly_reached starts decision are_writable each_once saved homes_after row home_after first_database sources source_of at_home created_with after_places roots_of loose loose_from home_at database_at database_from started reached_from_roots every_root reach walk without is_in first_source next_in noted is_among assigned_part create_answer create_fault asks_to_create open_answer admission asks_to_open enter_call lookup_call table_of looked_up entered touching touched_once commit_call
+unfolding newly_reached starts decision are_writable each_once saved homes_after row home_after first_database sources source_of at_home created_with after_places roots_of loose loose_from home_at database_at database_from reached_from_roots every_root reach walk without is_in first_source next_in places_with is_among create_answer create_fault asks_to_create open_answer admission asks_to_open enter_call lookup_call table_of looked_up entered touched_after touched_weight is_first_touch commit_call
 not_through_committed = refl
 
 -- Two new databases: the first refers to the root of the second. That root is at home in its own database, and what is behind it in the first.
@@ -61,12 +61,12 @@ two = record (creates (codes "e") [] (creates (codes "d") [] (new_run nothing_st
 }
 
 homes_of_two : homes_after two ≡ Some 1 ∷ Some 2 ∷ Some 1 ∷ None ∷ []
-unfolding decision are_writable each_once saved homes_after row home_after first_database sources source_of at_home created_with after_places roots_of loose loose_from home_at database_at database_from started reached_from_roots every_root reach walk without is_in first_source next_in noted is_among assigned_part create_answer create_fault asks_to_create open_answer admission asks_to_open enter_call lookup_call table_of looked_up entered touching touched_once commit_call
+unfolding decision are_writable each_once saved homes_after row home_after first_database sources source_of at_home created_with after_places roots_of loose loose_from home_at database_at database_from reached_from_roots every_root reach walk without is_in first_source next_in places_with is_among create_answer create_fault asks_to_create open_answer admission asks_to_open enter_call lookup_call table_of looked_up entered touched_after touched_weight is_first_touch commit_call
 homes_of_two = refl
 
 -- A root that was made is reached though nothing refers to it and nothing else is assigned.
 created_roots_reached : newly_reached (creates (codes "d") [] (new_run nothing_stored)).held ≡ 0 ∷ []
-unfolding newly_reached starts decision are_writable each_once saved homes_after row home_after first_database sources source_of at_home created_with after_places roots_of loose loose_from home_at database_at database_from started reached_from_roots every_root reach walk without is_in first_source next_in noted is_among assigned_part create_answer create_fault asks_to_create open_answer admission asks_to_open enter_call lookup_call table_of looked_up entered touching touched_once commit_call
+unfolding newly_reached starts decision are_writable each_once saved homes_after row home_after first_database sources source_of at_home created_with after_places roots_of loose loose_from home_at database_at database_from reached_from_roots every_root reach walk without is_in first_source next_in places_with is_among create_answer create_fault asks_to_create open_answer admission asks_to_open enter_call lookup_call table_of looked_up entered touched_after touched_weight is_first_touch commit_call
 created_roots_reached = refl
 
 -- Two stored databases, each with a link, and a new box to which both links are made to refer: it is at home in the one that was opened first, whichever was
@@ -85,11 +85,11 @@ abbrev opened_in : List ℕ → List ℕ → Held
 opened_in first second = (opens second [] (codes "write") (opens first [] (codes "write") (new_run both_stored)).held).held
 
 home_by_order_of_opening : homes_after (both_assigned (opened_in (codes "e") (codes "d"))) ≡ Some 1 ∷ Some 2 ∷ Some 1 ∷ Some 2 ∷ Some 2 ∷ []
-unfolding decision are_writable each_once saved homes_after row home_after first_database sources source_of at_home created_with after_places roots_of loose loose_from home_at database_at database_from started reached_from_roots every_root reach walk without is_in first_source next_in noted is_among assigned_part create_answer create_fault asks_to_create open_answer admission asks_to_open enter_call lookup_call table_of looked_up entered touching touched_once commit_call
+unfolding decision are_writable each_once saved homes_after row home_after first_database sources source_of at_home created_with after_places roots_of loose loose_from home_at database_at database_from reached_from_roots every_root reach walk without is_in first_source next_in places_with is_among create_answer create_fault asks_to_create open_answer admission asks_to_open enter_call lookup_call table_of looked_up entered touched_after touched_weight is_first_touch commit_call
 home_by_order_of_opening = refl
 
 home_by_the_other_order : homes_after (both_assigned (opened_in (codes "d") (codes "e"))) ≡ Some 1 ∷ Some 2 ∷ Some 1 ∷ Some 2 ∷ Some 1 ∷ []
-unfolding decision are_writable each_once saved homes_after row home_after first_database sources source_of at_home created_with after_places roots_of loose loose_from home_at database_at database_from started reached_from_roots every_root reach walk without is_in first_source next_in noted is_among assigned_part create_answer create_fault asks_to_create open_answer admission asks_to_open enter_call lookup_call table_of looked_up entered touching touched_once commit_call
+unfolding decision are_writable each_once saved homes_after row home_after first_database sources source_of at_home created_with after_places roots_of loose loose_from home_at database_at database_from reached_from_roots every_root reach walk without is_in first_source next_in places_with is_among create_answer create_fault asks_to_create open_answer admission asks_to_open enter_call lookup_call table_of looked_up entered touched_after touched_weight is_first_touch commit_call
 home_by_the_other_order = refl
 
 -- For the order it counts when a database became open for writing, and not when it was first opened.
@@ -97,12 +97,12 @@ abbrev read_first : Held
 read_first = (opens (codes "d") [] (codes "write") (opens (codes "e") [] (codes "write") (opens (codes "d") [] (codes "read") (new_run both_stored)).held).held).held
 
 home_by_opening_for_writing : homes_after (both_assigned read_first) ≡ Some 1 ∷ Some 2 ∷ Some 1 ∷ Some 2 ∷ Some 2 ∷ []
-unfolding decision are_writable each_once saved homes_after row home_after first_database sources source_of at_home created_with after_places roots_of loose loose_from home_at database_at database_from started reached_from_roots every_root reach walk without is_in first_source next_in noted is_among assigned_part create_answer create_fault asks_to_create open_answer admission asks_to_open enter_call lookup_call table_of looked_up entered touching touched_once commit_call
+unfolding decision are_writable each_once saved homes_after row home_after first_database sources source_of at_home created_with after_places roots_of loose loose_from home_at database_at database_from reached_from_roots every_root reach walk without is_in first_source next_in places_with is_among create_answer create_fault asks_to_create open_answer admission asks_to_open enter_call lookup_call table_of looked_up entered touched_after touched_weight is_first_touch commit_call
 home_by_opening_for_writing = refl
 
 -- Of two databases one is open for writing, and objects of both are assigned: not writable.
 one_of_two_is_not_open : decision (both_assigned (opens (codes "d") [] (codes "write") (new_run both_stored)).held) ≡ NotWritable
-unfolding decision are_writable each_once saved homes_after row home_after first_database sources source_of at_home created_with after_places roots_of loose loose_from home_at database_at database_from started reached_from_roots every_root reach walk without is_in first_source next_in noted is_among assigned_part create_answer create_fault asks_to_create open_answer admission asks_to_open enter_call lookup_call table_of looked_up entered touching touched_once commit_call
+unfolding decision are_writable each_once saved homes_after row home_after first_database sources source_of at_home created_with after_places roots_of loose loose_from home_at database_at database_from reached_from_roots every_root reach walk without is_in first_source next_in places_with is_among create_answer create_fault asks_to_create open_answer admission asks_to_open enter_call lookup_call table_of looked_up entered touched_after touched_weight is_first_touch commit_call
 one_of_two_is_not_open = refl
 
 -- A database may be read by pointers though it isn't open: here that of the second link, by a pointer from the first one.
@@ -110,5 +110,5 @@ abbrev linked : Held
 linked = new_run (record both_stored { objects = table_with (entry (codes "k") 2 ∷ []) ∷ table_with (entry (codes "k") 3 ∷ []) ∷ link (Pointer 3) ∷ link (Pointer 1) ∷ [] })
 
 read_without_opening : part_of linked (part_of (opens (codes "d") [] (codes "read") linked).held (Pointer 2) 0) 0 ≡ Pointer 1
-unfolding decision are_writable each_once saved homes_after row home_after first_database sources source_of at_home created_with after_places roots_of loose loose_from home_at database_at database_from started reached_from_roots every_root reach walk without is_in first_source next_in noted is_among assigned_part create_answer create_fault asks_to_create open_answer admission asks_to_open enter_call lookup_call table_of looked_up entered touching touched_once commit_call
+unfolding decision are_writable each_once saved homes_after row home_after first_database sources source_of at_home created_with after_places roots_of loose loose_from home_at database_at database_from reached_from_roots every_root reach walk without is_in first_source next_in places_with is_among create_answer create_fault asks_to_create open_answer admission asks_to_open enter_call lookup_call table_of looked_up entered touched_after touched_weight is_first_touch commit_call
 read_without_opening = refl

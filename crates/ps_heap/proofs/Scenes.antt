@@ -1,10 +1,11 @@
 -- What the rows speak of: programs as what is held after each of their calls.
-use Rattle.std.proofs.Common.{ℕ, List, [], Option, Some, None, get_or}
+use Rattle.std.proofs.Common.{ℕ, List, [], Option, Some, None, get_or, false}
 use Rattle.ps_heap.specs.Values.{Value, Nil, Pointer}
 use Rattle.ps_heap.specs.Texts.{Attempt, Yields, Fails}
 use Rattle.ps_heap.specs.Tables.{string_key, Entry, by_strings}
-use Rattle.ps_heap.specs.Objects.{Object, Keyed, object_at}
+use Rattle.ps_heap.specs.Objects.{Heap, Object, Keyed, object_at}
 use Rattle.ps_heap.specs.References.{values_of}
+use Rattle.ps_heap.specs.Weights.{routine_weight}
 use Rattle.ps_heap.specs.Held.{Held, StoredHeap, started}
 use Rattle.ps_heap.specs.Calls.{Answer, enter_call, lookup_call, create_answer, open_answer, asks_to_create, asks_to_open}
 use Rattle.ps_heap.specs.Databases.{Database}
@@ -48,7 +49,7 @@ abbrev pub looks_up : List ℕ → Value → Held → Value
 looks_up key table h = value_by (lookup_call (string_key key) table h)
 
 abbrev pub new_run : StoredHeap → Held
-new_run stored = started [] 0 stored
+new_run stored = started routine_weight [] 0 stored
 
 abbrev pub removes : List ℕ → Value → Held → Held
 removes key table h = enters key table Nil h
@@ -58,3 +59,19 @@ table_with entries = Keyed (by_strings entries)
 
 abbrev pub database : List ℕ → List ℕ → ℕ → Database
 database name password root = record { name = name; password = password; root = root }
+
+-- objects of which none is committed, with so many bytes counted
+abbrev pub uncommitted : Heap → ℕ → Held
+uncommitted objects counted = record {
+  objects = objects;
+  homes = [];
+  directory = [];
+  openings = [];
+  created = [];
+  assigned = [];
+  touched = [];
+  asked = false;
+  replies = [];
+  counted = counted;
+  weigh = routine_weight;
+}

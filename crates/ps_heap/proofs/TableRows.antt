@@ -5,7 +5,7 @@ use Rattle.ps_base.specs.declared.trap.Trap.TheVariants.{KeyKind, WrongClass}
 use Rattle.ps_base.specs.declared.trap.Trap.TheVariants as trap
 use Rattle.ps_heap.specs.Values.{Num, Nil, Pointer}
 use Rattle.ps_heap.specs.Texts.{Yields, Fails}
-use Rattle.ps_heap.specs.Tables.{string_key, int_key, Entry, Table, without_keys, by_strings, by_ints, entered, looked_up, next_string, next_int, cardinality}
+use Rattle.ps_heap.specs.Tables.{string_key, int_key, Entry, Table, without_keys, by_strings, by_ints, IsInKeyOrder, entered, looked_up, next_string, next_int, cardinality}
 use Rattle.ps_heap.specs.Objects.{Heap, Structure, Elements, Keyed, table_of}
 use Rattle.ps_heap.proofs.Scenes.{entry}
 
@@ -148,3 +148,10 @@ nil_is_no_table = refl
 a_structure_is_no_table : table_of heap (Pointer 0) ≡ Fails WrongClass
 unfolding table_of
 a_structure_is_no_table = refl
+
+-- Entries stand with the least key first, for both kinds of keys.
+strings_stand_in_order : IsInKeyOrder towns
+strings_stand_in_order = ((refl, (refl, tt)), ((refl, tt), (tt, tt)))
+
+ints_stand_in_order : IsInKeyOrder (by_ints (at (negsuc 9) 1 ∷ at (pos 2) 2 ∷ []))
+ints_stand_in_order = ((refl, tt), (tt, tt))

@@ -1,11 +1,13 @@
 -- The calls of the library over tables and databases: what each answers, what a run holds afterwards, and what is counted.
-use Rattle.std.specs.Prelude.{ℕ, suc, Bool, true, false, if◌then◌else◌, codes, pos, List, [], ◌∷◌, ◌++◌, length, set, Option, Some, None}
+use Rattle.std.specs.Prelude.{ℕ, suc, ◌+◌, Bool, true, false, if◌then◌else◌, codes, pos, List, [], ◌∷◌, ◌++◌, length, set, Option, Some, None}
 use Rattle.ps_typing.specs.Library.{error_class}
 use Rattle.ps_heap.specs.Values.{Value, Num, Nil, Text, Pointer}
 use Rattle.ps_heap.specs.Values as value
+use Rattle.ps_base.specs.declared.trap.Trap.TheVariants.{Overflow}
+use Rattle.ps_heap.specs.Operators.{is_int}
 use Rattle.ps_heap.specs.Texts.{Attempt, Yields, Fails}
 use Rattle.ps_heap.specs.Tables.{Key, Table, without_keys, on_yield, entered, looked_up, cardinality}
-use Rattle.ps_heap.specs.Objects.{Object, Structure, Keyed, table_of, object_of_value, value_of_object}
+use Rattle.ps_heap.specs.Objects.{Object, Structure, Keyed, table_of, id_of, object_of_value, value_of_object}
 use Rattle.ps_heap.specs.Weights.{entry_weight, whole_weight}
 use Rattle.ps_heap.specs.Databases.{Database, Numbered, Mode, Writing, Opening, open_for_writing, Fault, BusyWriter, StaleStart, fault_text, explain_text, create_fault, Admission, Admits, Refuses, admission, directory_weight, full_directory_weight}
 use Rattle.ps_heap.specs.Databases as database
@@ -37,15 +39,11 @@ abbrev pub is_new_entry : Option ℕ → Option ℕ → Bool
 is_new_entry None (Some object) = true
 is_new_entry _ _ = false
 
-abbrev pub id_in : Value → ℕ
-id_in (Pointer id) = id
-id_in _ = 0
-
 -- the table as it is with an entry: its key is assigned, and an entry under a new key is counted
 abbrev pub table_put : Value → Key → Option ℕ → Option ℕ → Table → Held → Held
 table_put table key before object new h =
-    noted (Under (id_in table) key)
-    (counting (if is_new_entry before object then entry_weight key else 0) (record h { objects = set h.objects (id_in table) (Keyed new) }))
+    noted (Under (id_of table) key)
+    (counting (if is_new_entry before object then entry_weight key else 0) (record h { objects = set h.objects (id_of table) (Keyed new) }))
 
 -- `s.enter` and `i.enter`
 unfoldable pub enter_call : Key → Value → Value → Held → Attempt Held
@@ -60,9 +58,12 @@ lookup_call key table h =
     then_try (table_of h.objects table) (λ t.
     on_yield (looked_up key t) (λ found. answer_of (value_of_object found) (reading (value_of_object found) h)))
 
--- `cardinality`
+-- `cardinality`: the number of entries, where it is an int
+abbrev pub number_answered : ℕ → Held → Attempt Answer
+number_answered n h = if is_int (pos n) then Yields (answer_of (Num (pos n)) h) else Fails Overflow
+
 unfoldable pub cardinality_call : Value → Held → Attempt Answer
-cardinality_call table h = on_yield (table_of h.objects table) (λ t. answer_of (Num (pos (cardinality t))) h)
+cardinality_call table h = then_try (table_of h.objects table) (λ t. number_answered (cardinality t) h)
 
 -- Error records.
 
@@ -71,13 +72,13 @@ error_record context fault = Structure error_class (Text context ∷ Text (fault
 
 -- an error record is made, and counted with its texts
 abbrev pub refused : List ℕ → Fault → Held → Answer
-refused context fault h = answer_of (Pointer (new_id h)) (counting (whole_weight (error_record context fault)) (with_object (error_record context fault) h))
+refused context fault h = answer_of (Pointer (new_id h)) (counting (whole_weight h.weigh (error_record context fault)) (with_object (error_record context fault) h))
 
 -- Databases. Each call asks first, and is answered later.
 
 -- the directory is counted at the first call that asks
 abbrev pub directory_known : Held → Held
-directory_known h = if h.asked then h else counting (full_directory_weight h.directory) (record h { asked = true })
+directory_known h = record h { asked = true; counted = h.counted + (if h.asked then 0 else full_directory_weight h.directory) }
 
 -- the root of a new database is counted before it is asked for
 unfoldable pub asks_to_create : List ℕ → Held → Answer

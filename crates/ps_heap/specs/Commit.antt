@@ -5,6 +5,7 @@ use Rattle.reaching.specs.Reaching.{is_in, reach, ReachedIn, Source, first_sourc
 use Rattle.ps_heap.specs.Tables.{Key, looked_up}
 use Rattle.ps_heap.specs.Objects.{Object, Keyed, Heap, object_at}
 use Rattle.ps_heap.specs.References.{next_in}
+use Rattle.ps_heap.specs.Values.{Routine}
 use Rattle.ps_heap.specs.Weights.{value_weight, entry_weight}
 use Rattle.ps_heap.specs.Databases.{Directory, database_at, root_of, open_for_writing, full_directory_weight, is_there}
 use Rattle.ps_heap.specs.Held.{Place, Part, Under, object_of, Held, home_at, weight_at, part_at, StoredHeap, row}
@@ -119,9 +120,9 @@ after_decision _ h = h
 -- The fresh weight: of the newly reached objects with the texts and procedures in their places; of what stands in assigned places; and of the
 -- directory, where a database was made.
 
-unfoldable pub weights_at : Heap → List ℕ → ℕ
-weights_at heap [] = 0
-weights_at heap (id ∷ ids) = weight_at (object_at heap id) + weights_at heap ids
+unfoldable pub weights_at : (Routine → ℕ) → Heap → List ℕ → ℕ
+weights_at weigh heap [] = 0
+weights_at weigh heap (id ∷ ids) = weight_at weigh (object_at heap id) + weights_at weigh heap ids
 
 abbrev pub found_weight : Key → Attempt (Option ℕ) → ℕ
 found_weight key (Yields (Some id)) = entry_weight key
@@ -131,17 +132,17 @@ abbrev pub key_weight : Option Object → Key → ℕ
 key_weight (Some (Keyed table)) key = found_weight key (looked_up key table)
 key_weight _ key = 0
 
-abbrev pub place_weight : Heap → Place → ℕ
-place_weight heap (Part id n) = value_weight (part_at (object_at heap id) n)
-place_weight heap (Under id key) = key_weight (object_at heap id) key
+abbrev pub place_weight : (Routine → ℕ) → Heap → Place → ℕ
+place_weight weigh heap (Part id n) = value_weight weigh (part_at (object_at heap id) n)
+place_weight weigh heap (Under id key) = key_weight (object_at heap id) key
 
-unfoldable pub places_weight : Heap → List Place → ℕ
-places_weight heap [] = 0
-places_weight heap (place ∷ places) = place_weight heap place + places_weight heap places
+unfoldable pub places_weight : (Routine → ℕ) → Heap → List Place → ℕ
+places_weight weigh heap [] = 0
+places_weight weigh heap (place ∷ places) = place_weight weigh heap place + places_weight weigh heap places
 
 unfoldable pub fresh_weight : Held → ℕ
 fresh_weight h =
-    weights_at h.objects (newly_reached h) + places_weight h.objects h.assigned
+    weights_at h.weigh h.objects (newly_reached h) + places_weight h.weigh h.objects h.assigned
     + (if is_empty h.created then 0 else full_directory_weight h.directory)
 
 -- in words

@@ -1,10 +1,10 @@
 -- What a run holds of the heap and of databases; which places are assigned, which objects are touched, and what is counted.
-use Rattle.std.specs.Prelude.{ℕ, zero, suc, ◌+◌, Bool, true, false, ◌&&◌, nat_eq, if◌then◌else◌, List, [], ◌∷◌, ◌++◌, length, get_or, set, Option, Some, None}
-use Rattle.ps_heap.specs.Values.{Value, Nil, Pointer, Vector}
+use Rattle.std.specs.Prelude.{ℕ, zero, suc, ◌+◌, ℤ, Bool, true, false, ◌&&◌, not, nat_eq, if◌then◌else◌, List, [], ◌∷◌, ◌++◌, length, get_or, set, Option, Some, None}
+use Rattle.ps_heap.specs.Values.{Value, Nil, Pointer, Vector, Routine}
 use Rattle.reaching.specs.Reaching.{is_in, reach}
 use Rattle.ps_heap.specs.Tables.{Key, is_same_key}
-use Rattle.ps_heap.specs.Objects.{Object, Heap, object_at}
-use Rattle.ps_heap.specs.Scopes.{parent_in}
+use Rattle.ps_heap.specs.Objects.{Object, Heap, object_at, id_of, place_of, vector_in, low_in, elements_in}
+use Rattle.ps_heap.specs.Scopes.{parent_in, scope_out, name_in, with_name}
 use Rattle.ps_heap.specs.References.{values_of, with_part, next_in}
 use Rattle.ps_heap.specs.Weights.{own_weight, whole_weight}
 use Rattle.ps_heap.specs.Databases.{Directory, Opening, every_root, is_there}
@@ -49,14 +49,13 @@ pub record Held : Type 0 where
   pub replies : List Reply
   -- in bytes
   pub counted : ℕ
+  -- what the code of a procedure weighs
+  pub weigh : Routine → ℕ
 
 unfoldable pub home_at : List (Option ℕ) → ℕ → Option ℕ
 home_at [] id = None
 home_at (home ∷ homes) zero = home
 home_at (home ∷ homes) (suc id) = home_at homes id
-
-abbrev pub is_committed : Held → ℕ → Bool
-is_committed h id = is_there (home_at h.homes id)
 
 abbrev pub counting : ℕ → Held → Held
 counting bytes h = record h { counted = h.counted + bytes }
@@ -72,10 +71,25 @@ abbrev pub made : Object → Held → Held
 made object h = counting (own_weight object) (with_object object h)
 
 -- Assigning. A place is assigned also where it gets the value that it has. Of an object that isn't committed nothing is noted.
-unfoldable pub noted : Place → Held → Held
-noted place h =
-    if is_committed h (object_of place) then
-    (if is_among place h.assigned then h else record h { assigned = h.assigned ++ place ∷ [] }) else h
+unfoldable pub places_with : List (Option ℕ) → Place → List Place → List Place
+places_with homes place places =
+    if is_there (home_at homes (object_of place)) then (if is_among place places then places else places ++ place ∷ []) else places
+
+abbrev pub noted : Place → Held → Held
+noted place h = record h { assigned = places_with h.homes place h.assigned }
+
+-- a place gets a value, and these are the objects then
+abbrev pub assigning : Place → Heap → Held → Held
+assigning place objects h = noted place (record h { objects = objects })
+
+abbrev pub place_or_first : Option ℕ → ℕ
+place_or_first None = 0
+place_or_first (Some n) = n
+
+-- the element at a subscript of a vector, as a place
+abbrev pub element_place : Heap → Value → ℤ → Place
+element_place heap v at =
+    let vector = vector_in heap v in Part (id_of v) (place_or_first (place_of (low_in vector) (length (elements_in vector)) at))
 
 -- the value in such a place
 abbrev pub part_at : Option Object → ℕ → Value
@@ -87,22 +101,34 @@ put_part None id n v heap = heap
 put_part (Some object) id n v heap = set heap id (with_part object n v)
 
 -- a field, an element or a kept name gets a value
-unfoldable pub assigned_part : ℕ → ℕ → Value → Held → Held
-assigned_part id n v h = noted (Part id n) (record h { objects = put_part (object_at h.objects id) id n v h.objects })
+abbrev pub assigned_part : ℕ → ℕ → Value → Held → Held
+assigned_part id n v h = assigning (Part id n) (put_part (object_at h.objects id) id n v h.objects) h
 
 -- Touching. A committed object is counted once since it was committed, in full, as it is when it is first touched.
-abbrev pub weight_at : Option Object → ℕ
-weight_at None = 0
-weight_at (Some object) = whole_weight object
+abbrev pub weight_at : (Routine → ℕ) → Option Object → ℕ
+weight_at weigh None = 0
+weight_at weigh (Some object) = whole_weight weigh object
 
-unfoldable pub touched_once : ℕ → Held → Held
-touched_once id h =
-    if is_committed h id then
-    (if is_in id h.touched then h else record h { touched = id ∷ h.touched; counted = h.counted + weight_at (object_at h.objects id) }) else h
+unfoldable pub is_first_touch : List (Option ℕ) → ℕ → List ℕ → Bool
+is_first_touch homes id touched = is_there (home_at homes id) && not (is_in id touched)
 
-unfoldable pub touching : List ℕ → Held → Held
-touching [] h = h
-touching (id ∷ ids) h = touching ids (touched_once id h)
+abbrev pub touched_with : List (Option ℕ) → ℕ → List ℕ → List ℕ
+touched_with homes id touched = if is_first_touch homes id touched then id ∷ touched else touched
+
+unfoldable pub touched_after : List (Option ℕ) → List ℕ → List ℕ → List ℕ
+touched_after homes [] touched = touched
+touched_after homes (id ∷ ids) touched = touched_after homes ids (touched_with homes id touched)
+
+unfoldable pub touched_weight : (Routine → ℕ) → Heap → List (Option ℕ) → List ℕ → List ℕ → ℕ
+touched_weight weigh heap homes [] touched = 0
+touched_weight weigh heap homes (id ∷ ids) touched =
+    (if is_first_touch homes id touched then weight_at weigh (object_at heap id) else 0)
+    + touched_weight weigh heap homes ids (touched_with homes id touched)
+
+-- these objects are touched, one after the other
+abbrev pub touching : List ℕ → Held → Held
+touching ids h =
+    record h { touched = touched_after h.homes ids h.touched; counted = h.counted + touched_weight h.weigh h.objects h.homes ids h.touched }
 
 -- the object that a value denotes; a procedure's scope is touched where it is called
 abbrev pub denoted : Value → List ℕ
@@ -120,18 +146,19 @@ way_out heap None up = []
 way_out heap (Some id) zero = id ∷ []
 way_out heap (Some id) (suc up) = id ∷ way_out heap (parent_in (object_at heap id)) up
 
--- a kept name gets a value: the scope that holds it and those on the way out to it are touched before
-unfoldable pub last_of : List ℕ → Option ℕ
-last_of [] = None
-last_of (id ∷ []) = Some id
-last_of (id ∷ more) = last_of more
+-- what is held where a kept name is read: the scopes on the way out to it are touched, and what its value denotes
+abbrev pub reading_name : Option ℕ → ℕ → ℕ → Held → Held
+reading_name scope up n h = touching (way_out h.objects scope up ++ denoted (name_in h.objects (scope_out h.objects scope up) n)) h
 
-abbrev pub assigned_in : Option ℕ → ℕ → Value → Held → Held
-assigned_in None n v h = h
-assigned_in (Some id) n v h = assigned_part id n v h
+-- where a kept name gets a value: the scope that holds it and those on the way out to it are touched before
+abbrev pub places_with_name : List (Option ℕ) → Option ℕ → ℕ → List Place → List Place
+places_with_name homes None n places = places
+places_with_name homes (Some id) n places = places_with homes (Part id n) places
 
-unfoldable pub assigned_name : Option ℕ → ℕ → ℕ → Value → Held → Held
-assigned_name scope up n v h = let way = way_out h.objects scope up in assigned_in (last_of way) n v (touching way h)
+abbrev pub assigned_name : Option ℕ → ℕ → ℕ → Value → Held → Held
+assigned_name scope up n v h =
+    let out = scope_out h.objects scope up in
+    record (touching (way_out h.objects scope up) h) { objects = with_name h.objects out n v; assigned = places_with_name h.homes out n h.assigned }
 
 -- The start of a run over a heap that was kept: what is reached from the roots is committed and keeps its home, no place is assigned and no database open.
 pub record StoredHeap : Type 0 where
@@ -154,8 +181,8 @@ abbrev pub home_if : Bool → Option ℕ → Option ℕ
 home_if true home = home
 home_if false home = None
 
-unfoldable pub started : List Reply → ℕ → StoredHeap → Held
-started replies counted stored =
+abbrev pub started : (Routine → ℕ) → List Reply → ℕ → StoredHeap → Held
+started weigh replies counted stored =
     let there = reached_from_roots stored in
     record {
       objects = stored.objects;
@@ -168,6 +195,7 @@ started replies counted stored =
       asked = false;
       replies = replies;
       counted = counted;
+      weigh = weigh;
     }
 
 abbrev pub nothing_stored : StoredHeap

@@ -13,6 +13,7 @@ pub mod Held
 pub mod Commit
 pub mod Events
 pub mod Calls
+pub mod Library
 pub mod Scans
 pub use Rattle.ps_base.specs as ps_base
 pub use Rattle.ps_typing.specs.ps_program as ps_program

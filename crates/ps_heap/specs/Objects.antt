@@ -182,6 +182,12 @@ table_of heap Nil = Fails trap.Nil
 table_of heap (Pointer id) = table_in (object_at heap id)
 table_of heap _ = Fails trap.WrongClass
 
+-- the id of the object that a value denotes
+abbrev pub id_of : Value → ℕ
+id_of (Pointer id) = id
+id_of (Vector id) = id
+id_of _ = 0
+
 -- what a pntr that is under a key denotes; nil is nothing
 abbrev pub object_of_value : Value → Option ℕ
 object_of_value (Pointer id) = Some id

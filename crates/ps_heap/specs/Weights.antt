@@ -103,16 +103,16 @@ abbrev pub routine_weight : Routine → ℕ
 routine_weight (as_written of) = code_weight of
 routine_weight (as_compiled of) = unit_weight of
 
--- A value in a place: a text, or a procedure with its code and without its scope. All else lies in the place itself.
-abbrev pub value_weight : Value → ℕ
-value_weight (Text bytes) = text_weight bytes
-value_weight (Procedure does scope) = closure_weight + routine_weight does
-value_weight _ = 0
+-- A value in a place: a text, or a procedure with its code and without its scope, where this is what code weighs. All else lies in the place itself.
+abbrev pub value_weight : (Routine → ℕ) → Value → ℕ
+value_weight weigh (Text bytes) = text_weight bytes
+value_weight weigh (Procedure does scope) = closure_weight + weigh does
+value_weight weigh _ = 0
 
-abbrev pub values_weight : List Value → ℕ
-values_weight [] = 0
-values_weight (v ∷ vs) = value_weight v + values_weight vs
+abbrev pub values_weight : (Routine → ℕ) → List Value → ℕ
+values_weight weigh [] = 0
+values_weight weigh (v ∷ vs) = value_weight weigh v + values_weight weigh vs
 
 -- an object in full, with the texts and procedures in its places
-abbrev pub whole_weight : Object → ℕ
-whole_weight object = full_weight object + values_weight (values_of object)
+abbrev pub whole_weight : (Routine → ℕ) → Object → ℕ
+whole_weight weigh object = full_weight object + values_weight weigh (values_of object)

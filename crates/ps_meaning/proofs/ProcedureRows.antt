@@ -13,24 +13,30 @@ use Rattle.ps_typing.specs.ps_program.declared.place.Place.TheVariants.{Plain, K
 use Rattle.ps_typing.specs.ps_program.Node.{Param, Node, Nodes, none, more, BodyNode, body}
 use Rattle.ps_typing.specs.ps_program.Node as node
 use Rattle.ps_heap.specs.Ends.{Done, Trapped, OutOfTurns}
-use Rattle.ps_meaning.specs.Event.{Event, Out, Finish}
+use Rattle.ps_heap.specs.Events.{Event, Out, Finish}
 use Rattle.ps_heap.specs.Texts.{line_of, behind_line, line_read}
 use Rattle.ps_heap.specs.Objects.{vector_of, with_element, element_of as element_at}
 use Rattle.ps_heap.specs.Scopes.{new_scope, scope_out, name_in, with_name}
-use Rattle.ps_meaning.specs.Meaning.{give, stop, after, ◌>>=◌, choose, answer, attempt, with_heap, put_heap, made, made_text, made_procedure, with_input, put_input, enter, back_in, back_to, scoped, in_frame, emit, written, take_turn, get, set}
-use Rattle.ps_heap.specs.Weights.{code_weight}
-use Rattle.ps_meaning.specs.Evaluation.{for_turns, for_loop, for_meant, call_meant, read_line, at_end, eval}
+use Rattle.ps_meaning.specs.Meaning.{give, stop, after, ◌>>=◌, choose, answer, attempt, with_heap, change, made, made_text, made_procedure, with_input, put_input, enter, back_in, back_to, scoped, in_frame, emit, written, take_turn, get, set}
+use Rattle.ps_heap.specs.reaching.Reaching.{reach, walk}
+use Rattle.ps_heap.specs.Library.{library_procedure}
+use Rattle.ps_heap.specs.Weights.{code_weight, routine_weight}
+use Rattle.ps_heap.specs.Databases.{every_root}
+use Rattle.ps_heap.specs.Held.{way_out, touched_after, touched_weight, is_first_touch, home_at, row, reached_from_roots, places_with}
+use Rattle.ps_meaning.specs.Loops.{for_turns, for_loop, for_meant}
+use Rattle.ps_meaning.specs.Operations.{read_line, at_end}
+use Rattle.ps_meaning.specs.Evaluation.{call_meant, eval}
 use Rattle.ps_meaning.specs.Frames.{arguments_on, frame_of_call, keep, keep_all}
 use Rattle.ps_meaning.specs.Calls.{body_meant, call_within, context}
-use Rattle.ps_meaning.specs.Runs.{run_events, outcome_of, all_events, fresh_frame, fresh_state}
+use Rattle.ps_meaning.specs.Runs.{over_nothing, run_events, events_with, outcome_with, all_events, fresh_frame, fresh_state}
 use Rattle.ps_meaning.proofs.Rows.{line, program, one, write, plain, out, turn, finish, int, num, local}
 
 abbrev told_with : List ℕ → ℕ → BodyNode → List Event
-told_with input turns program = map plain (run_events turns input program)
+told_with input turns program = map plain (run_events (over_nothing turns input) program)
 
 -- where so many calls are round the program already
 abbrev told_inside : ℕ → ℕ → Node → List Event
-told_inside depth turns clause = map plain (all_events (eval (context turns depth) clause fresh_frame (fresh_state turns [] 0)))
+told_inside depth turns clause = map plain (all_events (eval (context turns depth) clause fresh_frame (fresh_state routine_weight (over_nothing turns []) 0)))
 
 abbrev procedure : List Param → TyView → Node → Option (List ℕ) → Node
 procedure params gives tree scope = node.Proc (body params gives tree scope (line 1))
@@ -68,9 +74,9 @@ counters = program (more (node.Let (Plain 0) no_type maker) (more (node.Let (Pla
     (more (write (call 1 none 4)) (more (write (call 1 none 4)) (more (write (call 2 none 4)) none))))))
 
 counters_count_by_themselves : told_with [] 5 counters ≡ turn ∷ turn ∷ turn ∷ int 1 ∷ turn ∷ int 2 ∷ turn ∷ int 1 ∷ finish Done ∷ []
-unfolding digits eval give stop after ◌>>=◌ choose answer made_procedure enter back_in back_to scoped in_frame emit written take_turn get set call_meant
+unfolding digits eval change library_procedure give stop after ◌>>=◌ choose answer made_procedure enter back_in back_to scoped in_frame emit written take_turn get set call_meant
     arguments_on frame_of_call keep_all body_meant call_within new_scope scope_out name_in with_name forms_of forms_from form_here form_in begins
-    run_events outcome_of all_events fresh_frame fresh_state
+    events_with outcome_with all_events fresh_frame fresh_state
 counters_count_by_themselves = refl
 
 abbrev from_int : TyView
@@ -88,28 +94,28 @@ counts_down k = node.Block (Some (codes "scope(proc(int -> int) f)")) (more (nod
     (more (write (call_kept 0 (num k) 8)) none))
 
 procedure_calls_itself : told_with [] 4 (one (counts_down 3)) ≡ turn ∷ turn ∷ turn ∷ turn ∷ int 3 ∷ finish Done ∷ []
-unfolding digits eval give stop after ◌>>=◌ choose answer made_procedure enter back_in back_to scoped in_frame emit written take_turn get set call_meant
+unfolding digits eval change library_procedure give stop after ◌>>=◌ choose answer made_procedure enter back_in back_to scoped in_frame emit written take_turn get set call_meant
     arguments_on frame_of_call keep keep_all body_meant call_within new_scope scope_out name_in with_name forms_of forms_from form_here form_in begins
-    run_events outcome_of all_events fresh_frame fresh_state
+    events_with outcome_with all_events fresh_frame fresh_state
 procedure_calls_itself = refl
 
 -- with two turns the third call has none
 turns_end_in_a_call : told_with [] 2 (one (counts_down 3)) ≡ turn ∷ turn ∷ finish OutOfTurns ∷ []
-unfolding digits eval give stop after ◌>>=◌ choose answer made_procedure enter back_in back_to scoped in_frame emit written take_turn get set call_meant
+unfolding digits eval change library_procedure give stop after ◌>>=◌ choose answer made_procedure enter back_in back_to scoped in_frame emit written take_turn get set call_meant
     arguments_on frame_of_call keep keep_all body_meant call_within new_scope scope_out name_in with_name forms_of forms_from form_here form_in begins
-    run_events outcome_of all_events fresh_frame fresh_state
+    events_with outcome_with all_events fresh_frame fresh_state
 turns_end_in_a_call = refl
 
 -- 1,998 calls are round it: the second call inside is the 2,000th, which runs
 last_call_runs : told_inside 1998 2 (counts_down 1) ≡ turn ∷ turn ∷ int 1 ∷ finish Done ∷ []
-unfolding digits eval give stop after ◌>>=◌ choose answer made_procedure enter back_in back_to scoped in_frame emit written take_turn get set call_meant
+unfolding digits eval change library_procedure give stop after ◌>>=◌ choose answer made_procedure enter back_in back_to scoped in_frame emit written take_turn get set call_meant
     arguments_on frame_of_call keep keep_all body_meant call_within new_scope scope_out name_in with_name forms_of forms_from form_here form_in begins
     all_events fresh_frame fresh_state
 last_call_runs = refl
 
 -- the third is too deep, and no turn is left for it either
 too_deep_before_the_turn : told_inside 1998 2 (counts_down 2) ≡ turn ∷ turn ∷ finish (Trapped trap.TooDeep (line 7)) ∷ []
-unfolding digits eval give stop after ◌>>=◌ choose answer made_procedure enter back_in back_to scoped in_frame emit written take_turn get set call_meant
+unfolding digits eval change library_procedure give stop after ◌>>=◌ choose answer made_procedure enter back_in back_to scoped in_frame emit written take_turn get set call_meant
     arguments_on frame_of_call keep keep_all body_meant call_within new_scope scope_out name_in with_name forms_of forms_from form_here form_in begins
     all_events fresh_frame fresh_state
 too_deep_before_the_turn = refl
@@ -135,9 +141,9 @@ of_parameters = program (more (node.Let (Plain 0) ty.Int (num 8)) (more (node.Le
     (more (write (call 1 none 1)) (more (write (call 1 none 1)) (more (write (local 0)) none))))))
 
 parameter_is_kept : told_with [] 9 of_parameters ≡ turn ∷ int 5 ∷ out (codes "x") ∷ turn ∷ int 5 ∷ turn ∷ int 6 ∷ int 8 ∷ finish Done ∷ []
-unfolding digits eval give stop after ◌>>=◌ choose answer made_procedure enter back_in back_to scoped in_frame emit written take_turn get set call_meant
+unfolding digits eval change library_procedure give stop after ◌>>=◌ choose answer made_procedure enter back_in back_to scoped in_frame emit written take_turn get set call_meant
     arguments_on frame_of_call keep keep_all body_meant call_within new_scope scope_out name_in with_name forms_of forms_from form_here form_in begins
-    run_events outcome_of all_events fresh_frame fresh_state
+    events_with outcome_with all_events fresh_frame fresh_state
 parameter_is_kept = refl
 
 abbrev procedures : TyView
@@ -156,10 +162,10 @@ of_turns = program (more (node.Let (Plain 0) no_type (procedure [] ty.Int (num 0
     (more (write (of_vector 1)) (more (write (of_vector 2)) (more (write (of_vector 3)) none))))))
 
 each_turn_has_its_control : told_with [] 9 of_turns ≡ turn ∷ turn ∷ turn ∷ turn ∷ int 1 ∷ turn ∷ int 2 ∷ turn ∷ int 3 ∷ finish Done ∷ []
-unfolding digits eval give stop after ◌>>=◌ choose answer attempt with_heap put_heap made made_procedure enter back_in back_to scoped in_frame emit written
+unfolding digits eval library_procedure give stop after ◌>>=◌ choose answer attempt with_heap change made made_procedure enter back_in back_to scoped in_frame emit written
     take_turn get set call_meant for_turns for_loop for_meant vector_of element_at with_element element_of is_text
     arguments_on frame_of_call keep keep_all body_meant call_within new_scope scope_out name_in with_name forms_of forms_from form_here form_in begins
-    run_events outcome_of all_events fresh_frame fresh_state
+    events_with outcome_with all_events fresh_frame fresh_state
 each_turn_has_its_control = refl
 
 -- { let n = 5; { let m = 7; let f = proc( -> int); m - n; write f() } }
@@ -169,37 +175,38 @@ of_two_scopes = one (node.Block n_scope (more (node.Let (Kept 0 0) ty.Int (num 5
     (procedure [] ty.Int (node.Arith Sub (kept 0 0) (kept 1 0) (line 1)) None)) (more (write (call 0 none 1)) none)))) none)))
 
 levels_go_outward : told_with [] 1 of_two_scopes ≡ turn ∷ int 2 ∷ finish Done ∷ []
-unfolding digits eval give stop after ◌>>=◌ choose answer made_procedure enter back_in back_to scoped in_frame emit written take_turn get set call_meant
+unfolding digits eval change library_procedure give stop after ◌>>=◌ choose answer made_procedure enter back_in back_to scoped in_frame emit written take_turn get set call_meant
     arguments_on frame_of_call keep_all body_meant call_within new_scope scope_out name_in with_name forms_of forms_from form_here form_in begins
-    run_events outcome_of all_events fresh_frame fresh_state
+    events_with outcome_with all_events fresh_frame fresh_state
 levels_go_outward = refl
 
 -- A name that is kept holds 0 until its clause has ended. No text has such a tree: its n isn't in scope there.
 -- { let n = (proc( -> int); n)(); write n }
 name_before_its_value : told_with [] 1 (one (node.Block n_scope (more (node.Let (Kept 0 0) ty.Int
     (node.Call (procedure [] ty.Int (kept 0 0) None) none (line 1))) (more (write (kept 0 0)) none)))) ≡ turn ∷ int 0 ∷ finish Done ∷ []
-unfolding digits eval give stop after ◌>>=◌ choose answer made_procedure enter back_in back_to scoped in_frame emit written take_turn get set call_meant
+unfolding digits eval change library_procedure give stop after ◌>>=◌ choose answer made_procedure enter back_in back_to scoped in_frame emit written take_turn get set call_meant
     arguments_on frame_of_call keep_all body_meant call_within new_scope scope_out name_in with_name forms_of forms_from form_here form_in begins
-    run_events outcome_of all_events fresh_frame fresh_state
+    events_with outcome_with all_events fresh_frame fresh_state
 name_before_its_value = refl
 
 -- { let f = (proc(int n -> int); f(n))(1) }: nil is called
 call_of_nil : told_with [] 1 (one (node.Block (Some (codes "scope(proc(int -> int) f)")) (more (node.Let (Kept 0 0) from_int
     (node.Call (procedure (param ty.Int (Plain 0) ∷ []) ty.Int (call_kept 0 (local 0) 3) None) (more (num 1) none) (line 1))) none)))
     ≡ turn ∷ finish (Trapped trap.Nil (line 3)) ∷ []
-unfolding digits eval give stop after ◌>>=◌ choose answer made_procedure enter back_in back_to scoped in_frame emit written take_turn get set call_meant
+unfolding digits eval change library_procedure give stop after ◌>>=◌ choose answer made_procedure enter back_in back_to scoped in_frame emit written take_turn get set call_meant
     arguments_on frame_of_call keep keep_all body_meant call_within new_scope scope_out name_in with_name forms_of forms_from form_here form_in begins
-    run_events outcome_of all_events fresh_frame fresh_state
+    events_with outcome_with all_events fresh_frame fresh_state
 call_of_nil = refl
 
 -- Counts: a scope of one name 64 bytes, a procedure value 56, from the code's on.
 abbrev of_counts : BodyNode
 of_counts = one (node.Block n_scope (more (node.Let (Kept 0 0) ty.Int (num 1)) (more (node.Let (Plain 0) no_type (counter 0)) (more (write (num 3)) none))))
 
-scope_and_procedure_are_counted : run_events 0 [] of_counts
+scope_and_procedure_are_counted : run_events (over_nothing 0 []) of_counts
     ≡ Out (signed_decimal (pos 3)) (code_weight of_counts + 64 + 56) ∷ Finish Done (code_weight of_counts + 64 + 56) ∷ []
-unfolding digits eval give stop after ◌>>=◌ choose answer made_procedure enter back_in scoped emit written take_turn get set
-    new_scope scope_out name_in with_name forms_of forms_from form_here form_in begins run_events outcome_of all_events fresh_frame fresh_state
+unfolding digits eval change library_procedure give stop after ◌>>=◌ choose answer made_procedure enter back_in scoped emit written take_turn get set
+    way_out touched_after touched_weight is_first_touch home_at row reached_from_roots every_root reach walk places_with
+    new_scope scope_out name_in with_name forms_of forms_from form_here form_in begins events_with outcome_with all_events fresh_frame fresh_state
 scope_and_procedure_are_counted = refl
 
 -- Input.
@@ -216,12 +223,12 @@ of_lines = program (more (read 1) (more eof (more (read 1) (more eof (more (read
 
 two_lines_are_read : told_with (codes "ab\nc") 0 of_lines
     ≡ out (codes "ab") ∷ out (codes "false") ∷ out (codes "c") ∷ out (codes "true") ∷ finish (Trapped trap.NoInput (line 5)) ∷ []
-unfolding digits eval give stop after ◌>>=◌ choose attempt made_text with_input put_input emit written read_line at_end line_of behind_line line_read
-    run_events outcome_of all_events fresh_frame fresh_state
+unfolding digits eval change library_procedure give stop after ◌>>=◌ choose attempt made_text with_input put_input emit written read_line at_end line_of behind_line line_read
+    events_with outcome_with all_events fresh_frame fresh_state
 two_lines_are_read = refl
 
 -- a newline at the end begins no line more, and a line may be empty
 empty_lines_are_read : told_with (codes "\n\n") 0 of_lines ≡ out (codes "false") ∷ out (codes "true") ∷ finish (Trapped trap.NoInput (line 5)) ∷ []
-unfolding digits eval give stop after ◌>>=◌ choose attempt made_text with_input put_input emit written read_line at_end line_of behind_line line_read
-    run_events outcome_of all_events fresh_frame fresh_state
+unfolding digits eval change library_procedure give stop after ◌>>=◌ choose attempt made_text with_input put_input emit written read_line at_end line_of behind_line line_read
+    events_with outcome_with all_events fresh_frame fresh_state
 empty_lines_are_read = refl

@@ -1,6 +1,7 @@
-pub mod Event
 pub mod Meaning
 pub mod Frames
+pub mod Operations
+pub mod Loops
 pub mod Evaluation
 pub mod Calls
 pub mod Runs

@@ -11,11 +11,15 @@ use Rattle.ps_typing.specs.Placing.{is_number}
 use Rattle.ps_heap.specs.Values.{Value, Num, Text, Procedure, Nothing, as_written}
 use Rattle.ps_heap.specs.Operators.{Answer, Gives, Traps}
 use Rattle.ps_heap.specs.Texts.{Attempt, Yields, Fails}
-use Rattle.ps_heap.specs.Objects.{Heap, Object, with_new, new_number}
-use Rattle.ps_heap.specs.Scopes.{new_scope, kept_name, with_kept_name}
-use Rattle.ps_heap.specs.Weights.{own_weight, text_weight, closure_weight}
+use Rattle.ps_heap.specs.Objects.{Heap, Object, new_number}
+use Rattle.ps_heap.specs.Scopes.{new_scope, kept_name}
+use Rattle.ps_heap.specs.Weights.{text_weight, closure_weight}
+use Rattle.ps_heap.specs.Held.{Held, counting, assigning, touching, reading, reading_name, assigned_name}
+use Rattle.ps_heap.specs.References.{scope_ids}
+use Rattle.ps_heap.specs.Held as held
+use Rattle.ps_heap.specs.Calls as calls
 use Rattle.ps_heap.specs.Ends.{End, Trapped, OutOfTurns}
-use Rattle.ps_meaning.specs.Event.{Event, Out, Turn}
+use Rattle.ps_heap.specs.Events.{Event, Out, Turn}
 
 -- The locals of a body, ints and bools in one row and all else in the other, and the scope that a clause stands in.
 pub record Frame : Type 0 where
@@ -23,13 +27,11 @@ pub record Frame : Type 0 where
   pub refs : ℕ → Value
   pub scope : Option ℕ
 
--- What a run holds beside its locals: the turns that it may still take, the heap, the input that is left, and how many bytes are counted
--- of what it made.
+-- What a run has beside its locals: the turns that are left, the input that is left, and what it holds of heap and databases, with its counted bytes.
 pub record Store : Type 0 where
   pub turns : ℕ
-  pub heap : Heap
   pub input : List ℕ
-  pub counted : ℕ
+  pub held : Held
 
 -- what a run has done so far, oldest first, and what it holds
 pub record State : Type 0 where
@@ -73,22 +75,29 @@ unfoldable pub attempt : {A : Type 0} → Line → Attempt A → (A → Meaning)
 attempt line (Yields a) next = next a
 attempt line (Fails trap) next = stop (Trapped trap line)
 
+-- the objects, and how many bytes are counted
+abbrev pub heap_in : Store → Heap
+heap_in store = store.held.objects
+
+abbrev pub counted_in : Store → ℕ
+counted_in store = store.held.counted
+
 -- goes on with the heap as it is
 unfoldable pub with_heap : (Heap → Meaning) → Meaning
-with_heap next frame state = next state.store.heap frame state
+with_heap next frame state = next (heap_in state.store) frame state
 
--- what is held where the heap is this one, where an object is made, where a text is, where a procedure value is, and where the input is this one
-abbrev pub on_heap : Heap → Store → Store
-on_heap heap store = record store { heap = heap }
+-- the store with this held; where an object is made, where a text is, where a procedure value is; and where the input is this one
+abbrev pub on_held : Held → Store → Store
+on_held held store = record store { held = held }
 
 abbrev pub and_object : Object → Store → Store
-and_object object store = record store { heap = with_new store.heap object; counted = store.counted + own_weight object }
+and_object object store = on_held (held.made object store.held) store
 
 abbrev pub and_text : List ℕ → Store → Store
-and_text bytes store = record store { counted = store.counted + text_weight bytes }
+and_text bytes store = on_held (counting (text_weight bytes) store.held) store
 
 abbrev pub and_closure : Store → Store
-and_closure store = record store { counted = store.counted + closure_weight }
+and_closure store = on_held (counting closure_weight store.held) store
 
 abbrev pub on_input : List ℕ → Store → Store
 on_input input store = record store { input = input }
@@ -96,13 +105,40 @@ on_input input store = record store { input = input }
 abbrev pub holding : State → Store → State
 holding state store = record state { store = store }
 
--- the heap is this one from now on
-unfoldable pub put_heap : Heap → Meaning
-put_heap heap frame state = Value_is Nothing frame (holding state (on_heap heap state.store))
+-- goes on with another thing held, and gives this
+unfoldable pub change : Value → (Held → Held) → Meaning
+change v does frame state = Value_is v frame (holding state (on_held (does state.store.held) state.store))
+
+-- these objects are touched
+abbrev pub touch : List ℕ → Meaning
+touch ids = change Nothing (touching ids)
+
+-- the scope that the clause stands in is touched
+abbrev pub touch_scope : Meaning
+touch_scope frame state = touch (scope_ids frame.scope) frame state
+
+-- a value is given that was read from a place: the object that it denotes is touched
+abbrev pub read : Value → Meaning
+read v = change v (reading v)
+
+-- a place is assigned, and this is the heap from now on
+abbrev pub assign : held.Place → Heap → Meaning
+assign place heap = change Nothing (assigning place heap)
+
+-- what a call of the library answers, with its events
+abbrev pub answering : calls.Answer → State → State
+answering a state = record { events = state.events ++ a.events; store = on_held a.held state.store }
+
+unfoldable pub put_answer : calls.Answer → Meaning
+put_answer a frame state = Value_is a.value frame (answering a state)
+
+-- a call of the library, on what is held
+unfoldable pub answered : Line → (Held → Attempt calls.Answer) → Meaning
+answered line call frame state = attempt line (call state.store.held) put_answer frame state
 
 -- a new object is made, and its value given
 unfoldable pub made : (ℕ → Value) → Object → Meaning
-made denoting object frame state = Value_is (denoting (new_number state.store.heap)) frame (holding state (and_object object state.store))
+made denoting object frame state = Value_is (denoting (new_number (heap_in state.store))) frame (holding state (and_object object state.store))
 
 -- a new text is made
 unfoldable pub made_text : List ℕ → Meaning
@@ -123,7 +159,7 @@ put_input input frame state = Value_is Nothing frame (holding state (on_input in
 -- a new scope inside the one that the clause stands in
 unfoldable pub enter : List ℕ → Meaning
 enter text frame state =
-    Value_is Nothing (record frame { scope = Some (new_number state.store.heap) }) (holding state (and_object (new_scope text frame.scope) state.store))
+    Value_is Nothing (record frame { scope = Some (new_number (heap_in state.store)) }) (holding state (and_object (new_scope text frame.scope) state.store))
 
 -- back in a scope, and back in a frame, with the value of what was inside
 unfoldable pub back_in : Option ℕ → Outcome → Outcome
@@ -147,7 +183,6 @@ in_scope (Some text) meant = scoped text meant
 unfoldable pub in_frame : Frame → Meaning → Meaning
 in_frame other meant frame state = back_to frame (meant other state)
 
--- some bytes make an event, and none make none
 abbrev pub some_out : List ℕ → ℕ → List Event
 some_out [] counted = []
 some_out (byte ∷ bytes) counted = Out (byte ∷ bytes) counted ∷ []
@@ -156,7 +191,7 @@ abbrev pub told : State → List Event → State
 told state events = record state { events = state.events ++ events }
 
 unfoldable pub emit : List ℕ → Meaning
-emit bytes frame state = Value_is Nothing frame (told state (some_out bytes state.store.counted))
+emit bytes frame state = Value_is Nothing frame (told state (some_out bytes (counted_in state.store)))
 
 -- The blanks before a text of so many bytes, right in so many places: none where the width is no greater.
 abbrev pub blanks_before : ℤ → ℕ → ℕ
@@ -188,7 +223,7 @@ spent store = with_turns store store.turns
 
 abbrev pub turned : Option Store → Meaning
 turned None frame state = Ends OutOfTurns state
-turned (Some store) frame state = Value_is Nothing frame (record { events = state.events ++ Turn store.counted ∷ []; store = store })
+turned (Some store) frame state = Value_is Nothing frame (record { events = state.events ++ Turn (counted_in store) ∷ []; store = store })
 
 -- one turn of those that are left
 unfoldable pub take_turn : Meaning
@@ -205,16 +240,11 @@ abbrev pub frame_with : Frame → TyView → ℕ → Value → Frame
 frame_with frame ty slot v =
     if is_number ty then record frame { nums = with_local frame.nums slot v } else record frame { refs = with_local frame.refs slot v }
 
--- Tables and databases have no meaning here yet. No program is run that has a form or a call over them.
-unfoldable pub unbuilt : Meaning
-unbuilt = give Nothing
-
--- the value of the name at a place, which is of this type
+-- The value of the name at a place, which is of this type, and its assignment. Where it is kept, scopes are touched, and what its value denotes.
 unfoldable pub get : Place → TyView → Meaning
 get (Plain slot) ty frame state = Value_is (local_of frame ty slot) frame state
-get (Kept up position) ty frame state = Value_is (kept_name state.store.heap frame.scope up position) frame state
+get (Kept up position) ty frame state = change (kept_name (heap_in state.store) frame.scope up position) (reading_name frame.scope up position) frame state
 
 unfoldable pub set : Place → TyView → Value → Meaning
 set (Plain slot) ty v frame state = Value_is Nothing (frame_with frame ty slot v) state
-set (Kept up position) ty v frame state =
-    Value_is Nothing frame (holding state (on_heap (with_kept_name state.store.heap frame.scope up position v) state.store))
+set (Kept up position) ty v frame state = change Nothing (assigned_name frame.scope up position v) frame state

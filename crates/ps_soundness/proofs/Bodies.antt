@@ -16,10 +16,10 @@ use Rattle.ps_meaning.specs.Evaluation.{Context, eval}
 use Rattle.ps_meaning.specs.Calls.{body_meant, call_within, context}
 use Rattle.ps_soundness.specs.Running.{ArePlaces, RunsIn, BodyRuns}
 use Rattle.ps_soundness.specs.Free.{AllBelow, AreBelow}
-use Rattle.ps_soundness.specs.Shapes.{IsOf, AreScopes, type_of_body, IsTypedHeap, AreLocals, ComesToInside}
+use Rattle.ps_soundness.specs.Shapes.{IsOf, AreScopes, type_of_body, AreLocals, ComesToInside, IsTypedHeld}
 use Rattle.ps_soundness.proofs.Telling.{Told}
-use Rattle.ps_soundness.proofs.Growing.{grows_not}
-use Rattle.ps_soundness.proofs.Combining.{stand, over, Comes, Sound, sound_then, sound_nothing, sound_turn, narrowed}
+use Rattle.ps_soundness.proofs.Growing.{grows_not, grows_then}
+use Rattle.ps_soundness.proofs.Combining.{stand, over, Comes, Sound, sound_then, sound_nothing, sound_turn, sound_touch_scope, narrowed}
 use Rattle.ps_soundness.proofs.Calling.{ValuesOf, values_kept, Answers, sound_opened}
 use Rattle.ps_soundness.proofs.Declaring.{climbs_one, below_climbs, below_one, declare_kept}
 use Rattle.ps_soundness.proofs.Clauses.{sound}
@@ -166,18 +166,19 @@ unfolding frame_of_call
 scope_of_call (body params gives tree text line) scope args = refl
 
 -- where no turn is left nothing is called, and else a turn is taken
-within_answers : (told : Told) (n depth : ℕ) → Answers (call_within n depth)
+pub within_answers : (told : Told) (n depth : ℕ) → Answers (call_within n depth)
 unfolding call_within stop
 within_answers told zero depth = record {
-  answers = λ of scope args ps g state typed_heap is are. (grows_not state.store.heap, typed_heap);
+  answers = λ of scope args ps g state typed_heap is are. (grows_not state.store.held.objects, typed_heap);
 }
 within_answers told (suc n) depth = record {
   answers = λ of scope args ps g state typed_heap is are.
-      let heap = state.store.heap in
+      let heap = state.store.held.objects in
       let called = of_call of is.wholes is.scopes told is.typed is.runs in
       let args_are = subst (λ (tys : TyViews). ValuesOf heap tys args) (taken_is of ps g is.ty_is) are in
-      let whole = sound_then (sound_turn {heap = heap}) (λ new t k done.
-      called.sounds (context n depth) (within_answers told n (suc depth)) new args (values_kept heap new k (taken of) args args_are)) in
+      let whole = sound_then (sound_turn {heap = heap}) (λ turned t k done. sound_then (sound_touch_scope {heap = turned}) (λ new u l touched.
+      called.sounds (context n depth) (within_answers told n (suc depth)) new args
+      (values_kept heap new (grows_then heap turned new k l) (taken of) args args_are))) in
       subst (λ (ty : TyView). Comes heap (over []) ty (call_within (suc n) depth of args (frame_of_call of scope args) state))
       (sym (given_is of ps g is.ty_is))
       (whole.runs (frame_of_call of scope args) state (grows_not heap) typed_heap (
@@ -194,11 +195,11 @@ comes_inside heap wholes env ty (Ends e state) h = h
 
 pub comes_to_inside : (told : Told) (turns depth : ℕ) (wholes : List (List Field)) (env : Env) (free behind : Free) (clause : Node) (ty : TyView)
     (frame : Frame) (state : State) →
-    IsTyped env free clause ty behind → RunsIn (Some wholes) clause → AreBelow env free → IsTypedHeap state.store.heap →
-    AreLocals state.store.heap frame env.locals → AreScopes state.store.heap frame.scope wholes env.scopes →
-    ComesToInside state.store.heap wholes env ty (eval (context turns depth) clause frame state)
+    IsTyped env free clause ty behind → RunsIn (Some wholes) clause → AreBelow env free → IsTypedHeld state.store.held →
+    AreLocals state.store.held.objects frame env.locals → AreScopes state.store.held.objects frame.scope wholes env.scopes →
+    ComesToInside state.store.held.objects wholes env ty (eval (context turns depth) clause frame state)
 comes_to_inside told turns depth wholes env free behind clause ty frame state of runs below typed_heap are scopes =
-    let heap = state.store.heap in
+    let heap = state.store.held.objects in
     let c = context turns depth in
     comes_inside heap wholes env ty (eval c clause frame state)
     ((sound told (Some wholes) of below runs c (within_answers told turns (suc depth)) heap).runs frame state (grows_not heap) typed_heap (are, scopes))

@@ -1,5 +1,5 @@
 -- A clause of a type yields a value of the type.
-use Rattle.std.proofs.Common.{◌≡◌, ℕ, List, [], ◌∷◌, Option, Some, None, refl, sym, subst, arith}
+use Rattle.std.proofs.Common.{◌≤◌, ◌≡◌, ℕ, List, [], ◌∷◌, Option, Some, None, refl, sym, subst, arith}
 use Rattle.std.specs.Prelude.{codes}
 use Rattle.ps_meaning.specs.ps_base.TyView.{TyView}
 use Rattle.ps_meaning.specs.ps_base.TyView as types
@@ -9,21 +9,23 @@ use Rattle.ps_meaning.specs.ps_program.declared.place.Place.TheVariants.{Plain, 
 use Rattle.ps_meaning.specs.ps_program.Node.{Node, Nodes, none, more, body}
 use Rattle.ps_meaning.specs.ps_program.Node as node
 use Rattle.ps_type_text.specs.Texts.{Field, class_text}
-use Rattle.ps_meaning.specs.ps_typing.WellTyped.{Env, Free, Local, Claim, behind_loop, with_scopes, types_of_params, Declares, IsTyped, AreTyped, AreItems}
+use Rattle.ps_meaning.specs.ps_typing.WellTyped.{Env, Free, Local, Claim, behind_loop, behind_scan, next_slot, with_scopes, types_of_params, Declares, IsTyped, AreTyped, AreItems}
 use Rattle.ps_meaning.specs.ps_typing.WellTyped as typed
 use Rattle.ps_heap.specs.Values.{Value, Num, Nothing}
 use Rattle.ps_heap.specs.Objects.{Heap}
-use Rattle.ps_meaning.specs.Meaning.{Frame, State, Outcome, Value_is, Ends, Meaning}
-use Rattle.ps_meaning.specs.Evaluation.{Context, eval, eval_all}
+use Rattle.ps_meaning.specs.ps_typing.Library.{caller, two}
+use Rattle.ps_meaning.specs.Meaning.{Frame, State, Outcome, Value_is, Ends, Meaning, set as set_at}
+use Rattle.ps_meaning.specs.Evaluation.{Context, call_meant, eval, eval_all}
 use Rattle.ps_soundness.specs.Running.{IsPlace, IsScopeText, RunsIn, Runs, AllRunIn}
 use Rattle.ps_soundness.specs.Free.{AllBelow, AreBelow}
-use Rattle.ps_soundness.specs.Shapes.{IsOf, IsTypedHeap, AreLocals, ComesTo}
+use Rattle.ps_soundness.specs.Shapes.{IsOf, AreLocals, ComesTo, IsTypedHeld}
 use Rattle.ps_soundness.proofs.Telling.{Told}
 use Rattle.ps_soundness.proofs.Growing.{grows_not, of_kept}
 use Rattle.ps_soundness.proofs.Places.{free_slot, name_has, name_set}
 use Rattle.ps_soundness.proofs.Combining.{Standing, AreAround, IsStanding, stand, Comes, Sound, sound_then, sound_give, sound_nothing, sound_get, sound_set, narrowed}
-use Rattle.ps_soundness.proofs.Calling.{AreCalls, sound_get_kept, sound_set_kept, sound_opened, sound_procedure}
+use Rattle.ps_soundness.proofs.Calling.{AreCalls, sound_call, sound_get_kept, sound_set_kept, sound_opened, sound_procedure}
 use Rattle.ps_soundness.proofs.Loops.{Turns, sound_for}
+use Rattle.ps_soundness.proofs.Scans.{key_type, scan_sound}
 use Rattle.ps_soundness.proofs.Sequences.{AreSound}
 use Rattle.ps_soundness.proofs.Declaring.{Climbs, declared_climbs, climbs, climbs_all, below_climbs, declared_below, declared_over, declared_less, scope_same, sound_set_local, declared_sound, sound_let, literal_sound}
 use Rattle.ps_soundness.proofs.Rules.{rule_sound}
@@ -66,6 +68,16 @@ turns_scoped : (told : Told) (wholes : List (List Field)) (text : List ℕ) (ope
 turns_scoped told wholes text opened declares at below h z is new =
     sound_opened text opened (λ inside g.
     sound_then (declared_sound told (Some (opened.fields ∷ wholes)) declares at below inside (Num z) is) (λ h2 u g2 is_done. h h2))
+
+-- a value in a free slot, and free slots after the locals of a scan
+spare : {heap : Heap} {wholes : Option (List (List Field))} {scopes : List (List Field)} (free : Free) (locals : List Local) (at : ℕ) (ty : TyView) (v : Value) →
+    next_slot ty free ≤ at → AllBelow locals free →
+    Sound heap (record { locals = locals; wholes = wholes; scopes = scopes }) (record { locals = locals; wholes = wholes; scopes = scopes }) types.Void
+    (set_at (Plain at) ty v)
+spare free locals at ty v low below = sound_set_local at ty v (λ now frame g are. free_slot now frame free ty at v locals low below are)
+
+in_scan : (env : Env) (free : Free) → AllBelow env.locals free → AllBelow env.locals (behind_scan free)
+in_scan env free below = below_climbs free (behind_scan free) env.locals (record { nums = omega arith; refs = omega arith }) below
 
 -- free slots after the three of a loop, after its start, limit and step, and in what is repeated
 in_loop : (env : Env) (free : Free) → AllBelow env.locals free → AllBelow env.locals (behind_loop free)
@@ -128,7 +140,19 @@ mutual
       (turns_scoped told wholes (class_text (codes "scope") (first ∷ rest)) r.3.0 declares r.3.1 (in_loop env free below)
       (λ new. sound told (Some (r.3.0.fields ∷ wholes)) t room.1 r.3.2 c calls new))
       (λ new. three.0 r.0 c calls new) (λ new. three.1.0 r.1 c calls new) (λ new. three.1.1.0 r.2 c calls new)
-  sound told wholes (typed.scan q_is s_is are) below r c calls heap = absurd r
+  sound told None (typed.scan q_is s_is are) below r c calls heap = absurd r
+  sound told (Some wholes) (typed.scan {env = env} {free = free} {string = string} {a = a} {f = f} {q = q} {s = s} {line = line} q_is s_is are) below r c calls
+      heap =
+      let inside = in_scan env free below in
+      let both = sound_each told (Some wholes) are inside in
+      scan_sound c.bound line string q s (λ procedure args. call_meant c line procedure args)
+      (λ at low new v. spare free env.locals at types.Pntr v (omega (arith, low, q_is)) below)
+      (λ at low new v. spare free env.locals at types.Int v (omega (arith, low, s_is)) below)
+      (λ at low new v. spare free env.locals at types.Str v (omega (arith, low, q_is)) below)
+      (λ at low new v. spare free env.locals at (caller (key_type string)) v (omega (arith, low, q_is)) below)
+      (λ new. both.0 r.0 c calls new) (λ new. both.1.0 r.1 c calls new)
+      (λ from procedure is now args more vs. sound_call c calls line procedure args (two (key_type string) types.Pntr) types.Bool
+      (of_kept from now more (caller (key_type string)) procedure is) vs)
   sound told None (typed.literal is_body) below r c calls heap = absurd r
   sound told (Some wholes) (typed.literal {env = env} {params = params} {gives = gives} {tree = tree} {scope = text} {line = line} is_body) below r c calls
       heap =
@@ -170,8 +194,8 @@ comes_to heap env ty (Value_is v frame state) h = record { grows = h.grows; type
 comes_to heap env ty (Ends e state) h = h
 
 pub typed_comes_to : (told : Told) (c : Context) (env : Env) (free behind : Free) (clause : Node) (ty : TyView) (frame : Frame) (state : State) →
-    IsTyped env free clause ty behind → Runs clause → AreBelow env free → IsTypedHeap state.store.heap → AreLocals state.store.heap frame env.locals →
-    ComesTo state.store.heap env ty (eval c clause frame state)
+    IsTyped env free clause ty behind → Runs clause → AreBelow env free → IsTypedHeld state.store.held → AreLocals state.store.held.objects frame env.locals →
+    ComesTo state.store.held.objects env ty (eval c clause frame state)
 typed_comes_to told c env free behind clause ty frame state of runs below typed are =
-    comes_to state.store.heap env ty (eval c clause frame state)
-    ((sound told None of below runs c tt state.store.heap).runs frame state (grows_not state.store.heap) typed (are, tt))
+    comes_to state.store.held.objects env ty (eval c clause frame state)
+    ((sound told None of below runs c tt state.store.held.objects).runs frame state (grows_not state.store.held.objects) typed (are, tt))

@@ -11,7 +11,7 @@ use Rattle.ps_heap.proofs.of_text_forms.ClassForms.{class-told, element-told}
 use Rattle.ps_meaning.specs.ps_typing.WellTyped.{At, IsOfType}
 use Rattle.ps_heap.specs.Values.{Value, Num, Flag}
 use Rattle.ps_heap.specs.Objects.{Heap, value_at}
-use Rattle.ps_meaning.specs.Evaluation.{kept_as, kept_all, kept_elements}
+use Rattle.ps_meaning.specs.Operations.{kept_as, kept_all, kept_elements}
 use Rattle.ps_soundness.specs.Running.{HasField}
 use Rattle.ps_soundness.specs.Shapes.{IsOf, AreOf, IsTypedStructure}
 use Rattle.ps_soundness.proofs.Telling.{Told}

@@ -1,5 +1,5 @@
 -- A heap that grows: an object more, or another value in a place of one. Values keep their types, and a typed heap stays typed.
-use Rattle.std.proofs.Common.{◌≡◌, ◌⊎◌, ℕ, zero, suc, true, List, [], ◌∷◌, ◌++◌, set, Option, Some, None, inl, inr, refl, sym, ap, ◌∙◌, subst}
+use Rattle.std.proofs.Common.{◌≡◌, ◌⊎◌, ℕ, ℤ, zero, suc, true, List, [], ◌∷◌, ◌++◌, set, Option, Some, None, inl, inr, refl, sym, ap, ◌∙◌, subst}
 use Rattle.std.specs.List.{AllByRecursion}
 use Rattle.ps_meaning.specs.ps_base.TyView.{TyView}
 use Rattle.ps_meaning.specs.ps_base.TyView as types
@@ -8,9 +8,13 @@ use Rattle.ps_meaning.specs.ps_program.Node.{BodyNode}
 use Rattle.ps_type_text.specs.Texts.{Field, type_text, class_text}
 use Rattle.ps_meaning.specs.ps_typing.WellTyped.{Local}
 use Rattle.ps_heap.specs.Values.{Value, Num, Flag, Text, Nil, Pointer, Vector, Procedure, as_written, Nothing}
+use Rattle.ps_heap.specs.Operators.{is_int}
+use Rattle.ps_heap.specs.Texts.{is_string}
+use Rattle.ps_heap.specs.Tables.{Entry, Table, without_keys, by_strings, by_ints}
+use Rattle.ps_heap.specs.Databases.{Directory}
 use Rattle.ps_heap.specs.Objects.{Heap, Object, Structure, Elements, Scope, Keyed, object_at, with_object, with_new, new_number}
 use Rattle.ps_meaning.specs.Meaning.{Frame, local_of}
-use Rattle.ps_soundness.specs.Shapes.{is_given, HasValue, HaveValues, IsScopeAt, AreScopes, IsProcedure, AreNames, StayGiven, IsStructureAt, IsVectorAt, IsOf, AreOf, IsTypedObject, IsTypedHeap, AreLocals, IsSameSort, Stays, Grows}
+use Rattle.ps_soundness.specs.Shapes.{is_given, HasValue, HaveValues, IsScopeAt, AreScopes, IsProcedure, AreNames, StayGiven, IsPointedAt, at_structure, at_table, IsVectorAt, IsTypedTable, AreRoots, IsOf, AreOf, IsTypedObject, IsTypedHeap, AreLocals, IsSameSort, Stays, Grows}
 
 object_in : Object → Option Object → Object
 object_in other (Some object) = object
@@ -81,9 +85,33 @@ grows_then a b c g k id object e =
 
 -- values of types stay such
 structure_kept : (heap : Heap) (id : ℕ) (class : List ℕ) (fields : List Value) (now : Object) → object_at heap id ≡ Some now →
-    IsSameSort (Structure class fields) now → IsStructureAt heap id
-structure_kept heap id class fields (Structure other others) e h = record { class = other; fields = others; is = e }
+    IsSameSort (Structure class fields) now → IsPointedAt heap id
+structure_kept heap id class fields (Structure other others) e h = at_structure other others e
 structure_kept heap id class fields now e h = absurd h
+
+table_kept : (heap : Heap) (id : ℕ) (table : Table) (now : Object) → object_at heap id ≡ Some now → IsSameSort (Keyed table) now → IsPointedAt heap id
+table_kept heap id table (Keyed other) e h = at_table other e
+table_kept heap id table now e h = absurd h
+
+pub pointed_kept : (heap new : Heap) → Grows heap new → (id : ℕ) → IsPointedAt heap id → IsPointedAt new id
+pointed_kept heap new g id (at_structure class fields is) =
+    let stays = g id (Structure class fields) is in structure_kept new id class fields stays.now stays.is stays.sort
+pointed_kept heap new g id (at_table table is) = let stays = g id (Keyed table) is in table_kept new id table stays.now stays.is stays.sort
+
+pub roots_kept : (heap new : Heap) → Grows heap new → (directory : Directory) → AreRoots heap directory → AreRoots new directory
+roots_kept heap new g [] h = tt
+roots_kept heap new g (d ∷ ds) h = (pointed_kept heap new g d.root h.0, roots_kept heap new g ds h.1)
+
+entries_kept : {K : Type 0} (P : K → Type 0) (heap new : Heap) → Grows heap new → (entries : List (Entry K)) →
+    AllByRecursion (λ (entry : Entry K). P entry.key × IsPointedAt heap entry.object) entries →
+    AllByRecursion (λ (entry : Entry K). P entry.key × IsPointedAt new entry.object) entries
+entries_kept P heap new g [] h = tt
+entries_kept P heap new g (entry ∷ entries) h = ((h.0.0, pointed_kept heap new g entry.object h.0.1), entries_kept P heap new g entries h.1)
+
+pub table_typed_kept : (heap new : Heap) → Grows heap new → (table : Table) → IsTypedTable heap table → IsTypedTable new table
+table_typed_kept heap new g without_keys h = tt
+table_typed_kept heap new g (by_strings entries) h = entries_kept (λ (bytes : List ℕ). is_string bytes ≡ true) heap new g entries h
+table_typed_kept heap new g (by_ints entries) h = entries_kept (λ (z : ℤ). is_int z ≡ true) heap new g entries h
 
 vector_kept : (heap : Heap) (ty : TyView) (id : ℕ) (low : _) (elements : List Value) (now : Object) → object_at heap id ≡ Some now →
     IsSameSort (Elements (type_text ty) low elements) now → IsVectorAt heap ty id
@@ -143,9 +171,7 @@ of_kept heap new g types.Bool v h = absurd h
 of_kept heap new g types.Str (Text bytes) h = h
 of_kept heap new g types.Str v h = absurd h
 of_kept heap new g types.Pntr Nil h = h
-of_kept heap new g types.Pntr (Pointer id) h =
-    let stays = g id (Structure h.class h.fields) h.is in
-    structure_kept new id h.class h.fields stays.now stays.is stays.sort
+of_kept heap new g types.Pntr (Pointer id) h = pointed_kept heap new g id h
 of_kept heap new g types.Pntr v h = absurd h
 of_kept heap new g (types.Vector element) (Vector id) h =
     let stays = g id _ h.is in
@@ -192,7 +218,7 @@ object_kept heap new g (Elements text low values) h = record {
 }
 object_kept heap new g (Scope text parent names) h =
     record { fields = h.fields; named = h.named; text_is = h.text_is; are = names_kept heap new g h.fields names h.are }
-object_kept heap new g (Keyed table) h = absurd h
+object_kept heap new g (Keyed table) h = table_typed_kept heap new g table h
 
 -- an object more
 at_old : (heap : Heap) (id : ℕ) (new object : Object) → object_at heap id ≡ Some object → object_at (heap ++ new ∷ []) id ≡ Some object

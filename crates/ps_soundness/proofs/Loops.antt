@@ -11,7 +11,7 @@ use Rattle.ps_heap.specs.Ends.{OutOfTurns}
 use Rattle.ps_heap.specs.Values.{Value, Num, Nothing, word_of, flag_of}
 use Rattle.ps_heap.specs.Objects.{Heap}
 use Rattle.ps_meaning.specs.Meaning.{Meaning, ◌>>=◌, give, in_scope, set}
-use Rattle.ps_meaning.specs.Evaluation.{while_turns, Counting, is_up, goes_on, for_turns, for_loop, for_meant}
+use Rattle.ps_meaning.specs.Loops.{while_turns, Counting, is_up, goes_on, for_turns, for_loop, for_meant}
 use Rattle.ps_soundness.proofs.Combining.{Standing, Sound, later, sound_then, sound_nothing, sound_stop, sound_choose, sound_if, sound_turn}
 
 pub sound_while : {heap : Heap} {known : Standing} {test clause : Meaning} (n : ℕ) → Sound heap known known types.Bool test →

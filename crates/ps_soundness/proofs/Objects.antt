@@ -11,7 +11,7 @@ use Rattle.ps_heap.specs.Operators.{is_int}
 use Rattle.ps_heap.specs.Texts.{Yields, Fails, is_same_text}
 use Rattle.ps_heap.specs.Values.{Value, Nil, Pointer, Vector, Nothing}
 use Rattle.ps_heap.specs.Objects.{Heap, Object, Structure, Elements, object_at, with_object, value_at, is_of, fields_in, field_of, with_field, place_from, place_of, is_vector, is_made, vector_of, count_from, filled_vector, low_in, elements_in, type_in, vector_in, found_at, put_at, with_element, low_of, high_of, element_of as element_at}
-use Rattle.ps_meaning.specs.Evaluation.{kept_as}
+use Rattle.ps_meaning.specs.Operations.{kept_as}
 use Rattle.ps_soundness.specs.Running.{HasField}
 use Rattle.ps_soundness.specs.Shapes.{IsVectorAt, IsOf, IsTypedStructure, IsTypedVector, IsTypedObject, IsTypedHeap}
 use Rattle.ps_soundness.proofs.Telling.{Told}

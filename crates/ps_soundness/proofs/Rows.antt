@@ -6,9 +6,10 @@ use Rattle.ps_type_text.specs.Texts.{Field, class_text, IsNamed, is_name_byte}
 use Rattle.ps_meaning.specs.ps_program.Node.{none, more}
 use Rattle.ps_meaning.specs.ps_program.Node as node
 use Rattle.ps_heap.specs.Values.{Num, Flag, Text, Nil, Pointer, Vector, Nothing}
-use Rattle.ps_heap.specs.Objects.{Heap, Object, Structure, Elements}
+use Rattle.ps_heap.specs.Tables.{by_strings, by_ints}
+use Rattle.ps_heap.specs.Objects.{Heap, Object, Structure, Elements, Keyed}
 use Rattle.ps_soundness.specs.Running.{IsClassText, HasField, HasAsMany, Runs}
-use Rattle.ps_soundness.specs.Shapes.{IsOf, IsTypedObject, IsTypedHeap}
+use Rattle.ps_soundness.specs.Shapes.{at_structure, at_table, IsOf, IsTypedObject, IsTypedHeap}
 use Rattle.ps_soundness.proofs.Growing.{one_object}
 
 abbrev fields : List Field
@@ -43,14 +44,30 @@ nil : IsOf heap types.Pntr Nil
 nil = tt
 
 pointer : IsOf heap types.Pntr (Pointer 0)
-pointer = record { class = box; fields = Num (pos 3) ∷ Nil ∷ []; is = refl }
+pointer = at_structure box (Num (pos 3) ∷ Nil ∷ []) refl
+
+abbrev IsVector : Object → Type 0
+IsVector (Elements text low elements) = Unit {0}
+IsVector object = ⊥
 
 no_pointer_to_a_vector : IsOf heap types.Pntr (Pointer 1) → ⊥
-no_pointer_to_a_vector h = subst is_vector (one_object two_ints (Structure h.class h.fields) h.is) tt
-  where
-    is_vector : Object → Type 0
-    is_vector (Elements text low elements) = Unit {0}
-    is_vector object = ⊥
+no_pointer_to_a_vector (at_structure class values is) = subst IsVector (one_object two_ints (Structure class values) is) tt
+no_pointer_to_a_vector (at_table table is) = subst IsVector (one_object two_ints (Keyed table) is) tt
+
+-- a table by strings, with the box under a key
+abbrev with_a_table : Heap
+with_a_table = a_box ∷ Keyed (by_strings (record { key = codes "k"; object = 0 } ∷ [])) ∷ []
+
+pointer_to_a_table : IsOf with_a_table types.Pntr (Pointer 1)
+pointer_to_a_table = at_table (by_strings (record { key = codes "k"; object = 0 } ∷ [])) refl
+
+table_is_typed : IsTypedObject with_a_table (Keyed (by_strings (record { key = codes "k"; object = 0 } ∷ [])))
+table_is_typed = ((refl, at_structure box (Num (pos 3) ∷ Nil ∷ []) refl), tt)
+
+-- what is under a key is there
+nothing_under_a_key : IsTypedObject with_a_table (Keyed (by_ints (record { key = pos 1; object = 2 } ∷ []))) → ⊥
+nothing_under_a_key ((e, at_structure class values is), rest) = cc
+nothing_under_a_key ((e, at_table table is), rest) = cc
 
 vector : IsOf heap (types.Vector types.Int) (Vector 1)
 vector = record { low = pos 5; elements = Num (pos 4) ∷ Num (pos 9) ∷ []; is = refl }

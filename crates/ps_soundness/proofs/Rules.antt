@@ -13,21 +13,25 @@ use Rattle.ps_meaning.specs.ps_typing.WellTyped as typed
 use Rattle.ps_heap.specs.Operators.{is_int, neg_of, arith_of}
 use Rattle.ps_heap.specs.Texts.{is_string, join_of, part_of}
 use Rattle.ps_heap.specs.Values.{Value, Num, Flag, Text, Nil, Pointer, Vector, word_of, flag_of, bytes_of, shown}
-use Rattle.ps_heap.specs.Objects.{Heap, Object, Structure, is_class, field_of, with_field, vector_of, filled_vector, vector_in, type_in, with_element, low_of, high_of, element_of as element_at}
+use Rattle.ps_heap.specs.Objects.{Heap, Object, Structure, is_class, field_of, with_field, vector_of, filled_vector, vector_in, type_in, with_element, low_of, high_of, id_of, element_of as element_at}
+use Rattle.ps_heap.specs.Held as held
+use Rattle.ps_heap.specs.Held.{element_place}
 use Rattle.ps_meaning.specs.Meaning.{made}
-use Rattle.ps_meaning.specs.Evaluation.{Context, kept_as, kept_all, kept_elements, compares, make_meant, eval, eval_each}
+use Rattle.ps_meaning.specs.Operations.{kept_as, kept_all, kept_elements, compares, make_meant}
+use Rattle.ps_meaning.specs.Evaluation.{Context, eval, eval_each}
 use Rattle.ps_soundness.specs.Running.{RunsIn, AllRunIn, AreAsMany, HasAsMany}
-use Rattle.ps_soundness.specs.Shapes.{IsOf, AreOf, IsTypedStructure, IsTypedHeap}
+use Rattle.ps_soundness.specs.Shapes.{at_structure, IsOf, AreOf, IsTypedStructure, IsTypedHeap}
 use Rattle.ps_soundness.proofs.Telling.{Told}
 use Rattle.ps_soundness.proofs.Operators.{OnYield, arith_gives, neg_gives, join_yields, part_yields}
 use Rattle.ps_soundness.proofs.Growing.{of_kept}
-use Rattle.ps_soundness.proofs.Combining.{Standing, Sound, sound_then, sound_give, sound_nothing, sound_stop, sound_choose, sound_answer, sound_attempt, sound_with_heap, sound_put, sound_made, sound_made_text, sound_written}
+use Rattle.ps_soundness.proofs.Combining.{Standing, Sound, sound_then, sound_give, sound_nothing, sound_stop, sound_choose, sound_answer, sound_attempt, sound_with_heap, sound_put, sound_read, sound_made, sound_made_text, sound_written}
 use Rattle.ps_soundness.proofs.Calling.{ValuesOf, AreCalls, sound_call}
 use Rattle.ps_soundness.proofs.Fields.{kept_in_class, all_kept_in_vector}
 use Rattle.ps_soundness.proofs.Reading.{same_types}
 use Rattle.ps_soundness.proofs.Objects.{field_yields, kept_field_yields, element_yields, kept_element_yields, low_is_int, high_in_range, IsNewVector, vector_yields, filled_yields}
 use Rattle.ps_soundness.proofs.Loops.{sound_while}
-use Rattle.ps_soundness.proofs.Sequences.{SoundClaim, AreSound, all_left, all_right, int_of, text_of, sound_args, sound_items, sound_arms, sound_library}
+use Rattle.ps_soundness.proofs.Sequences.{SoundClaim, AreSound, all_left, all_right, int_of, text_of, sound_args, sound_items, sound_arms}
+use Rattle.ps_soundness.proofs.Library.{sound_library}
 
 -- the values of arguments are those of the fields
 count : TyViews → ℕ
@@ -81,7 +85,7 @@ sound_make : {heap : Heap} {known : Standing} {args : Nodes} {tys : TyViews} {cl
 sound_make {args = args} {tys = tys} {claims = claims} told c calls class many is are h r =
     sound_args c calls are h r (λ new vs g of.
     sound_made Pointer (Structure class (kept_all (forms_of class) vs)) (made_typed told new class args tys claims vs many is are of)
-    (λ at id e. record { class = class; fields = kept_all (forms_of class) vs; is = e }))
+    (λ at id e. at_structure class (kept_all (forms_of class) vs) e))
 
 -- the vector that is made
 sound_vector : {heap : Heap} {known : Standing} (element : TyView) (object : Object) → IsNewVector heap element object →
@@ -151,10 +155,10 @@ rule_sound told (typed.part {line = line}) h r c calls heap =
 rule_sound told (typed.make {class = class} is are) h r c calls heap = sound_make told c calls class r.0 is are h r.1
 rule_sound told (typed.field {class = class} {index = index} {t = t} {line = line} is_field) h r c calls heap =
     sound_then (h.0 r.1 c calls heap) (λ h1 o g is. sound_with_heap (λ now k typed.
-    sound_attempt (IsOf now t) line (field_of now o class index) (field_yields told now o class index t typed r.0) (λ v of. sound_give v of)))
+    sound_attempt (IsOf now t) line (field_of now o class index) (field_yields told now o class index t typed r.0) (λ v of. sound_read v of)))
 rule_sound told (typed.set_field {class = class} {index = index} {t = t} {line = line} is_field) h r c calls heap =
     sound_then (h.0 r.1 c calls heap) (λ h1 o g is. sound_then (h.1.0 r.2 c calls h1) (λ h2 v k of.
-    sound_put line (λ now. with_field now o class index (kept_as (form_in (forms_of class) index) v))
+    sound_put line (λ now. with_field now o class index (kept_as (form_in (forms_of class) index) v)) (λ now. held.Part (id_of o) index)
     (λ now l typed. kept_field_yields told now o class index t v typed r.0 (of_kept h2 now l t v of))))
 rule_sound told (typed.fill {t = t} {line = line} isnt) h r c calls heap =
     sound_then (h.0 r.0 c calls heap) (λ h1 low g is. sound_then (h.1.0 r.1 c calls h1) (λ h2 high k of. sound_then (h.1.1.0 r.2 c calls h2) (λ h3 v l such.
@@ -171,10 +175,10 @@ rule_sound told (typed.element {t = t} {line = line}) h r c calls heap =
     sound_then (h.0 r.0 c calls heap) (λ h1 v g is. sound_then (h.1.0 r.1 c calls h1) (λ h2 i k of. sound_with_heap (λ now l typed.
     sound_attempt (IsOf now t) line (element_at now v (word_of i))
     (element_yields told now v t (word_of i) typed (of_kept h2 now l (types.Vector t) v (of_kept h1 h2 k (types.Vector t) v is)))
-    (λ w such. sound_give w such))))
+    (λ w such. sound_read w such))))
 rule_sound told (typed.set_element {t = t} {line = line}) h r c calls heap =
     sound_then (h.0 r.0 c calls heap) (λ h1 v g is. sound_then (h.1.0 r.1 c calls h1) (λ h2 i k of. sound_then (h.1.1.0 r.2 c calls h2) (λ h3 e l such.
-    sound_put line (λ now. with_element now v (word_of i) (kept_as (Some (element_of (type_in (vector_in now v)))) e))
+    sound_put line (λ now. with_element now v (word_of i) (kept_as (Some (element_of (type_in (vector_in now v)))) e)) (λ now. element_place now v (word_of i))
     (λ now m typed. kept_element_yields told now v t (word_of i) e typed
     (of_kept h3 now m (types.Vector t) v (of_kept h2 h3 l (types.Vector t) v (of_kept h1 h2 k (types.Vector t) v is))) (of_kept h3 now m t e such)))))
 rule_sound told (typed.bound {upper = upper} {t = t}) h r c calls heap =
@@ -183,7 +187,7 @@ rule_sound told (typed.bound {upper = upper} {t = t}) h r c calls heap =
 rule_sound told {known = known} (typed.call {f = f} {line = line} are) h r c calls heap =
     call_sound known.locals known.wholes known.scopes f line are h r c calls heap
 rule_sound told {known = known} (typed.lib {code = code} {line = line} {tys = tys} {t = t} is are) h r c calls heap =
-    sound_args c calls are h r.1 (λ new vs g of. sound_library line known.wholes code tys t is.0 vs is.1 r.0 of)
+    sound_args c calls are h r (λ new vs g of. sound_library line code tys t is.0 vs is.1 of)
 rule_sound told (typed.write {t = t} {line = line} writable) h r c calls heap =
     sound_then (h.0 r.0 c calls heap) (λ h1 v g is. sound_written line None (shown t v))
 rule_sound told (typed.write_wide {t = t} {line = line} writable) h r c calls heap =

@@ -16,7 +16,7 @@ use Rattle.ps_meaning.specs.Meaning.{Frame, State}
 use Rattle.ps_meaning.specs.Evaluation.{eval}
 use Rattle.ps_meaning.specs.Calls.{context}
 use Rattle.ps_soundness.specs.Running.{Runs, RunsIn, BodyRuns}
-use Rattle.ps_soundness.specs.Shapes.{IsOf, HaveValues, AreScopes, IsTypedObject, IsTypedHeap, ComesToInside}
+use Rattle.ps_soundness.specs.Shapes.{IsOf, HaveValues, AreScopes, IsTypedObject, IsTypedHeap, ComesToInside, IsTypedHeld}
 use Rattle.ps_soundness.proofs.Telling.{Told}
 use Rattle.ps_soundness.proofs.Growing.{one_object}
 use Rattle.ps_soundness.proofs.Bodies.{comes_to_inside}
@@ -145,8 +145,8 @@ reads_n_is_typed =
     typed.at_end))) refl
 
 -- whatever turns may be left
-it_comes_to : Told → (turns : ℕ) (frame : Frame) (state : State) → IsTypedHeap state.store.heap →
-    ComesToInside state.store.heap [] nowhere types.Void (eval (context turns 0) reads_n frame state)
+it_comes_to : Told → (turns : ℕ) (frame : Frame) (state : State) → IsTypedHeld state.store.held →
+    ComesToInside state.store.held.objects [] nowhere types.Void (eval (context turns 0) reads_n frame state)
 it_comes_to told turns frame state typed_heap =
     comes_to_inside told turns 0 [] nowhere (record { nums = 0; refs = 0 }) (record { nums = 0; refs = 1 }) reads_n types.Void frame state
     reads_n_is_typed reads_n_runs tt typed_heap tt tt

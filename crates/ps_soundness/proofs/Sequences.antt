@@ -1,17 +1,9 @@
 -- Clauses one after the other, and what goes on with their values: arguments, elements, the labels and the arms of a `case`.
-use Rattle.std.proofs.Common.{◌≡◌, ◌⊎◌, ℕ, pos, Bool, true, false, List, [], ◌∷◌, ◌++◌, length, Option, Some, None, inl, inr, refl, sym, ap, subst, arith}
-use Rattle.std.specs.Prelude.{if◌then◌else◌}
-use Rattle.std.specs.Str.{bytes_eq}
+use Rattle.std.proofs.Common.{◌≡◌, ℕ, true, false, List, [], ◌∷◌, ◌++◌}
 use Rattle.std.specs.List.{AllByRecursion}
-use Rattle.std.specs.Fmt.{signed_decimal}
 use Rattle.ps_meaning.specs.ps_base.TyView.{TyView, TyViews}
 use Rattle.ps_meaning.specs.ps_base.TyView as types
-use Rattle.ps_meaning.specs.ps_base.declared.line.Line.{Line}
-use Rattle.ps_type_text.specs.Texts.{Field}
 use Rattle.ps_meaning.specs.ps_program.Node.{Nodes, none, more, Arms, no_arms, more_arms, arm}
-use Rattle.ps_meaning.specs.ps_typing.Names.{Declared, lookup, plain, library}
-use Rattle.ps_meaning.specs.ps_typing.Names as names
-use Rattle.ps_meaning.specs.ps_typing.Library.{procedures}
 use Rattle.ps_meaning.specs.ps_typing.WellTyped.{Local, Claim, ◌has◌, all_have, arms_have, Arguments}
 use Rattle.ps_meaning.specs.ps_typing.WellTyped as typed
 use Rattle.ps_heap.specs.Operators.{is_int}
@@ -19,13 +11,13 @@ use Rattle.ps_heap.specs.Texts.{is_string}
 use Rattle.ps_heap.specs.Values.{Value, Num, Flag, Text, word_of, flag_of, bytes_of}
 use Rattle.ps_heap.specs.Objects.{Heap}
 use Rattle.ps_meaning.specs.Meaning.{Meaning}
-use Rattle.ps_meaning.specs.Evaluation.{Context, is_equal, lib_meant, eval, eval_each, eval_arms, eval_labels}
-use Rattle.ps_soundness.specs.Running.{RunsIn, AllRunIn, ArmsRunIn, IsRunLibrary}
+use Rattle.ps_meaning.specs.Operations.{is_equal}
+use Rattle.ps_meaning.specs.Evaluation.{Context, eval, eval_each, eval_arms, eval_labels}
+use Rattle.ps_soundness.specs.Running.{RunsIn, AllRunIn, ArmsRunIn}
 use Rattle.ps_soundness.specs.Shapes.{IsOf, Grows}
-use Rattle.ps_soundness.proofs.Operators.{length_is_int, decimal_is_string}
 use Rattle.ps_soundness.proofs.Growing.{grows_not, grows_then, of_kept}
-use Rattle.ps_soundness.proofs.Calling.{ValuesOf, AreCalls, sound_read_line, sound_at_end}
-use Rattle.ps_soundness.proofs.Combining.{Standing, Sound, sound_then, sound_give, sound_made_text, sound_choose}
+use Rattle.ps_soundness.proofs.Calling.{ValuesOf, AreCalls}
+use Rattle.ps_soundness.proofs.Combining.{Standing, Sound, sound_then, sound_give, sound_choose}
 
 -- a clause that runs yields a value of the type that it is to have, from each heap on
 abbrev pub SoundClaim : Standing → Claim → Type 0
@@ -90,197 +82,3 @@ sound_arms {known = known} c calls value ty v (more_arms (arm labels a) rest) h 
     let of_labels = all_left (SoundClaim known) (all_have value labels) (a has ty ∷ arms_have value ty rest) h in
     sound_then (sound_labels c calls value v labels of_labels r.0)
     (λ new found g is. sound_choose (flag_of found) (behind_labels.0 r.1 c calls new) (sound_arms c calls value ty v rest behind_labels.1 r.2 d))
-
--- what the library says of `length` and of `iformat`
-abbrev Tells : names.Meaning → Type 0
-Tells (library (plain code params gives)) =
-    (code ≡ 11 → (params ≡ types.more types.Str types.none) × (gives ≡ types.Int))
-    × (code ≡ 12 → (params ≡ types.more types.Int types.none) × (gives ≡ types.Str))
-Tells meaning = Unit {0}
-
-meaning_in : names.Meaning → Option names.Meaning → names.Meaning
-meaning_in other (Some meaning) = meaning
-meaning_in other None = other
-
-tells_where : (here meaning : names.Meaning) (behind : Option names.Meaning) (b : Bool) → Tells here → (behind ≡ Some meaning → Tells meaning) →
-    (if b then Some here else behind) ≡ Some meaning → Tells meaning
-unfolding meaning_in
-tells_where here meaning behind true h k e = subst Tells (ap (meaning_in here) e) h
-tells_where here meaning behind false h k e = k e
-
-tells : (ds : List Declared) (name : List ℕ) (meaning : names.Meaning) → AllByRecursion (λ (d : Declared). Tells d.meaning) ds →
-    lookup ds name ≡ Some meaning → Tells meaning
-tells [] name meaning h e = absurd cc
-tells (d ∷ ds) name meaning h e = tells_where d.meaning meaning (lookup ds name) (bytes_eq d.name name) h.0 (λ k. tells ds name meaning h.1 k) e
-
-another : (code : ℕ) {A B : Type 0} → (code ≡ 11 → ⊥) → (code ≡ 12 → ⊥) → (code ≡ 11 → A) × (code ≡ 12 → B)
-another code h k = (λ e. absurd (h e), λ e. absurd (k e))
-
-library_tells : AllByRecursion (λ (d : Declared). Tells d.meaning) procedures
-library_tells = (
-  another 0 (λ e. omega (arith, e)) (λ e. omega (arith, e)),
-  (
-    another 1 (λ e. omega (arith, e)) (λ e. omega (arith, e)),
-    (
-      another 2 (λ e. omega (arith, e)) (λ e. omega (arith, e)),
-      (
-        another 3 (λ e. omega (arith, e)) (λ e. omega (arith, e)),
-        (
-          another 4 (λ e. omega (arith, e)) (λ e. omega (arith, e)),
-          (
-            another 5 (λ e. omega (arith, e)) (λ e. omega (arith, e)),
-            (
-              another 6 (λ e. omega (arith, e)) (λ e. omega (arith, e)),
-              (
-                another 7 (λ e. omega (arith, e)) (λ e. omega (arith, e)),
-                (
-                  another 8 (λ e. omega (arith, e)) (λ e. omega (arith, e)),
-                  (
-                    another 9 (λ e. omega (arith, e)) (λ e. omega (arith, e)),
-                    (
-                      another 10 (λ e. omega (arith, e)) (λ e. omega (arith, e)),
-                      (
-                        (λ e. (refl, refl), λ e. absurd (omega (arith, e))),
-                        (
-                          (λ e. absurd (omega (arith, e)), λ e. (refl, refl)),
-                          (tt, (tt, (tt, tt))),
-                        ),
-                      ),
-                    ),
-                  ),
-                ),
-              ),
-            ),
-          ),
-        ),
-      ),
-    ),
-  ),
-)
-
--- what `length` and `iformat` take and give
-pub library_says : (code : ℕ) (tys : TyViews) (ty : TyView) (name : List ℕ) → lookup procedures name ≡ Some (library (plain code tys ty)) →
-    (code ≡ 11 → (tys ≡ types.more types.Str types.none) × (ty ≡ types.Int)) ×
-    (code ≡ 12 → (tys ≡ types.more types.Int types.none) × (ty ≡ types.Str))
-library_says code tys ty name found = tells procedures name (library (plain code tys ty)) library_tells found
-
-sound_length : {heap : Heap} {known : Standing} (line : Line) (vs : List Value) → ValuesOf heap (types.more types.Str types.none) vs →
-    Sound heap known known types.Int (lib_meant line 11 vs)
-sound_length line [] h = absurd h
-sound_length {heap = heap} line (v ∷ []) h = sound_give (Num (pos (length (bytes_of v)))) (length_is_int (bytes_of v) (text_of heap v h.0))
-sound_length line (v ∷ w ∷ vs) h = absurd h.1
-
-sound_iformat : {heap : Heap} {known : Standing} (line : Line) (vs : List Value) → ValuesOf heap (types.more types.Int types.none) vs →
-    Sound heap known known types.Str (lib_meant line 12 vs)
-sound_iformat line [] h = absurd h
-sound_iformat {heap = heap} line (v ∷ []) h = sound_made_text (signed_decimal (word_of v)) (decimal_is_string (word_of v) (int_of heap v h.0))
-sound_iformat line (v ∷ w ∷ vs) h = absurd h.1
-
-pub sound_lib : {heap : Heap} {known : Standing} (line : Line) (code : ℕ) (tys : TyViews) (ty : TyView) (name : List ℕ) (vs : List Value) →
-    lookup procedures name ≡ Some (library (plain code tys ty)) → ((code ≡ 11) ⊎ (code ≡ 12)) → ValuesOf heap tys vs →
-    Sound heap known known ty (lib_meant line code vs)
-sound_lib {heap = heap} {known = known} line code tys ty name vs found (inl e) are =
-    let told = (tells procedures name (library (plain code tys ty)) library_tells found).0 e in
-    subst (λ (t : TyView). Sound heap known known t (lib_meant line code vs)) (sym told.1)
-    (subst (λ (n : ℕ). Sound heap known known types.Int (lib_meant line n vs)) (sym e)
-    (sound_length line vs (subst (λ (ts : TyViews). ValuesOf heap ts vs) told.0 are)))
-sound_lib {heap = heap} {known = known} line code tys ty name vs found (inr e) are =
-    let told = (tells procedures name (library (plain code tys ty)) library_tells found).1 e in
-    subst (λ (t : TyView). Sound heap known known t (lib_meant line code vs)) (sym told.1)
-    (subst (λ (n : ℕ). Sound heap known known types.Str (lib_meant line n vs)) (sym e)
-    (sound_iformat line vs (subst (λ (ts : TyViews). ValuesOf heap ts vs) told.0 are)))
-
--- what the library says of `read.a.line` and of `eof`
-abbrev TellsInput : names.Meaning → Type 0
-TellsInput (library (plain code params gives)) =
-    (code ≡ 9 → (params ≡ types.none) × (gives ≡ types.Str))
-    × (code ≡ 10 → (params ≡ types.none) × (gives ≡ types.Bool))
-TellsInput meaning = Unit {0}
-
-input_where : (here meaning : names.Meaning) (behind : Option names.Meaning) (b : Bool) → TellsInput here → (behind ≡ Some meaning → TellsInput meaning) →
-    (if b then Some here else behind) ≡ Some meaning → TellsInput meaning
-unfolding meaning_in
-input_where here meaning behind true h k e = subst TellsInput (ap (meaning_in here) e) h
-input_where here meaning behind false h k e = k e
-
-tells_input : (ds : List Declared) (name : List ℕ) (meaning : names.Meaning) → AllByRecursion (λ (d : Declared). TellsInput d.meaning) ds →
-    lookup ds name ≡ Some meaning → TellsInput meaning
-tells_input [] name meaning h e = absurd cc
-tells_input (d ∷ ds) name meaning h e =
-    input_where d.meaning meaning (lookup ds name) (bytes_eq d.name name) h.0 (λ k. tells_input ds name meaning h.1 k) e
-
-no_input : (code : ℕ) {A B : Type 0} → (code ≡ 9 → ⊥) → (code ≡ 10 → ⊥) → (code ≡ 9 → A) × (code ≡ 10 → B)
-no_input code h k = (λ e. absurd (h e), λ e. absurd (k e))
-
-library_tells_input : AllByRecursion (λ (d : Declared). TellsInput d.meaning) procedures
-library_tells_input = (
-  no_input 0 (λ e. omega (arith, e)) (λ e. omega (arith, e)),
-  (
-    no_input 1 (λ e. omega (arith, e)) (λ e. omega (arith, e)),
-    (
-      no_input 2 (λ e. omega (arith, e)) (λ e. omega (arith, e)),
-      (
-        no_input 3 (λ e. omega (arith, e)) (λ e. omega (arith, e)),
-        (
-          no_input 4 (λ e. omega (arith, e)) (λ e. omega (arith, e)),
-          (
-            no_input 5 (λ e. omega (arith, e)) (λ e. omega (arith, e)),
-            (
-              no_input 6 (λ e. omega (arith, e)) (λ e. omega (arith, e)),
-              (
-                no_input 7 (λ e. omega (arith, e)) (λ e. omega (arith, e)),
-                (
-                  no_input 8 (λ e. omega (arith, e)) (λ e. omega (arith, e)),
-                  (
-                    (λ e. (refl, refl), λ e. absurd (omega (arith, e))),
-                    (
-                      (λ e. absurd (omega (arith, e)), λ e. (refl, refl)),
-                      (
-                        no_input 11 (λ e. omega (arith, e)) (λ e. omega (arith, e)),
-                        (
-                          no_input 12 (λ e. omega (arith, e)) (λ e. omega (arith, e)),
-                          (tt, (tt, (tt, tt))),
-                        ),
-                      ),
-                    ),
-                  ),
-                ),
-              ),
-            ),
-          ),
-        ),
-      ),
-    ),
-  ),
-)
-
-sound_line : {heap : Heap} {known : Standing} (line : Line) (vs : List Value) → ValuesOf heap types.none vs →
-    Sound heap known known types.Str (lib_meant line 9 vs)
-sound_line line [] h = sound_read_line line
-sound_line line (v ∷ vs) h = absurd h
-
-sound_eof : {heap : Heap} {known : Standing} (line : Line) (vs : List Value) → ValuesOf heap types.none vs →
-    Sound heap known known types.Bool (lib_meant line 10 vs)
-sound_eof line [] h = sound_at_end
-sound_eof line (v ∷ vs) h = absurd h
-
-sound_input : {heap : Heap} {known : Standing} (line : Line) (code : ℕ) (tys : TyViews) (ty : TyView) (name : List ℕ) (vs : List Value) →
-    lookup procedures name ≡ Some (library (plain code tys ty)) → ((code ≡ 9) ⊎ (code ≡ 10)) → ValuesOf heap tys vs →
-    Sound heap known known ty (lib_meant line code vs)
-sound_input {heap = heap} {known = known} line code tys ty name vs found (inl e) are =
-    let told = (tells_input procedures name (library (plain code tys ty)) library_tells_input found).0 e in
-    subst (λ (t : TyView). Sound heap known known t (lib_meant line code vs)) (sym told.1)
-    (subst (λ (n : ℕ). Sound heap known known types.Str (lib_meant line n vs)) (sym e)
-    (sound_line line vs (subst (λ (ts : TyViews). ValuesOf heap ts vs) told.0 are)))
-sound_input {heap = heap} {known = known} line code tys ty name vs found (inr e) are =
-    let told = (tells_input procedures name (library (plain code tys ty)) library_tells_input found).1 e in
-    subst (λ (t : TyView). Sound heap known known t (lib_meant line code vs)) (sym told.1)
-    (subst (λ (n : ℕ). Sound heap known known types.Bool (lib_meant line n vs)) (sym e)
-    (sound_eof line vs (subst (λ (ts : TyViews). ValuesOf heap ts vs) told.0 are)))
-
-pub sound_library : {heap : Heap} {known : Standing} (line : Line) (around : Option (List (List Field))) (code : ℕ) (tys : TyViews) (ty : TyView)
-    (name : List ℕ) (vs : List Value) → lookup procedures name ≡ Some (library (plain code tys ty)) → IsRunLibrary around code → ValuesOf heap tys vs →
-    Sound heap known known ty (lib_meant line code vs)
-sound_library line None code tys ty name vs found is are = sound_lib line code tys ty name vs found is are
-sound_library line (Some wholes) code tys ty name vs found (inl is) are = sound_lib line code tys ty name vs found is are
-sound_library line (Some wholes) code tys ty name vs found (inr is) are = sound_input line code tys ty name vs found is are

@@ -12,9 +12,11 @@ use Rattle.ps_meaning.specs.ps_typing.Names.{lookup, plain, library}
 use Rattle.ps_meaning.specs.ps_typing.Library.{procedures}
 use Rattle.ps_meaning.specs.ps_typing.WellTyped.{Some_is, Env, Free, Local, IsLocal, Claim, ◌has◌, arms_have, At, IsOfType, Rule, Declares, IsTyped, AreTyped, AreItems}
 use Rattle.ps_meaning.specs.ps_typing.WellTyped as typed
+use Rattle.ps_heap.specs.Library.{CreateDatabase, OpenDatabase, Commit, MakeTable, EnterString, LookUpString, EnterInt, LookUpInt, Cardinality, LibraryProcedure, OnHeap, ReadLine, AtEnd, Length, IntText}
 use Rattle.ps_soundness.specs.Valued.{IsValued, IsGiven}
 use Rattle.ps_soundness.specs.Running.{HasField, Runs, AllRun}
-use Rattle.ps_soundness.proofs.Sequences.{all_right, library_says}
+use Rattle.ps_soundness.proofs.Sequences.{all_right}
+use Rattle.ps_soundness.proofs.Library.{type_given, library_says}
 
 pub given_by : (ty : TyView) → IsValued ty → IsGiven ty
 given_by types.Int h = tt
@@ -57,10 +59,23 @@ declared_valued (typed.as_kept name scopes at) is h n t found = h n t found
 abbrev pub GivesClaim : Claim → Type 0
 GivesClaim claim = Runs claim.clause → IsGiven claim.ty
 
-library_gives : (code : ℕ) (tys : TyViews) (ty : TyView) (name : List ℕ) → lookup procedures name ≡ Some (library (plain code tys ty)) →
-    ((code ≡ 11) ⊎ (code ≡ 12)) → IsGiven ty
-library_gives code tys ty name found (inl e) = subst IsGiven (sym ((library_says code tys ty name found).0 e).1) tt
-library_gives code tys ty name found (inr e) = subst IsGiven (sym ((library_says code tys ty name found).1 e).1) tt
+all_given : (of : LibraryProcedure) → IsGiven (type_given of)
+all_given (OnHeap CreateDatabase) = tt
+all_given (OnHeap OpenDatabase) = tt
+all_given (OnHeap Commit) = tt
+all_given (OnHeap MakeTable) = tt
+all_given (OnHeap EnterString) = tt
+all_given (OnHeap LookUpString) = tt
+all_given (OnHeap EnterInt) = tt
+all_given (OnHeap LookUpInt) = tt
+all_given (OnHeap Cardinality) = tt
+all_given ReadLine = tt
+all_given AtEnd = tt
+all_given Length = tt
+all_given IntText = tt
+
+library_gives : (code : ℕ) (tys : TyViews) (ty : TyView) (name : List ℕ) → lookup procedures name ≡ Some (library (plain code tys ty)) → IsGiven ty
+library_gives code tys ty name found = let told = library_says code tys ty name found in subst IsGiven (sym told.gives_it) (all_given told.of)
 
 rule_gives : {t : Node} {claims : List Claim} {ty : TyView} → Rule t claims ty → AllByRecursion GivesClaim claims → Runs t → IsGiven ty
 rule_gives typed.int h r = tt
@@ -95,7 +110,7 @@ rule_gives (typed.element {t = t}) h r = given_by t (h.0 r.0)
 rule_gives typed.set_element h r = tt
 rule_gives typed.bound h r = tt
 rule_gives (typed.call are) h r = absurd r
-rule_gives (typed.lib {code = code} {tys = tys} {t = t} of_library are) h r = library_gives code tys t of_library.0 of_library.1 r.0
+rule_gives (typed.lib {code = code} {tys = tys} {t = t} of_library are) h r = library_gives code tys t of_library.0 of_library.1
 rule_gives (typed.write writable) h r = tt
 rule_gives (typed.write_wide writable) h r = tt
 

@@ -1,8 +1,7 @@
--- Which typed clauses run: all but those over tables and databases, and where nothing is known of the scopes round them, all but those over scopes,
--- procedures and the input too. A literal is an int or a string, and a class has names of a text, the field that a clause names, and as many
+-- Which typed clauses run: all, and where nothing is known of the scopes round them, all but those over scopes and procedures. A literal is an int or a string, and a class has names of a text, the field that a clause names, and as many
 -- fields as a clause gives values, as in each tree of a text; so has a scope names of a text. Where names may be any bytes, one text can be read as
 -- that of several classes. Fields and elements are of types that have values.
-use Rattle.std.specs.Prelude.{◌≡◌, ◌⊎◌, ℕ, true, Option, Some, None, List, [], ◌∷◌, codes}
+use Rattle.std.specs.Prelude.{◌≡◌, ℕ, true, Option, Some, None, List, [], ◌∷◌, codes}
 use Rattle.std.specs.List.{AllByRecursion}
 use Rattle.ps_meaning.specs.ps_base.TyView.{TyView}
 use Rattle.ps_meaning.specs.ps_base.TyView as types
@@ -31,11 +30,6 @@ pub record IsScopeText (text : List ℕ) : Type 0 where
   pub fields : List Field
   pub named : IsNamed (codes "scope") fields
   pub text_is : text ≡ class_text (codes "scope") fields
-
--- a procedure of the library that runs: `length` and `iformat`, and `read.a.line` and `eof`
-abbrev pub IsRunLibrary : Option (List (List Field)) → ℕ → Type 0
-IsRunLibrary None code = (code ≡ 11) ⊎ (code ≡ 12)
-IsRunLibrary (Some wholes) code = ((code ≡ 11) ⊎ (code ≡ 12)) ⊎ ((code ≡ 9) ⊎ (code ≡ 10))
 
 -- the text of a class whose name and fields have names of a text
 pub record IsClassText (text : List ℕ) : Type 0 where
@@ -110,14 +104,15 @@ abbrev mutual
   RunsIn around (node.Element v i ty line) = RunsIn around v × RunsIn around i
   RunsIn around (node.SetElement v i e ty line) = RunsIn around v × RunsIn around i × RunsIn around e
   RunsIn around (node.Bound v upper) = RunsIn around v
-  RunsIn around (node.Lib code args line) = IsRunLibrary around code × AllRunIn around args
+  RunsIn around (node.Lib code args line) = AllRunIn around args
   RunsIn around (node.Write e w wide ty line) = RunsIn around e × RunsIn around w
   RunsIn around (node.Abort line) = Unit {0}
   RunsIn None (node.Proc of) = ⊥
   RunsIn (Some wholes) (node.Proc of) = BodyRuns wholes of
   RunsIn None (node.Call f args line) = ⊥
   RunsIn (Some wholes) (node.Call f args line) = RunsIn (Some wholes) f × AllRunIn (Some wholes) args
-  RunsIn around (node.Scan text a f q s line) = ⊥
+  RunsIn None (node.Scan text a f q s line) = ⊥
+  RunsIn (Some wholes) (node.Scan text a f q s line) = RunsIn (Some wholes) a × RunsIn (Some wholes) f
 
   pub AllRunIn : Option (List (List Field)) → Nodes → Type 0
   AllRunIn around none = Unit {0}

@@ -11,16 +11,18 @@ use Rattle.ps_meaning.specs.ps_typing.WellTyped.{Env, Local, IsBody, types_of_pa
 use Rattle.ps_heap.specs.Operators.{is_int}
 use Rattle.ps_heap.specs.Texts.{is_string}
 use Rattle.ps_heap.specs.Values.{Value, Num, Flag, Text, Nil, Pointer, Vector, Procedure, as_written, Nothing}
+use Rattle.ps_heap.specs.Tables.{Table, without_keys, by_strings, by_ints}
+use Rattle.ps_heap.specs.Databases.{Directory}
+use Rattle.ps_heap.specs.Held.{Held}
 use Rattle.ps_heap.specs.Objects.{Heap, Object, Structure, Elements, Scope, Keyed, object_at, is_vector}
 use Rattle.ps_heap.specs.Scopes.{first_value}
 use Rattle.ps_soundness.specs.Running.{BodyRuns}
 use Rattle.ps_meaning.specs.Meaning.{Frame, State, Outcome, Value_is, Ends, local_of}
 
--- a structure has this number
-pub record IsStructureAt (heap : Heap) (id : ℕ) : Type 0 where
-  pub class : List ℕ
-  pub fields : List Value
-  pub is : object_at heap id ≡ Some (Structure class fields)
+-- a structure or a table has this number: what a pntr denotes
+pub data IsPointedAt (heap : Heap) (id : ℕ) : Type 0 where
+  at_structure : (class : List ℕ) (fields : List Value) → object_at heap id ≡ Some (Structure class fields) → IsPointedAt heap id
+  at_table : (table : Table) → object_at heap id ≡ Some (Keyed table) → IsPointedAt heap id
 
 -- a vector of this type has this number
 pub record IsVectorAt (heap : Heap) (ty : TyView) (id : ℕ) : Type 0 where
@@ -90,7 +92,7 @@ IsOf heap types.Int (Num z) = is_int z ≡ true
 IsOf heap types.Bool (Flag b) = Unit {0}
 IsOf heap types.Str (Text bytes) = is_string bytes ≡ true
 IsOf heap types.Pntr Nil = Unit {0}
-IsOf heap types.Pntr (Pointer id) = IsStructureAt heap id
+IsOf heap types.Pntr (Pointer id) = IsPointedAt heap id
 IsOf heap (types.Vector element) (Vector id) = IsVectorAt heap (types.Vector element) id
 IsOf heap (types.Proc parameters gives) (Procedure (as_written of) scope) = IsProcedure heap (types.Proc parameters gives) of scope
 IsOf heap types.Void Nothing = Unit {0}
@@ -131,16 +133,29 @@ pub record IsTypedScope (heap : Heap) (text : List ℕ) (names : List Value) : T
   pub text_is : text ≡ class_text (codes "scope") fields
   pub are : AreNames heap fields names
 
+-- an entry has a string or an int as its key, and a structure or a table under it
+abbrev pub IsTypedTable : Heap → Table → Type 0
+IsTypedTable heap without_keys = Unit {0}
+IsTypedTable heap (by_strings entries) = AllByRecursion (λ entry. (is_string entry.key ≡ true) × IsPointedAt heap entry.object) entries
+IsTypedTable heap (by_ints entries) = AllByRecursion (λ entry. (is_int entry.key ≡ true) × IsPointedAt heap entry.object) entries
+
 abbrev pub IsTypedObject : Heap → Object → Type 0
 IsTypedObject heap (Structure class values) = IsTypedStructure heap class values
 IsTypedObject heap (Elements text low values) = IsTypedVector heap text low values
 IsTypedObject heap (Scope text parent names) = IsTypedScope heap text names
--- no clause makes a table yet
-IsTypedObject heap (Keyed table) = ⊥
+IsTypedObject heap (Keyed table) = IsTypedTable heap table
 
 -- each object of a heap is typed
 abbrev pub IsTypedHeap : Heap → Type 0
 IsTypedHeap heap = (id : ℕ) (object : Object) → object_at heap id ≡ Some object → IsTypedObject heap object
+
+-- each root of a database is a structure or a table
+abbrev pub AreRoots : Heap → Directory → Type 0
+AreRoots heap directory = AllByRecursion (λ database. IsPointedAt heap database.root) directory
+
+-- what a run holds is typed: its heap, and the roots of its databases
+abbrev pub IsTypedHeld : Held → Type 0
+IsTypedHeld held = IsTypedHeap held.objects × AreRoots held.objects held.directory
 
 -- each local in scope has a value of its type
 abbrev pub AreLocals : Heap → Frame → List Local → Type 0
@@ -172,17 +187,17 @@ Grows old new = (id : ℕ) (object : Object) → object_at old id ≡ Some objec
 
 -- What a clause of a type returns from a typed state: the heap has grown and is typed, the locals in scope are, and the value is of the type.
 pub record IsSound (heap : Heap) (env : Env) (ty : TyView) (v : Value) (frame : Frame) (state : State) : Type 0 where
-  pub grows : Grows heap state.store.heap
-  pub typed : IsTypedHeap state.store.heap
-  pub locals : AreLocals state.store.heap frame env.locals
-  pub value : IsOf state.store.heap ty v
+  pub grows : Grows heap state.store.held.objects
+  pub typed : IsTypedHeld state.store.held
+  pub locals : AreLocals state.store.held.objects frame env.locals
+  pub value : IsOf state.store.held.objects ty v
 
 abbrev pub ComesTo : Heap → Env → TyView → Outcome → Type 0
 ComesTo heap env ty (Value_is v frame state) = IsSound heap env ty v frame state
-ComesTo heap env ty (Ends e state) = Grows heap state.store.heap × IsTypedHeap state.store.heap
+ComesTo heap env ty (Ends e state) = Grows heap state.store.held.objects × IsTypedHeld state.store.held
 
 -- the same where the scopes round the clause have all of these names, of which those in scope have had their declarations
 abbrev pub ComesToInside : Heap → List (List Field) → Env → TyView → Outcome → Type 0
 ComesToInside heap wholes env ty (Value_is v frame state) =
-    IsSound heap env ty v frame state × AreScopes state.store.heap frame.scope wholes env.scopes
-ComesToInside heap wholes env ty (Ends e state) = Grows heap state.store.heap × IsTypedHeap state.store.heap
+    IsSound heap env ty v frame state × AreScopes state.store.held.objects frame.scope wholes env.scopes
+ComesToInside heap wholes env ty (Ends e state) = Grows heap state.store.held.objects × IsTypedHeld state.store.held

@@ -1,15 +1,15 @@
 -- Each instruction that has a step takes from the stacks and leaves on them what the table says.
-use Rattle.std.proofs.Common.{◌≡◌, ℕ, zero, suc, ◌+◌, ◌≤◌, ℤ, Bool, List, [], ◌∷◌, length, Option, Some, None, refl, ap, arith}
+use Rattle.std.proofs.Common.{◌≡◌, ℕ, zero, suc, ◌+◌, ◌≤◌, ℤ, Bool, true, false, List, [], ◌∷◌, length, Option, Some, None, refl, ap, arith}
 use Rattle.std.specs.Prelude.{◌⊎◌, ◌+ℤ◌, pos, not, nat_lt, if◌then◌else◌}
 use Rattle.ps_code.specs.ps_base.CodeUnit.{ConstantView, text, literal}
 use Rattle.ps_code.specs.ps_base.declared.line.Line.{Line}
 use Rattle.ps_code.specs.ps_base.declared.instr.Instr.{Instr}
-use Rattle.ps_code.specs.ps_base.declared.instr.Instr.TheVariants.{Int, True, False, Text, GetM, GetP, SetM, SetP, Jump, JumpFalse, Again, And, Or, Not, Neg, Add, Sub, Mul, Div, Rem, EqM, NeM, LtM, LeM, GtM, GeM, Return, WriteI, WriteB, WriteT, ForStart, ForNext, DupM, DupP, DropM, DropP, JumpTrue}
+use Rattle.ps_code.specs.ps_base.declared.instr.Instr.TheVariants.{Int, True, False, Text, GetM, GetP, SetM, SetP, Jump, JumpFalse, Again, And, Or, Not, Neg, Add, Sub, Mul, Div, Rem, EqM, NeM, LtM, LeM, GtM, GeM, Return, WriteI, WriteB, WriteT, ForStart, ForNext, ScanT, ScanI, ScanMore, DupM, DupP, DropM, DropP, JumpTrue}
 use Rattle.ps_code.specs.ps_base.declared.trap.Trap.TheVariants.{TooLong, Bounds}
-use Rattle.ps_meaning.specs.Evaluation.{goes_on}
+use Rattle.ps_meaning.specs.Loops.{goes_on}
 use Rattle.ps_heap.specs.Operators.{Answer, Gives, Traps, is_same}
 use Rattle.ps_heap.specs.Ends.{Trapped}
-use Rattle.ps_meaning.specs.Event.{Event}
+use Rattle.ps_heap.specs.Events.{Event}
 use Rattle.ps_heap.specs.Values.{Value, number_of, is_one}
 use Rattle.ps_meaning.specs.Meaning.{Store, spent, is_width, some_out, in_places}
 use Rattle.ps_stepping.specs.Config.{frame_words, Caller, Config, frame_in, constant_at, constants_in}
@@ -18,6 +18,7 @@ use Rattle.ps_stepping.specs.Procedures.{num_back, ref_back}
 use Rattle.ps_stepping.specs.Effects.{Moves, Effect, moves, either, makes, enters, leaves, given_by, nums, refs, both, nothing, taken_or_left, width_and, effect_of, Moved, HasEffect}
 use Rattle.ps_stepping.proofs.Popping.{Does, does_if, popped_num, popped_ref, popped_text, does_push_ref, moved_on}
 use Rattle.ps_stepping.proofs.ProcedureEffects.{does_on_procedures}
+use Rattle.ps_stepping.proofs.ScanEffects.{does_turn, does_forward, does_back, does_scan_on, does_scan_more}
 
 -- nothing is taken, and nothing left
 does_nothing : (c : Config) → Moved (record { nums_taken = 0; nums_left = 0; refs_taken = 0; refs_left = 0 }) c c
@@ -32,11 +33,6 @@ does_push_num c z =
 taken : (c d : Config) (z : ℤ) (rest : List ℤ) → c.nums ≡ z ∷ rest → d.nums ≡ rest → d.refs ≡ c.refs →
     Moved (record { nums_taken = 1; nums_left = 0; refs_taken = 0; refs_left = 0 }) c d
 taken c d z rest is on_nums on_refs = record { nums = omega (arith, ap length is, ap length on_nums); refs = omega (arith, ap length on_refs) }
-
-does_turn : (e : Effect) (c d : Config) (to : ℕ) (store : Option Store) →
-    ((next : Config) → next.nums ≡ d.nums → next.refs ≡ d.refs → HasEffect e c next) → Does e c (turn_to store to d)
-does_turn e c d to None h = tt
-does_turn e c d to (Some store) h = h _ refl refl
 
 does_answer : (c d : Config) (line : Line) (a : Answer) (m n : ℕ) → length d.nums + 1 + m ≡ length c.nums + n → d.refs ≡ c.refs →
     Does (nums m n) c (answered line a d)
@@ -60,7 +56,7 @@ does_test c f = popped_num (nums 2 1) c c (λ b d. pop_num d (λ a e. put_num (n
 
 does_written : (e : Effect) (c d : Config) (line : Line) (width : Option ℤ) (bytes : List ℕ) → HasEffect e c d → Does e c (written line width bytes d)
 does_written e c d line width bytes h =
-    does_if e c (is_width width) (Goes (some_out (in_places width bytes) d.store.counted) d) (Stops (Trapped TooLong line)) h tt
+    does_if e c (is_width width) (Goes (some_out (in_places width bytes) d.store.held.counted) d) (Stops (Trapped TooLong line) 0) h tt
 
 does_write_num : (w : ℕ) (c : Config) (line : Line) (show : ℤ → List ℕ) → Does (nums (1 + width_and w) 0) c (write_num w line show c)
 does_write_num zero c line show =
@@ -97,23 +93,15 @@ does_taken c next h = popped_num (nums 1 0) c c next (λ z rest is. behind_one z
   where
     behind_one : (z : ℤ) (rest : List ℤ) → c.nums ≡ z ∷ rest → (s : Step) → Does nothing (record c { nums = rest }) s → Does (nums 1 0) c s
     behind_one z rest is (Goes events next) m = record { nums = omega (arith, ap length is, m.nums); refs = m.refs }
-    behind_one z rest is (Stops e) m = tt
+    behind_one z rest is (Stops e touched) m = tt
     behind_one z rest is Stuck m = tt
-
-does_forward : (own to : ℕ) (c : Config) → Does nothing c (forward own to c)
-does_forward own to c = does_if nothing c (nat_lt own to) (on (record c { at = to })) Stuck (record { nums = refl; refs = refl }) tt
-
-does_back : (own to : ℕ) (c : Config) → Does nothing c (back own to c)
-does_back own to c =
-    does_if nothing c (nat_lt to own) (turn_to (spent c.store) to c) Stuck
-    (does_turn nothing c c to (spent c.store) (λ next n r. record { nums = omega (arith, ap length n); refs = omega (arith, ap length r) })) tt
 
 does_for_start : (own s to : ℕ) (line : Line) (c : Config) → Does nothing c (for_start own s to line c)
 does_for_start own s to line c =
     let turn = turn_to (spent c.store) c.at c in
     let goes = goes_on (c.locals.nums (s + 1)) (c.locals.nums (s + 2)) (c.locals.nums s) in
     does_if nothing c (is_num_slot c (s + 2)) (started own to line (c.locals.nums s) (c.locals.nums (s + 1)) (c.locals.nums (s + 2)) c) Stuck
-    (does_if nothing c (is_same (c.locals.nums (s + 2)) (pos 0)) (Stops (Trapped Bounds line)) (if goes then turn else forward own to c) tt
+    (does_if nothing c (is_same (c.locals.nums (s + 2)) (pos 0)) (Stops (Trapped Bounds line) 0) (if goes then turn else forward own to c) tt
     (does_if nothing c goes turn (forward own to c) (does_turn nothing c c c.at (spent c.store)
     (λ next n r. record { nums = omega (arith, ap length n); refs = omega (arith, ap length r) })) (does_forward own to c))) tt
 
@@ -217,6 +205,9 @@ does (WriteB w line) own c = does_write_num w c line _
 does (WriteT w line) own c = does_write_text w c line
 does (ForStart s t line) own c = does_for_start own s t line c
 does (ForNext s t) own c = does_for_next own s t c
+does (ScanT q s t line) own c = does_scan_on true own q s t line c
+does (ScanI q s t line) own c = does_scan_on false own q s t line c
+does (ScanMore s t) own c = does_scan_more own s t c
 does DupM own c =
     popped_num (nums 1 2) c c (λ z d. push_num z c) (λ z rest is. does_if (nums 1 2) c (nat_lt ((frame_in c.unit).nums + length c.nums) frame_words)
     (put_num z c) Stuck (record { nums = omega arith; refs = refl }) tt)

@@ -13,21 +13,23 @@ use Rattle.ps_meaning.specs.text_forms.declared.forms.Form.{Form}
 use Rattle.ps_meaning.specs.text_forms.declared.forms.Form.TheVariants as form
 use Rattle.ps_meaning.specs.text_forms.declared.forms.Rows.{Rows}
 use Rattle.ps_meaning.specs.text_forms.Forms.{forms_of, form_in, element_of, one_more, rows_of}
-use Rattle.ps_meaning.specs.Evaluation.{kept_as, kept_elements, text_relation, object_relation}
+use Rattle.ps_meaning.specs.Operations.{kept_as, kept_elements, text_relation, object_relation}
 use Rattle.ps_meaning.specs.Meaning.{Store, and_object, and_text, on_input}
 use Rattle.ps_heap.specs.Texts.{Attempt, Yields, Fails, join_of, part_of, line_read, behind_line, is_at_end}
-use Rattle.ps_heap.specs.Objects.{Heap, Object, Structure, new_number, is_class, field_of, with_field, vector_of, filled_vector, with_element, low_of, high_of, element_of as element_at}
+use Rattle.ps_heap.specs.Objects.{Heap, Object, Structure, new_number, is_class, field_of, with_field, vector_of, filled_vector, with_element, low_of, high_of, id_of, element_of as element_at}
+use Rattle.ps_heap.specs.Held.{reading, element_place}
+use Rattle.ps_heap.specs.Held as held
 use Rattle.ps_heap.specs.Values.{Value, Num, word_of, number_of}
 use Rattle.ps_heap.specs.Values as value
 use Rattle.ps_stepping.specs.Config.{frame_words, Config, frame_in, constant_at, constants_in}
 use Rattle.ps_stepping.specs.Steps.{Step, Stuck, on, put_num, push_num, push_ref, pop_num, pop_two, pop_text, text_in, with_text, attempted}
-use Rattle.ps_stepping.specs.Objects.{holding, changed, make, make_text, join, part, compare_texts, denoting_of, pop_denoting, compare_objects, object_of, pop_object, is_of_class, pop_fields, make_structure, when_number, when_reference, field_num, field_ref, set_field_num, set_field_ref, type_of, of_type, pop_vector, fill_num, fill_ref, pop_nums, pop_refs, list_num, list_ref, element_num, element_ref, set_element_num, set_element_ref, bound, read_line, at_end, text_length, int_text, library, acts_on_objects}
+use Rattle.ps_stepping.specs.Objects.{holding, having, changed, make, make_text, join, part, compare_texts, denoting_of, pop_denoting, compare_objects, object_of, pop_object, is_of_class, pop_fields, make_structure, when_number, when_reference, field_num, field_ref, set_field_num, set_field_ref, type_of, of_type, pop_vector, fill_num, fill_ref, pop_nums, pop_refs, list_num, list_ref, element_num, element_ref, set_element_num, set_element_ref, bound, acts_on_objects}
 use Rattle.ps_stepping.specs.Effects.{Effect, makes, nums, refs, both, library_effect, effect_of, HasEffect}
 use Rattle.ps_stepping.proofs.Popping.{Does, does_if, popped_num, popped_ref, popped_text, does_push_ref}
 
 -- A structure or nil, nil or any object, and a vector are popped.
 
-popped_object : (e : Effect) (c d : Config) (next : Value → Config → Step) →
+pub popped_object : (e : Effect) (c d : Config) (next : Value → Config → Step) →
     ((v : Value) (rest : List Value) → length d.refs ≡ suc (length rest) → Does e c (next v (record d { refs = rest }))) →
     Does e c (pop_object d next)
 popped_object e c d next h = popped_ref e c d (λ v d. object_of v d next) (λ v rest is. of_value v rest (ap length is))
@@ -61,15 +63,15 @@ popped_vector : (e : Effect) (c d : Config) (next : List ℕ → Value → Confi
     ((ty : List ℕ) (v : Value) (rest : List Value) → length d.refs ≡ suc (length rest) → Does e c (next ty v (record d { refs = rest }))) →
     Does e c (pop_vector d next)
 popped_vector e c d next h =
-    popped_ref e c d (λ v d. of_type (type_of d.store.heap v) (λ ty. next ty v d))
-    (λ v rest is. of_known (type_of d.store.heap v) v rest (ap length is))
+    popped_ref e c d (λ v d. of_type (type_of d.store.held.objects v) (λ ty. next ty v d))
+    (λ v rest is. of_known (type_of d.store.held.objects v) v rest (ap length is))
   where
     of_known : (ty : Option (List ℕ)) (v : Value) (rest : List Value) → length d.refs ≡ suc (length rest) →
         Does e c (of_type ty (λ ty. next ty v (record d { refs = rest })))
     of_known (Some ty) v rest is = h ty v rest is
     of_known None v rest is = tt
 
-does_attempted : {A : Type 0} (e : Effect) (c : Config) (line : Line) (a : Attempt A) (next : A → Step) → ((x : A) → Does e c (next x)) →
+pub does_attempted : {A : Type 0} (e : Effect) (c : Config) (line : Line) (a : Attempt A) (next : A → Step) → ((x : A) → Does e c (next x)) →
     Does e c (attempted line a next)
 does_attempted e c line (Yields x) next h = h x
 does_attempted e c line (Fails trap) next h = tt
@@ -147,44 +149,44 @@ does_compare_objects op c =
 
 does_is : (k : ℕ) (c : Config) → Does (both 0 1 1 0) c (is_of_class k c)
 does_is k c =
-    does_with_text (both 0 1 1 0) c k (λ class. pop_object c (λ v d. push_num (number_of (is_class d.store.heap v class)) d))
-    (λ class. popped_object (both 0 1 1 0) c c (λ v d. push_num (number_of (is_class d.store.heap v class)) d)
-    (λ v rest is. ends_num (both 0 1 1 0) c (record c { refs = rest }) (number_of (is_class c.store.heap v class))
+    does_with_text (both 0 1 1 0) c k (λ class. pop_object c (λ v d. push_num (number_of (is_class d.store.held.objects v class)) d))
+    (λ class. popped_object (both 0 1 1 0) c c (λ v d. push_num (number_of (is_class d.store.held.objects v class)) d)
+    (λ v rest is. ends_num (both 0 1 1 0) c (record c { refs = rest }) (number_of (is_class c.store.held.objects v class))
     (record { nums = omega arith; refs = omega (arith, is) })))
 
 does_field_num : (k n : ℕ) (line : Line) (c : Config) → Does (both 0 1 1 0) c (field_num k n line c)
 does_field_num k n line c =
     let e = both 0 1 1 0 in
     does_with_text e c k (λ class. when_number (form_in (forms_of class) n)
-    (pop_object c (λ v d. attempted line (field_of d.store.heap v class n) (λ w. push_num (word_of w) d))))
+    (pop_object c (λ v d. attempted line (field_of d.store.held.objects v class n) (λ w. push_num (word_of w) (having (reading w) d)))))
     (λ class. does_number e c (form_in (forms_of class) n) (pop_object c
-    (λ v d. attempted line (field_of d.store.heap v class n) (λ w. push_num (word_of w) d)))
-    (popped_object e c c (λ v d. attempted line (field_of d.store.heap v class n) (λ w. push_num (word_of w) d))
-    (λ v rest is. does_attempted e c line (field_of c.store.heap v class n) (λ w. push_num (word_of w) (record c { refs = rest }))
-    (λ w. ends_num e c (record c { refs = rest }) (word_of w) (record { nums = omega arith; refs = omega (arith, is) })))))
+    (λ v d. attempted line (field_of d.store.held.objects v class n) (λ w. push_num (word_of w) (having (reading w) d))))
+    (popped_object e c c (λ v d. attempted line (field_of d.store.held.objects v class n) (λ w. push_num (word_of w) (having (reading w) d)))
+    (λ v rest is. does_attempted e c line (field_of c.store.held.objects v class n) (λ w. push_num (word_of w) (having (reading w) (record c { refs = rest })))
+    (λ w. ends_num e c (having (reading w) (record c { refs = rest })) (word_of w) (record { nums = omega arith; refs = omega (arith, is) })))))
 
 does_field_ref : (k n : ℕ) (line : Line) (c : Config) → Does (refs 1 1) c (field_ref k n line c)
 does_field_ref k n line c =
     let e = refs 1 1 in
     does_with_text e c k (λ class. when_reference (form_in (forms_of class) n)
-    (pop_object c (λ v d. attempted line (field_of d.store.heap v class n) (λ w. push_ref w d))))
+    (pop_object c (λ v d. attempted line (field_of d.store.held.objects v class n) (λ w. push_ref w (having (reading w) d)))))
     (λ class. does_reference e c (form_in (forms_of class) n)
-    (pop_object c (λ v d. attempted line (field_of d.store.heap v class n) (λ w. push_ref w d)))
-    (popped_object e c c (λ v d. attempted line (field_of d.store.heap v class n) (λ w. push_ref w d))
-    (λ v rest is. does_attempted e c line (field_of c.store.heap v class n) (λ w. push_ref w (record c { refs = rest }))
-    (λ w. ends_ref e c (record c { refs = rest }) w (record { nums = refl; refs = omega (arith, is) })))))
+    (pop_object c (λ v d. attempted line (field_of d.store.held.objects v class n) (λ w. push_ref w (having (reading w) d))))
+    (popped_object e c c (λ v d. attempted line (field_of d.store.held.objects v class n) (λ w. push_ref w (having (reading w) d)))
+    (λ v rest is. does_attempted e c line (field_of c.store.held.objects v class n) (λ w. push_ref w (having (reading w) (record c { refs = rest })))
+    (λ w. ends_ref e c (having (reading w) (record c { refs = rest })) w (record { nums = refl; refs = omega (arith, is) })))))
 
 does_set_field_num : (k n : ℕ) (line : Line) (c : Config) → Does (both 1 0 1 0) c (set_field_num k n line c)
 does_set_field_num k n line c =
     let e = both 1 0 1 0 in
     does_with_text e c k _
     (λ class. does_number e c (form_in (forms_of class) n) _
-    (popped_num e c c (λ z d. pop_object d (λ v f. attempted line (with_field f.store.heap v class n (kept_as (form_in (forms_of class) n) (Num z)))
-    (λ heap. changed heap f)))
+    (popped_num e c c (λ z d. pop_object d (λ v f. attempted line (with_field f.store.held.objects v class n (kept_as (form_in (forms_of class) n) (Num z)))
+    (λ heap. changed (held.Part (id_of v) n) heap f)))
     (λ z rest is. popped_object e c (record c { nums = rest })
-    (λ v f. attempted line (with_field f.store.heap v class n (kept_as (form_in (forms_of class) n) (Num z))) (λ heap. changed heap f))
-    (λ v below is'. does_attempted e c line (with_field c.store.heap v class n (kept_as (form_in (forms_of class) n) (Num z)))
-    (λ heap. changed heap (record c { nums = rest; refs = below }))
+    (λ v f. attempted line (with_field f.store.held.objects v class n (kept_as (form_in (forms_of class) n) (Num z))) (λ heap. changed (held.Part (id_of v) n) heap f))
+    (λ v below is'. does_attempted e c line (with_field c.store.held.objects v class n (kept_as (form_in (forms_of class) n) (Num z)))
+    (λ heap. changed (held.Part (id_of v) n) heap (record c { nums = rest; refs = below }))
     (λ heap. record { nums = omega (arith, ap length is); refs = omega (arith, is') })))))
 
 does_set_field_ref : (k n : ℕ) (line : Line) (c : Config) → Does (refs 2 0) c (set_field_ref k n line c)
@@ -192,16 +194,16 @@ does_set_field_ref k n line c =
     let e = refs 2 0 in
     does_with_text e c k _
     (λ class. does_reference e c (form_in (forms_of class) n) _
-    (popped_ref e c c (λ w d. pop_object d (λ v f. attempted line (with_field f.store.heap v class n w) (λ heap. changed heap f)))
-    (λ w rest is. popped_object e c (record c { refs = rest }) (λ v f. attempted line (with_field f.store.heap v class n w) (λ heap. changed heap f))
-    (λ v below is'. does_attempted e c line (with_field c.store.heap v class n w) (λ heap. changed heap (record c { refs = below }))
+    (popped_ref e c c (λ w d. pop_object d (λ v f. attempted line (with_field f.store.held.objects v class n w) (λ heap. changed (held.Part (id_of v) n) heap f)))
+    (λ w rest is. popped_object e c (record c { refs = rest }) (λ v f. attempted line (with_field f.store.held.objects v class n w) (λ heap. changed (held.Part (id_of v) n) heap f))
+    (λ v below is'. does_attempted e c line (with_field c.store.held.objects v class n w) (λ heap. changed (held.Part (id_of v) n) heap (record c { refs = below }))
     (λ heap. record { nums = refl; refs = omega (arith, ap length is, is') })))))
 
 -- Vectors.
 
 does_make : (e : Effect) (c d : Config) (denoting : ℕ → Value) (object : Object) →
     ((v : Value) (store : Store) → HasEffect e c (record d { refs = v ∷ d.refs; store = store })) → Does e c (make denoting object d)
-does_make e c d denoting object h = ends_ref e c (holding (and_object object d.store) d) (denoting (new_number d.store.heap)) (h _ _)
+does_make e c d denoting object h = ends_ref e c (holding (and_object object d.store) d) (denoting (new_number d.store.held.objects)) (h _ _)
 
 does_fill_num : (k : ℕ) (line : Line) (c : Config) → Does (both 3 0 0 1) c (fill_num k line c)
 does_fill_num k line c =
@@ -278,57 +280,57 @@ does_list_ref k n line c =
 does_element_num : (line : Line) (c : Config) → Does (both 1 1 1 0) c (element_num line c)
 does_element_num line c =
     let e = both 1 1 1 0 in
-    popped_num e c c (λ i d. pop_vector d (λ ty v f. attempted line (element_at f.store.heap v i)
-    (λ w. when_number (Some (element_of ty)) (push_num (word_of w) f))))
+    popped_num e c c (λ i d. pop_vector d (λ ty v f. attempted line (element_at f.store.held.objects v i)
+    (λ w. when_number (Some (element_of ty)) (push_num (word_of w) (having (reading w) f)))))
     (λ i rest is. popped_vector e c (record c { nums = rest })
-    (λ ty v f. attempted line (element_at f.store.heap v i) (λ w. when_number (Some (element_of ty)) (push_num (word_of w) f)))
-    (λ ty v below is'. does_attempted e c line (element_at c.store.heap v i)
-    (λ w. when_number (Some (element_of ty)) (push_num (word_of w) (record c { nums = rest; refs = below })))
+    (λ ty v f. attempted line (element_at f.store.held.objects v i) (λ w. when_number (Some (element_of ty)) (push_num (word_of w) (having (reading w) f))))
+    (λ ty v below is'. does_attempted e c line (element_at c.store.held.objects v i)
+    (λ w. when_number (Some (element_of ty)) (push_num (word_of w) (having (reading w) (record c { nums = rest; refs = below }))))
     (λ w. does_number e c (Some (element_of ty)) _
-    (ends_num e c (record c { nums = rest; refs = below }) (word_of w) (record { nums = omega (arith, ap length is); refs = omega (arith, is') })))))
+    (ends_num e c (having (reading w) (record c { nums = rest; refs = below })) (word_of w) (record { nums = omega (arith, ap length is); refs = omega (arith, is') })))))
 
 does_element_ref : (line : Line) (c : Config) → Does (both 1 0 1 1) c (element_ref line c)
 does_element_ref line c =
     let e = both 1 0 1 1 in
-    popped_num e c c (λ i d. pop_vector d (λ ty v f. attempted line (element_at f.store.heap v i)
-    (λ w. when_reference (Some (element_of ty)) (push_ref w f))))
+    popped_num e c c (λ i d. pop_vector d (λ ty v f. attempted line (element_at f.store.held.objects v i)
+    (λ w. when_reference (Some (element_of ty)) (push_ref w (having (reading w) f)))))
     (λ i rest is. popped_vector e c (record c { nums = rest })
-    (λ ty v f. attempted line (element_at f.store.heap v i) (λ w. when_reference (Some (element_of ty)) (push_ref w f)))
-    (λ ty v below is'. does_attempted e c line (element_at c.store.heap v i)
-    (λ w. when_reference (Some (element_of ty)) (push_ref w (record c { nums = rest; refs = below })))
+    (λ ty v f. attempted line (element_at f.store.held.objects v i) (λ w. when_reference (Some (element_of ty)) (push_ref w (having (reading w) f))))
+    (λ ty v below is'. does_attempted e c line (element_at c.store.held.objects v i)
+    (λ w. when_reference (Some (element_of ty)) (push_ref w (having (reading w) (record c { nums = rest; refs = below }))))
     (λ w. does_reference e c (Some (element_of ty)) _
-    (ends_ref e c (record c { nums = rest; refs = below }) w (record { nums = omega (arith, ap length is); refs = omega (arith, is') })))))
+    (ends_ref e c (having (reading w) (record c { nums = rest; refs = below })) w (record { nums = omega (arith, ap length is); refs = omega (arith, is') })))))
 
 does_set_element_num : (line : Line) (c : Config) → Does (both 2 0 1 0) c (set_element_num line c)
 does_set_element_num line c =
     let e = both 2 0 1 0 in
     let put : List ℕ → Value → ℤ → ℤ → Config → Step =
-    λ ty v i z f. attempted line (with_element f.store.heap v i (kept_as (Some (element_of ty)) (Num z)))
-    (λ heap. when_number (Some (element_of ty)) (changed heap f)) in
+    λ ty v i z f. attempted line (with_element f.store.held.objects v i (kept_as (Some (element_of ty)) (Num z)))
+    (λ heap. when_number (Some (element_of ty)) (changed (element_place f.store.held.objects v i) heap f)) in
     popped_num e c c (λ z d. pop_num d (λ i e. pop_vector e (λ ty v f. put ty v i z f)))
     (λ z rest is. popped_num e c (record c { nums = rest }) (λ i e. pop_vector e (λ ty v f. put ty v i z f))
     (λ i below is'. popped_vector e c (record c { nums = below }) (λ ty v f. put ty v i z f)
-    (λ ty v left is''. does_attempted e c line (with_element c.store.heap v i (kept_as (Some (element_of ty)) (Num z)))
-    (λ heap. when_number (Some (element_of ty)) (changed heap (record c { nums = below; refs = left })))
+    (λ ty v left is''. does_attempted e c line (with_element c.store.held.objects v i (kept_as (Some (element_of ty)) (Num z)))
+    (λ heap. when_number (Some (element_of ty)) (changed (element_place c.store.held.objects v i) heap (record c { nums = below; refs = left })))
     (λ heap. does_number e c (Some (element_of ty)) _ (record { nums = omega (arith, ap length is, ap length is'); refs = omega (arith, is'') })))))
 
 does_set_element_ref : (line : Line) (c : Config) → Does (both 1 0 2 0) c (set_element_ref line c)
 does_set_element_ref line c =
     let e = both 1 0 2 0 in
     let put : List ℕ → Value → ℤ → Value → Config → Step =
-    λ ty v i w f. attempted line (with_element f.store.heap v i w) (λ heap. when_reference (Some (element_of ty)) (changed heap f)) in
+    λ ty v i w f. attempted line (with_element f.store.held.objects v i w) (λ heap. when_reference (Some (element_of ty)) (changed (element_place f.store.held.objects v i) heap f)) in
     popped_ref e c c (λ w d. pop_num d (λ i e. pop_vector e (λ ty v f. put ty v i w f)))
     (λ w rest is. popped_num e c (record c { refs = rest }) (λ i e. pop_vector e (λ ty v f. put ty v i w f))
     (λ i below is'. popped_vector e c (record c { nums = below; refs = rest }) (λ ty v f. put ty v i w f)
-    (λ ty v left is''. does_attempted e c line (with_element c.store.heap v i w)
-    (λ heap. when_reference (Some (element_of ty)) (changed heap (record c { nums = below; refs = left })))
+    (λ ty v left is''. does_attempted e c line (with_element c.store.held.objects v i w)
+    (λ heap. when_reference (Some (element_of ty)) (changed (element_place c.store.held.objects v i) heap (record c { nums = below; refs = left })))
     (λ heap. does_reference e c (Some (element_of ty)) _ (record
     { nums = omega (arith, ap length is'); refs = omega (arith, ap length is, is'') })))))
 
 does_bound : (of : Heap → Value → ℤ) (c : Config) → Does (both 0 1 1 0) c (bound of c)
 does_bound of c =
-    popped_vector (both 0 1 1 0) c c (λ ty v d. push_num (of d.store.heap v) d)
-    (λ ty v rest is. ends_num (both 0 1 1 0) c (record c { refs = rest }) (of c.store.heap v)
+    popped_vector (both 0 1 1 0) c c (λ ty v d. push_num (of d.store.held.objects v) d)
+    (λ ty v rest is. ends_num (both 0 1 1 0) c (record c { refs = rest }) (of c.store.held.objects v)
     (record { nums = omega arith; refs = omega (arith, is) }))
 
 -- the values of so many fields are popped, each from the stack of its form
@@ -387,41 +389,6 @@ does_make_structure k c =
       moved = record { nums = omega (arith, on_nums, many_nums); refs = omega (arith, on_refs, many_refs) };
     })))
 
--- The library.
-
-does_read_line : (line : Line) (c : Config) → Does (refs 0 1) c (read_line line c)
-does_read_line line c =
-    let d = holding (on_input (behind_line c.store.input) c.store) c in
-    does_attempted (refs 0 1) c line (line_read c.store.input) (λ bytes. make_text bytes d)
-    (λ bytes. ends_ref (refs 0 1) c (holding (and_text bytes d.store) d) (value.Text bytes) (record { nums = refl; refs = omega arith }))
-
-does_at_end : (c : Config) → Does (nums 0 1) c (at_end c)
-does_at_end c = ends_num (nums 0 1) c c (number_of (is_at_end c.store.input)) (record { nums = omega arith; refs = refl })
-
-does_text_length : (c : Config) → Does (both 0 1 1 0) c (text_length c)
-does_text_length c =
-    popped_text (both 0 1 1 0) c c (λ a d. push_num (pos (length a)) d)
-    (λ a rest is. ends_num (both 0 1 1 0) c (record c { refs = rest }) (pos (length a)) (record { nums = omega arith; refs = omega (arith, is) }))
-
-does_int_text : (c : Config) → Does (both 1 0 0 1) c (int_text c)
-does_int_text c =
-    popped_num (both 1 0 0 1) c c (λ z d. make_text (signed_decimal z) d)
-    (λ z rest is. ends_ref (both 1 0 0 1) c (holding (and_text (signed_decimal z) c.store) (record c { nums = rest })) (value.Text (signed_decimal z))
-    (record { nums = omega (arith, ap length is); refs = omega arith }))
-
--- where the number of a procedure of the library is this one, its effect is that one's
-at_number : (k n : ℕ) (b : Bool) → nat_eq k n ≡ b → (c : Config) (s t : Step) → Does (library_effect n) c s → Does (library_effect k) c t →
-    Does (library_effect k) c (if b then s else t)
-at_number k n true is c s t h g = subst (λ (m : ℕ). Does (library_effect m) c s) (sym (eqb-true k n is)) h
-at_number k n false is c s t h g = g
-
-does_library : (k : ℕ) (line : Line) (c : Config) → Does (library_effect k) c (library k line c)
-does_library k line c =
-    at_number k 9 (nat_eq k 9) refl c (read_line line c) _ (does_read_line line c)
-    (at_number k 10 (nat_eq k 10) refl c (at_end c) _ (does_at_end c)
-    (at_number k 11 (nat_eq k 11) refl c (text_length c) _ (does_text_length c)
-    (at_number k 12 (nat_eq k 12) refl c (int_text c) Stuck (does_int_text c) tt)))
-
 pub does_on_objects : (i : Instr) (c : Config) → Does (effect_of i) c (acts_on_objects i c)
 does_on_objects instr.Nil c = does_push_ref c value.Nil
 does_on_objects instr.EqP c = does_compare_objects relation.Equal c
@@ -450,5 +417,4 @@ does_on_objects (instr.SetElemM line) c = does_set_element_num line c
 does_on_objects (instr.SetElemP line) c = does_set_element_ref line c
 does_on_objects instr.Lwb c = does_bound low_of c
 does_on_objects instr.Upb c = does_bound high_of c
-does_on_objects (instr.Lib k line) c = does_library k line c
 does_on_objects i c = tt

@@ -9,6 +9,8 @@ use Rattle.ps_code.specs.ps_base.declared.instr.Instr.TheVariants as instr
 use Rattle.ps_heap.specs.Ends.{Trapped}
 use Rattle.ps_heap.specs.Objects.{Heap, Structure, Elements, is_class, field_of, with_field, vector_of, filled_vector, with_element, low_of, high_of, is_one_object, element_of as element_at}
 use Rattle.ps_heap.specs.Values.{Value, Num, Flag, Text, Nil, Pointer, Vector}
+use Rattle.ps_heap.specs.Held.{home_at, touched_after, touched_weight, is_first_touch, places_with, way_out}
+use Rattle.ps_heap.proofs.Scenes.{uncommitted}
 use Rattle.ps_stepping.specs.Config.{Config}
 use Rattle.ps_stepping.specs.Steps.{Stops, Stuck, on}
 use Rattle.ps_stepping.specs.Objects.{acts_on_objects}
@@ -39,12 +41,12 @@ at nums refs heap = record {
   locals = record { nums = λ s. pos 0; refs = λ s. Nil };
   scope = None;
   callers = [];
-  store = record { turns = 0; heap = heap; input = []; counted = 0 };
+  store = record { turns = 0; input = []; held = uncommitted heap 0 };
 }
 
 -- where so many bytes are counted
 abbrev counting : ℕ → Config → Config
-counting counted c = record c { store = record c.store { counted = counted } }
+counting counted c = record c { store = record c.store { held = record c.store.held { counted = counted } } }
 
 -- a full box with 3
 abbrev a_box : Heap
@@ -62,26 +64,26 @@ unfolding forms_of forms_from form_here begins
 make_takes_each_field = refl
 
 number_is_read : acts_on_objects (instr.FieldM 0 0 line) (at [] (Pointer 0 ∷ []) heap) ≡ on (at (pos 3 ∷ []) [] heap)
-unfolding forms_of forms_from form_here form_in begins field_of
+unfolding forms_of forms_from form_here form_in begins field_of home_at touched_after touched_weight is_first_touch places_with way_out
 number_is_read = refl
 
 reference_is_read : acts_on_objects (instr.FieldP 0 2 line) (at [] (Pointer 0 ∷ []) heap) ≡ on (at [] (Nil ∷ []) heap)
-unfolding forms_of forms_from form_here form_in begins field_of
+unfolding forms_of forms_from form_here form_in begins field_of home_at touched_after touched_weight is_first_touch places_with way_out
 reference_is_read = refl
 
 -- a reference isn't read as a number
 number_of_a_reference : acts_on_objects (instr.FieldM 0 2 line) (at [] (Pointer 0 ∷ []) heap) ≡ Stuck
-unfolding forms_of forms_from form_here form_in begins
+unfolding forms_of forms_from form_here form_in begins home_at touched_after touched_weight is_first_touch places_with way_out
 number_of_a_reference = refl
 
-nil_has_no_field : acts_on_objects (instr.FieldM 0 0 line) (at [] (Nil ∷ []) heap) ≡ Stops (Trapped trap.Nil line)
-unfolding forms_of forms_from form_here form_in begins field_of
+nil_has_no_field : acts_on_objects (instr.FieldM 0 0 line) (at [] (Nil ∷ []) heap) ≡ Stops (Trapped trap.Nil line) 0
+unfolding forms_of forms_from form_here form_in begins field_of home_at touched_after touched_weight is_first_touch places_with way_out
 nil_has_no_field = refl
 
 -- a bool is kept as a bool
 flag_is_put : acts_on_objects (instr.SetFieldM 0 1 line) (at (pos 0 ∷ []) (Pointer 0 ∷ []) a_box)
     ≡ on (at [] [] (Structure box (Num (pos 3) ∷ Flag false ∷ Nil ∷ []) ∷ []))
-unfolding forms_of forms_from form_here form_in begins with_field
+unfolding forms_of forms_from form_here form_in begins with_field home_at touched_after touched_weight is_first_touch places_with way_out
 flag_is_put = refl
 
 is_a_box : acts_on_objects (instr.Is 0) (at [] (Pointer 0 ∷ []) heap) ≡ on (at (pos 1 ∷ []) [] heap)
@@ -106,17 +108,17 @@ unfolding element_of is_text vector_of
 elements_in_their_order = refl
 
 element_is_read : acts_on_objects (instr.ElemM line) (at (pos 6 ∷ []) (Vector 1 ∷ []) heap) ≡ on (at (pos 9 ∷ []) [] heap)
-unfolding element_of is_text element_at
+unfolding element_of is_text element_at home_at touched_after touched_weight is_first_touch places_with way_out
 element_is_read = refl
 
-element_past_the_end : acts_on_objects (instr.ElemM line) (at (pos 7 ∷ []) (Vector 1 ∷ []) heap) ≡ Stops (Trapped trap.Bounds line)
-unfolding element_of is_text element_at
+element_past_the_end : acts_on_objects (instr.ElemM line) (at (pos 7 ∷ []) (Vector 1 ∷ []) heap) ≡ Stops (Trapped trap.Bounds line) 0
+unfolding element_of is_text element_at home_at touched_after touched_weight is_first_touch places_with way_out
 element_past_the_end = refl
 
 string_is_put : acts_on_objects (instr.SetElemP line)
     (at (pos 1 ∷ []) (Text (codes "c") ∷ Vector 0 ∷ []) (Elements strings (pos 1) (Text (codes "a") ∷ []) ∷ []))
     ≡ on (at [] [] (Elements strings (pos 1) (Text (codes "c") ∷ []) ∷ []))
-unfolding element_of is_text with_element
+unfolding element_of is_text with_element home_at touched_after touched_weight is_first_touch places_with way_out
 string_is_put = refl
 
 -- the left text stands below
@@ -125,7 +127,7 @@ texts_are_joined : acts_on_objects (instr.Join line) (at [] (Text (codes "c") �
 texts_are_joined = refl
 
 -- three bytes of four from the third on
-part_past_the_end : acts_on_objects (instr.Part line) (at (pos 3 ∷ pos 3 ∷ []) (Text (codes "abcd") ∷ []) []) ≡ Stops (Trapped trap.Substring line)
+part_past_the_end : acts_on_objects (instr.Part line) (at (pos 3 ∷ pos 3 ∷ []) (Text (codes "abcd") ∷ []) []) ≡ Stops (Trapped trap.Substring line) 0
 part_past_the_end = refl
 
 low_is_pushed : acts_on_objects instr.Lwb (at [] (Vector 1 ∷ []) heap) ≡ on (at (pos 5 ∷ []) [] heap)
@@ -145,7 +147,7 @@ bound_of_a_structure : acts_on_objects instr.Lwb (at [] (Pointer 0 ∷ []) heap)
 bound_of_a_structure = refl
 
 number_in_a_vector_of_strings : acts_on_objects (instr.ElemM line) (at (pos 1 ∷ []) (Vector 2 ∷ []) heap) ≡ Stuck
-unfolding element_of is_text element_at
+unfolding element_of is_text element_at home_at touched_after touched_weight is_first_touch places_with way_out
 number_in_a_vector_of_strings = refl
 
 nil_is_no_text : acts_on_objects (instr.Join line) (at [] (Nil ∷ Text (codes "ab") ∷ []) []) ≡ Stuck

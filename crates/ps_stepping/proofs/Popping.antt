@@ -1,7 +1,7 @@
 -- What a step does to the stacks, where it begins with something that is popped.
 use Rattle.std.proofs.Common.{◌≡◌, ℕ, suc, ◌+◌, ℤ, Bool, true, false, List, [], ◌∷◌, length, refl, ap, subst, arith}
 use Rattle.std.specs.Prelude.{nat_lt, if◌then◌else◌}
-use Rattle.ps_meaning.specs.Event.{Event}
+use Rattle.ps_heap.specs.Events.{Event}
 use Rattle.ps_heap.specs.Values.{Value}
 use Rattle.ps_heap.specs.Values as value
 use Rattle.ps_stepping.specs.Config.{frame_words, Config, frame_in}
@@ -10,7 +10,7 @@ use Rattle.ps_stepping.specs.Effects.{Effect, refs, HasEffect}
 
 abbrev pub Does : Effect → Config → Step → Type 0
 Does e c (Goes events next) = HasEffect e c next
-Does e c (Stops x) = Unit {0}
+Does e c (Stops x touched) = Unit {0}
 Does e c Stuck = Unit {0}
 
 pub does_if : (e : Effect) (c : Config) (b : Bool) (x y : Step) → Does e c x → Does e c y → Does e c (if b then x else y)

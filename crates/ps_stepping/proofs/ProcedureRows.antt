@@ -7,14 +7,17 @@ use Rattle.ps_code.specs.ps_base.declared.line.Line.{Line}
 use Rattle.ps_code.specs.ps_base.declared.trap.Trap.TheVariants as trap
 use Rattle.ps_code.specs.ps_base.declared.instr.Instr.TheVariants as instr
 use Rattle.ps_heap.specs.Ends.{Trapped, OutOfTurns}
-use Rattle.ps_meaning.specs.Event.{Turn}
+use Rattle.ps_heap.specs.Events.{Turn}
 use Rattle.ps_heap.specs.Objects.{Heap, Object, Scope}
 use Rattle.ps_heap.specs.Scopes.{new_scope, scope_out, name_in, with_name}
 use Rattle.ps_heap.specs.Texts.{line_read, line_of, behind_line}
 use Rattle.ps_heap.specs.Values.{Value, Num, Flag, Text, Nil, Procedure, as_compiled}
+use Rattle.ps_heap.specs.Held.{home_at, touched_after, touched_weight, is_first_touch, places_with, way_out}
+use Rattle.ps_heap.specs.Library.{library_procedure}
+use Rattle.ps_heap.proofs.Scenes.{uncommitted}
 use Rattle.ps_stepping.specs.Config.{Config}
 use Rattle.ps_stepping.specs.Steps.{Goes, Stops, Stuck, on}
-use Rattle.ps_stepping.specs.Objects.{read_line, at_end}
+use Rattle.ps_stepping.specs.Library.{read_line, at_end}
 use Rattle.ps_stepping.specs.Procedures.{acts_on_procedures, waiting, body_of_call, called}
 
 abbrev line : Line
@@ -44,12 +47,12 @@ at nums refs heap scope = record {
   locals = record { nums = λ s. pos 0; refs = λ s. Nil };
   scope = scope;
   callers = [];
-  store = record { turns = 1; heap = heap; input = []; counted = 0 };
+  store = record { turns = 1; input = []; held = uncommitted heap 0 };
 }
 
 -- where so many bytes are counted
 abbrev counting : ℕ → Config → Config
-counting counted c = record c { store = record c.store { counted = counted } }
+counting counted c = record c { store = record c.store { held = record c.store.held { counted = counted } } }
 
 -- a scope with a string, and inside it one with an int and a bool
 abbrev outer : Object
@@ -79,38 +82,38 @@ leaves_no_scope = refl
 
 -- levels are counted outward from the current scope
 own_name : acts_on_procedures (instr.KeptM 0 0) (at [] [] scopes (Some 1)) ≡ on (at (pos 3 ∷ []) [] scopes (Some 1))
-unfolding forms_of forms_from form_here form_in begins scope_out name_in
+unfolding forms_of forms_from form_here form_in begins scope_out name_in home_at touched_after touched_weight is_first_touch places_with way_out
 own_name = refl
 
 bool_is_a_number : acts_on_procedures (instr.KeptM 0 1) (at [] [] scopes (Some 1)) ≡ on (at (pos 1 ∷ []) [] scopes (Some 1))
-unfolding forms_of forms_from form_here form_in begins scope_out name_in
+unfolding forms_of forms_from form_here form_in begins scope_out name_in home_at touched_after touched_weight is_first_touch places_with way_out
 bool_is_a_number = refl
 
 outer_name : acts_on_procedures (instr.KeptP 1 0) (at [] [] scopes (Some 1)) ≡ on (at [] (Text (codes "a") ∷ []) scopes (Some 1))
-unfolding forms_of forms_from form_here form_in begins scope_out name_in
+unfolding forms_of forms_from form_here form_in begins scope_out name_in home_at touched_after touched_weight is_first_touch places_with way_out
 outer_name = refl
 
 reference_as_a_number : acts_on_procedures (instr.KeptM 1 0) (at [] [] scopes (Some 1)) ≡ Stuck
-unfolding forms_of forms_from form_here form_in begins scope_out
+unfolding forms_of forms_from form_here form_in begins scope_out home_at touched_after touched_weight is_first_touch places_with way_out
 reference_as_a_number = refl
 
 no_such_name : acts_on_procedures (instr.KeptM 0 2) (at [] [] scopes (Some 1)) ≡ Stuck
-unfolding forms_of forms_from form_here form_in begins scope_out
+unfolding forms_of forms_from form_here form_in begins scope_out home_at touched_after touched_weight is_first_touch places_with way_out
 no_such_name = refl
 
 no_such_level : acts_on_procedures (instr.KeptM 2 0) (at [] [] scopes (Some 1)) ≡ Stuck
-unfolding scope_out
+unfolding scope_out home_at touched_after touched_weight is_first_touch places_with way_out
 no_such_level = refl
 
 -- a bool's name keeps whether a number is above 0
 kept_as_a_bool : acts_on_procedures (instr.KeepM 0 1) (at (pos 0 ∷ []) [] scopes (Some 1)) ≡ on
     (at [] [] (outer ∷ Scope inner_text (Some 0) (Num (pos 3) ∷ Flag false ∷ []) ∷ []) (Some 1))
-unfolding forms_of forms_from form_here form_in begins scope_out with_name
+unfolding forms_of forms_from form_here form_in begins scope_out with_name home_at touched_after touched_weight is_first_touch places_with way_out
 kept_as_a_bool = refl
 
 kept_outside : acts_on_procedures (instr.KeepP 1 0) (at [] (Text (codes "b") ∷ []) scopes (Some 1)) ≡ on
     (at [] [] (Scope outer_text None (Text (codes "b") ∷ []) ∷ Scope inner_text (Some 0) (Num (pos 3) ∷ Flag true ∷ []) ∷ []) (Some 1))
-unfolding forms_of forms_from form_here form_in begins scope_out with_name
+unfolding forms_of forms_from form_here form_in begins scope_out with_name home_at touched_after touched_weight is_first_touch places_with way_out
 kept_outside = refl
 
 -- a procedure has the scope that it is made in, and counts seven words
@@ -129,8 +132,8 @@ unfoldable waits : Config
 waits = at (pos 8 ∷ []) (Nil ∷ []) scopes None
 
 call_takes_a_turn : acts_on_procedures (instr.Call 1 line) ready ≡ Goes (Turn 0 ∷ [])
-    (body_of_call body (Some 1) (pos 5 ∷ []) (Text (codes "x") ∷ []) (record { turns = 0; heap = scopes; input = []; counted = 0 }) waits)
-unfolding ready waits
+    (body_of_call body (Some 1) (pos 5 ∷ []) (Text (codes "x") ∷ []) (record { turns = 0; input = []; held = uncommitted scopes 0 }) waits)
+unfolding ready waits home_at touched_after touched_weight is_first_touch places_with way_out
 call_takes_a_turn = refl
 
 -- the first argument is the first local
@@ -139,12 +142,13 @@ of_two = unit [] no_constants (record { nums = 2; refs = 0; num_params = 2; ref_
 
 first_argument_first : acts_on_procedures (instr.Call 0 line) (at (pos 5 ∷ pos 4 ∷ []) (Procedure (as_compiled of_two) None ∷ []) [] None)
     ≡ Goes (Turn 0 ∷ [])
-    (body_of_call of_two None (pos 4 ∷ pos 5 ∷ []) [] (record { turns = 0; heap = []; input = []; counted = 0 }) (at [] [] [] None))
+    (body_of_call of_two None (pos 4 ∷ pos 5 ∷ []) [] (record { turns = 0; input = []; held = uncommitted [] 0 }) (at [] [] [] None))
+unfolding home_at touched_after touched_weight is_first_touch places_with way_out
 first_argument_first = refl
 
 -- the body that is called stands in the procedure's scope, over nothing, and its other locals are 0 and nil
 called_body : Config
-called_body = body_of_call body (Some 1) (pos 5 ∷ []) (Text (codes "x") ∷ []) (record { turns = 0; heap = scopes; input = []; counted = 0 }) waits
+called_body = body_of_call body (Some 1) (pos 5 ∷ []) (Text (codes "x") ∷ []) (record { turns = 0; input = []; held = uncommitted scopes 0 }) waits
 
 called_body_begins : called_body ≡ record {
   unit = body;
@@ -154,45 +158,45 @@ called_body_begins : called_body ≡ record {
   locals = record { nums = λ slot. get_or (pos 5 ∷ []) slot (pos 0); refs = λ slot. get_or (Text (codes "x") ∷ []) slot Nil };
   scope = Some 1;
   callers = waiting waits ∷ [];
-  store = record { turns = 0; heap = scopes; input = []; counted = 0 };
+  store = record { turns = 0; input = []; held = uncommitted scopes 0 };
 }
 unfolding called_body waits
 called_body_begins = refl
 
-no_turn_is_left : acts_on_procedures (instr.Call 1 line) (record ready { store = record ready.store { turns = 0 } }) ≡ Stops OutOfTurns
-unfolding ready
+no_turn_is_left : acts_on_procedures (instr.Call 1 line) (record ready { store = record ready.store { turns = 0 } }) ≡ Stops OutOfTurns 0
+unfolding ready home_at touched_after touched_weight is_first_touch places_with way_out
 no_turn_is_left = refl
 
 another_number_of_arguments : acts_on_procedures (instr.Call 0 line) (record ready { refs = Procedure (as_compiled body) None ∷ [] }) ≡ Stuck
-unfolding ready
+unfolding ready home_at touched_after touched_weight is_first_touch places_with way_out
 another_number_of_arguments = refl
 
 call_of_nil : acts_on_procedures (instr.Call 1 line) (record ready { refs = Text [] ∷ Nil ∷ [] }) ≡ Stuck
-unfolding ready
+unfolding ready home_at touched_after touched_weight is_first_touch places_with way_out
 call_of_nil = refl
 
 argument_missing : acts_on_procedures (instr.Call 1 line) (record ready { nums = [] }) ≡ Stuck
-unfolding ready
+unfolding ready home_at touched_after touched_weight is_first_touch places_with way_out
 argument_missing = refl
 
 -- 2,000 calls are made inside one another, and none deeper, whether or not a turn is left
 last_depth : called 1999 line body None [] [] ready ≡ Goes (Turn 0 ∷ []) (body_of_call body None [] [] (record ready.store { turns = 0 }) ready)
-unfolding ready
+unfolding ready touched_after touched_weight
 last_depth = refl
 
-too_deep : called 2000 line body None [] [] (record ready { store = record ready.store { turns = 0 } }) ≡ Stops (Trapped trap.TooDeep line)
+too_deep : called 2000 line body None [] [] (record ready { store = record ready.store { turns = 0 } }) ≡ Stops (Trapped trap.TooDeep line) 0
 unfolding ready
 too_deep = refl
 
 -- a line of the input is a text, and its newline is passed over
 reading : List ℕ → Config
-reading input = record (at [] [] [] None) { store = record { turns = 0; heap = []; input = input; counted = 0 } }
+reading input = record (at [] [] [] None) { store = record { turns = 0; input = input; held = uncommitted [] 0 } }
 
-line_is_read : read_line line (reading (97 ∷ 98 ∷ 10 ∷ 99 ∷ [])) ≡ on (record (reading (codes "c")) { refs = Text (codes "ab") ∷ []; store = record { turns = 0; heap = []; input = codes "c"; counted = 48 } })
+line_is_read : read_line line (reading (97 ∷ 98 ∷ 10 ∷ 99 ∷ [])) ≡ on (record (reading (codes "c")) { refs = Text (codes "ab") ∷ []; store = record { turns = 0; input = codes "c"; held = uncommitted [] 48 } })
 unfolding reading line_read line_of behind_line
 line_is_read = refl
 
-no_line_is_left : read_line line (reading []) ≡ Stops (Trapped trap.NoInput line)
+no_line_is_left : read_line line (reading []) ≡ Stops (Trapped trap.NoInput line) 0
 unfolding reading line_read
 no_line_is_left = refl
 
@@ -205,10 +209,10 @@ unfolding reading
 something_is_left = refl
 
 -- both by their numbers in the library
-line_by_its_number : acts_on_procedures (instr.Lib 9 line) (reading []) ≡ Stops (Trapped trap.NoInput line)
-unfolding reading line_read
+line_by_its_number : acts_on_procedures (instr.Lib 9 line) (reading []) ≡ Stops (Trapped trap.NoInput line) 0
+unfolding library_procedure reading line_read
 line_by_its_number = refl
 
 end_by_its_number : acts_on_procedures (instr.Lib 10 line) (reading []) ≡ on (record (reading []) { nums = pos 1 ∷ [] })
-unfolding reading
+unfolding library_procedure reading
 end_by_its_number = refl

@@ -6,9 +6,10 @@ use Rattle.ps_code.specs.ps_base.declared.line.Line.{Line}
 use Rattle.ps_code.specs.ps_base.declared.trap.Trap.TheVariants.{Bounds}
 use Rattle.ps_code.specs.ps_base.declared.instr.Instr.TheVariants as instr
 use Rattle.ps_heap.specs.Ends.{Trapped, OutOfTurns, Done}
-use Rattle.ps_meaning.specs.Event.{Turn}
+use Rattle.ps_heap.specs.Events.{Turn}
 use Rattle.ps_heap.specs.Values.{Nil}
 use Rattle.ps_meaning.specs.Meaning.{with_local}
+use Rattle.ps_heap.proofs.Scenes.{uncommitted}
 use Rattle.ps_stepping.specs.Config.{Caller, Config}
 use Rattle.ps_stepping.specs.Machine.{Goes, Stops, Stuck, on, act}
 
@@ -32,7 +33,7 @@ at offset nums turns = record {
   locals = record { nums = λ s. pos 0; refs = λ s. Nil };
   scope = None;
   callers = [];
-  store = record { turns = turns; heap = []; input = []; counted = 0 };
+  store = record { turns = turns; input = []; held = uncommitted [] 0 };
 }
 
 abbrev loop : ℕ → (ℕ → ℤ) → ℕ → Config
@@ -44,7 +45,7 @@ again_goes_on_at_false = refl
 again_takes_a_turn : act (instr.Again 0) (at 10 (pos 1 ∷ []) 2) ≡ Goes (Turn 0 ∷ []) (at 0 [] 1)
 again_takes_a_turn = refl
 
-no_turn_is_left : act (instr.Again 0) (at 10 (pos 1 ∷ []) 0) ≡ Stops OutOfTurns
+no_turn_is_left : act (instr.Again 0) (at 10 (pos 1 ∷ []) 0) ≡ Stops OutOfTurns 0
 no_turn_is_left = refl
 
 -- a jump back is none forward
@@ -66,7 +67,7 @@ for_start_passes_the_loop : act (instr.ForStart 0 60 line) (loop 10 (three 4 3 1
 for_start_passes_the_loop = refl
 
 -- for i = 1 to 3 by 0
-step_is_0 : act (instr.ForStart 0 60 line) (loop 10 (three 1 3 0) 2) ≡ Stops (Trapped Bounds line)
+step_is_0 : act (instr.ForStart 0 60 line) (loop 10 (three 1 3 0) 2) ≡ Stops (Trapped Bounds line) 0
 step_is_0 = refl
 
 for_next_takes_a_turn : act (instr.ForNext 0 23) (loop 51 (three 1 3 1) 2) ≡ Goes (Turn 0 ∷ []) (loop 23 (with_local (three 1 3 1) 0 (pos 2)) 1)
@@ -83,7 +84,7 @@ waiting = record { unit = code; at = 70; nums = pos 9 ∷ []; refs = []; locals 
 return_hands_the_number_over : act (instr.Return 1) (record (at 10 (pos 5 ∷ []) 2) { callers = waiting ∷ [] }) ≡ on (at 70 (pos 5 ∷ pos 9 ∷ []) 2)
 return_hands_the_number_over = refl
 
-return_ends_the_run : act (instr.Return 0) (at 10 [] 2) ≡ Stops Done
+return_ends_the_run : act (instr.Return 0) (at 10 [] 2) ≡ Stops Done 0
 return_ends_the_run = refl
 
 -- one that waits with 512 numbers in its frame: nothing more is pushed there

@@ -1,6 +1,6 @@
 -- What the machine does with each instruction. It never leaves the code, a stack or the frame: where it would, it is stuck, and so it
 -- is where what it finds isn't what the instruction wants.
-use Rattle.std.specs.Prelude.{◌≡◌, ℕ, zero, suc, ◌+◌, ℤ, pos, ◌+ℤ◌, not, List, [], ◌∷◌, ◌++◌, nat_lt, Option, Some, None, if◌then◌else◌}
+use Rattle.std.specs.Prelude.{◌≡◌, Bool, ℕ, zero, suc, ◌+◌, ℤ, pos, ◌+ℤ◌, true, false, not, List, [], ◌∷◌, ◌++◌, nat_lt, Option, Some, None, if◌then◌else◌}
 use Rattle.std.specs.Fmt.{signed_decimal}
 use Rattle.ps_code.specs.ps_base.CodeUnit.{ConstantView, text, literal}
 use Rattle.ps_code.specs.ps_base.Instr.{width_of}
@@ -9,32 +9,23 @@ use Rattle.ps_code.specs.ps_base.declared.trap.Trap.TheVariants.{Bounds, Abort a
 use Rattle.ps_code.specs.ps_base.declared.operator.Operator.TheVariants as operator
 use Rattle.ps_code.specs.ps_base.declared.operator.Relation.TheVariants as relation
 use Rattle.ps_code.specs.ps_base.declared.instr.Instr.{Instr}
-use Rattle.ps_code.specs.ps_base.declared.instr.Instr.TheVariants.{Int, True, False, Text, GetM, GetP, SetM, SetP, Jump, JumpFalse, Again, And, Or, Not, Neg, Add, Sub, Mul, Div, Rem, EqM, NeM, LtM, LeM, GtM, GeM, Return, WriteI, WriteB, WriteT, Abort, ForStart, ForNext, DupM, DupP, DropM, DropP, JumpTrue}
+use Rattle.ps_code.specs.ps_base.declared.instr.Instr.TheVariants.{Int, True, False, Text, GetM, GetP, SetM, SetP, Jump, JumpFalse, Again, And, Or, Not, Neg, Add, Sub, Mul, Div, Rem, EqM, NeM, LtM, LeM, GtM, GeM, Return, WriteI, WriteB, WriteT, Abort, ForStart, ForNext, ScanT, ScanI, ScanMore, DupM, DupP, DropM, DropP, JumpTrue}
 use Rattle.ps_heap.specs.Operators.{is_same, neg_of, arith_of, relation_of}
-use Rattle.ps_heap.specs.Ends.{End, Done, Trapped, OutOfTurns}
-use Rattle.ps_meaning.specs.Event.{Event, Turn, Finish}
+use Rattle.ps_heap.specs.Ends.{End, Done, Trapped}
+use Rattle.ps_heap.specs.Events.{Event, Finish}
 use Rattle.ps_heap.specs.Values.{Value, number_of, is_one, flag_text, bytes_of}
 use Rattle.ps_heap.specs.Values as value
 use Rattle.ps_meaning.specs.Meaning.{Store, some_out, in_places, is_width, spent}
-use Rattle.ps_meaning.specs.Evaluation.{goes_on}
-pub use Rattle.ps_stepping.specs.Steps.{Step, Goes, Stops, Stuck, on, put_num, push_num, push_ref, pop_num_of, pop_num, pop_ref_of, pop_ref, pop_two, is_num_slot, is_ref_slot, with_num, with_ref, answered, one_num, two_nums, test, text_of, pop_text, with_text, attempted}
+use Rattle.ps_meaning.specs.Loops.{goes_on}
+pub use Rattle.ps_stepping.specs.Steps.{Step, Goes, Stops, Stuck, and_touched, on, put_num, push_num, push_ref, pop_num_of, pop_num, pop_ref_of, pop_ref, pop_two, is_num_slot, is_ref_slot, with_num, with_ref, answered, one_num, two_nums, test, text_of, pop_text, with_text, attempted}
+pub use Rattle.ps_stepping.specs.Jumps.{forward, turn_to, back}
+use Rattle.ps_stepping.specs.Scans.{scan_on, scan_more}
 use Rattle.ps_stepping.specs.Procedures.{num_back, ref_back, acts_on_procedures}
 use Rattle.ps_stepping.specs.Config.{Caller, Config, code_in, constants_in, constant_at, IsAt}
 
--- Jumps: forward to a greater offset than that of the jump itself, and back to a smaller one, which takes a turn.
-abbrev pub forward : ℕ → ℕ → Config → Step
-forward own to c = if nat_lt own to then on (record c { at = to }) else Stuck
-
-abbrev pub turn_to : Option Store → ℕ → Config → Step
-turn_to None to c = Stops OutOfTurns
-turn_to (Some store) to c = Goes (Turn store.counted ∷ []) (record c { at = to; store = store })
-
-abbrev pub back : ℕ → ℕ → Config → Step
-back own to c = if nat_lt to own then turn_to (spent c.store) to c else Stuck
-
 -- Writing.
 abbrev pub written : Line → Option ℤ → List ℕ → Config → Step
-written line width bytes c = if is_width width then Goes (some_out (in_places width bytes) c.store.counted) c else Stops (Trapped TooLong line)
+written line width bytes c = if is_width width then Goes (some_out (in_places width bytes) c.store.held.counted) c else Stops (Trapped TooLong line) 0
 
 -- a width was pushed above the item, or none
 abbrev pub pop_width : ℕ → Config → (Option ℤ → Config → Step) → Step
@@ -57,7 +48,7 @@ push_text None c = Stuck
 -- Loops by `for`: the control, the limit and the step stand in three locals from this one on.
 abbrev pub started : ℕ → ℕ → Line → ℤ → ℤ → ℤ → Config → Step
 started own to line control limit step c =
-    if is_same step (pos 0) then Stops (Trapped Bounds line)
+    if is_same step (pos 0) then Stops (Trapped Bounds line) 0
     else (if goes_on limit step control then turn_to (spent c.store) c.at c else forward own to c)
 
 abbrev pub for_start : ℕ → ℕ → ℕ → Line → Config → Step
@@ -85,7 +76,7 @@ resumed caller nums refs callers store = record {
 }
 
 abbrev pub come_back : List Caller → (Caller → Step → Step) → (Caller → List ℤ) → (Caller → List Value) → Config → Step
-come_back [] room nums refs c = Stops Done
+come_back [] room nums refs c = Stops Done 0
 come_back (caller ∷ callers) room nums refs c = room caller (on (resumed caller (nums caller) (refs caller) callers c.store))
 
 abbrev pub returned : ℕ → Config → Step
@@ -128,9 +119,12 @@ acts (Return k) own c = returned k c
 acts (WriteI w line) own c = write_num w line signed_decimal c
 acts (WriteB w line) own c = write_num w line (λ z. flag_text (is_one z)) c
 acts (WriteT w line) own c = write_text w line c
-acts (Abort line) own c = Stops (Trapped Aborted line)
+acts (Abort line) own c = Stops (Trapped Aborted line) 0
 acts (ForStart s t line) own c = for_start own s t line c
 acts (ForNext s t) own c = for_next own s t c
+acts (ScanT q s t line) own c = scan_on true own q s t line c
+acts (ScanI q s t line) own c = scan_on false own q s t line c
+acts (ScanMore s t) own c = scan_more own s t c
 acts DupM own c = pop_num c (λ z d. push_num z c)
 acts DupP own c = pop_ref c (λ v d. push_ref v c)
 acts DropM own c = pop_num c (λ z d. on d)
@@ -149,7 +143,15 @@ pub data Steps (c : Config) : Step → Type 0 where
   at_instruction : {i : Instr} → IsAt (code_in c.unit) c.at i → Steps c (act i c)
   at_nothing : ((i : Instr) → IsAt (code_in c.unit) c.at i → ⊥) → Steps c Stuck
 
+-- A run whose instructions are all such as may run, and that has had these events so far, has all of these in the end.
+pub data RunsBy (may : Instr → Bool) (total : List Event) : Config → List Event → Type 0 where
+  goes_by : {c next : Config} {so_far events : List Event} {i : Instr} → IsAt (code_in c.unit) c.at i → may i ≡ true → act i c ≡ Goes events next →
+      RunsBy may total next (so_far ++ events) → RunsBy may total c so_far
+  stops_by : {c : Config} {so_far : List Event} {e : End} {touched : ℕ} {i : Instr} → IsAt (code_in c.unit) c.at i → may i ≡ true →
+      act i c ≡ Stops e touched → total ≡ so_far ++ Finish e (and_touched touched c.store.held.counted) ∷ [] → RunsBy may total c so_far
+
 -- A run that has had these events so far has all of these in the end.
 pub data Runs (total : List Event) : Config → List Event → Type 0 where
   goes : {c next : Config} {so_far events : List Event} → Steps c (Goes events next) → Runs total next (so_far ++ events) → Runs total c so_far
-  stops : {c : Config} {so_far : List Event} {e : End} → Steps c (Stops e) → total ≡ so_far ++ Finish e c.store.counted ∷ [] → Runs total c so_far
+  stops : {c : Config} {so_far : List Event} {e : End} {touched : ℕ} → Steps c (Stops e touched) →
+      total ≡ so_far ++ Finish e (and_touched touched c.store.held.counted) ∷ [] → Runs total c so_far

@@ -1,7 +1,6 @@
--- What the machine does with instructions over structures, vectors and texts, and with those of the library. Where what it finds on the stack of references isn't of the kind
--- that the instruction wants, it is stuck.
-use Rattle.std.specs.Prelude.{ℕ, zero, suc, ℤ, pos, List, [], ◌∷◌, length, map, reverse, nat_eq, Option, Some, None, if◌then◌else◌}
-use Rattle.std.specs.Fmt.{signed_decimal}
+-- What the machine does with instructions over structures, vectors and texts. Where what it finds on the stack of references isn't of the kind that the
+-- instruction wants, it is stuck.
+use Rattle.std.specs.Prelude.{ℕ, zero, suc, ℤ, List, [], ◌∷◌, map, reverse, Option, Some, None}
 use Rattle.ps_meaning.specs.text_forms.declared.forms.Form.{Form}
 use Rattle.ps_meaning.specs.text_forms.declared.forms.Form.TheVariants as form
 use Rattle.ps_meaning.specs.text_forms.Forms.{forms_of, form_in, element_of}
@@ -10,12 +9,14 @@ use Rattle.ps_code.specs.ps_base.declared.operator.Relation.{Relation}
 use Rattle.ps_code.specs.ps_base.declared.operator.Relation.TheVariants as relation
 use Rattle.ps_code.specs.ps_base.declared.instr.Instr.{Instr}
 use Rattle.ps_code.specs.ps_base.declared.instr.Instr.TheVariants as instr
-use Rattle.ps_heap.specs.Texts.{join_of, part_of, line_read, behind_line, is_at_end}
-use Rattle.ps_heap.specs.Objects.{Heap, Object, Structure, Elements, object_at, new_number, is_class, field_of, with_field, vector_of, filled_vector, with_element, low_of, high_of, element_of as element_at}
+use Rattle.ps_heap.specs.Texts.{join_of, part_of}
+use Rattle.ps_heap.specs.Objects.{Heap, Object, Structure, Elements, object_at, new_number, is_class, field_of, with_field, vector_of, filled_vector, with_element, low_of, high_of, id_of, element_of as element_at}
 use Rattle.ps_heap.specs.Values.{Value, Num, word_of, number_of, is_one}
 use Rattle.ps_heap.specs.Values as value
-use Rattle.ps_meaning.specs.Meaning.{Store, on_heap, and_object, and_text, on_input}
-use Rattle.ps_meaning.specs.Evaluation.{kept_as, kept_elements, text_relation, object_relation}
+use Rattle.ps_heap.specs.Held.{Held, Place, assigning, reading, element_place}
+use Rattle.ps_heap.specs.Held as held
+use Rattle.ps_meaning.specs.Meaning.{Store, on_held, and_object, and_text}
+use Rattle.ps_meaning.specs.Operations.{kept_as, kept_elements, text_relation, object_relation}
 use Rattle.ps_stepping.specs.Config.{Config}
 use Rattle.ps_stepping.specs.Steps.{Step, Stuck, on, push_num, push_ref, pop_num, pop_ref, pop_two, pop_text, with_text, attempted}
 
@@ -23,13 +24,17 @@ use Rattle.ps_stepping.specs.Steps.{Step, Stuck, on, push_num, push_ref, pop_num
 abbrev pub holding : Store → Config → Config
 holding store c = record c { store = store }
 
--- with another heap
-abbrev pub changed : Heap → Config → Step
-changed heap c = on (holding (on_heap heap c.store) c)
+-- with another thing held
+abbrev pub having : (Held → Held) → Config → Config
+having does c = holding (on_held (does c.store.held) c.store) c
+
+-- a place is assigned, and this is the heap then
+abbrev pub changed : Place → Heap → Config → Step
+changed place heap c = on (having (assigning place heap) c)
 
 -- a new object is made, and a reference to it pushed
 abbrev pub make : (ℕ → Value) → Object → Config → Step
-make denoting object c = push_ref (denoting (new_number c.store.heap)) (holding (and_object object c.store) c)
+make denoting object c = push_ref (denoting (new_number c.store.held.objects)) (holding (and_object object c.store) c)
 
 -- a new text
 abbrev pub make_text : List ℕ → Config → Step
@@ -45,12 +50,6 @@ part line c = pop_two c (λ i n d. pop_text d (λ a e. attempted line (part_of a
 
 abbrev pub compare_texts : Relation → Config → Step
 compare_texts op c = pop_text c (λ b d. pop_text d (λ a e. push_num (number_of (text_relation op a b)) e))
-
-abbrev pub text_length : Config → Step
-text_length c = pop_text c (λ a d. push_num (pos (length a)) d)
-
-abbrev pub int_text : Config → Step
-int_text c = pop_num c (λ z d. make_text (signed_decimal z) d)
 
 -- Structures, and what may stand where one is wanted.
 
@@ -77,7 +76,7 @@ abbrev pub pop_object : Config → (Value → Config → Step) → Step
 pop_object c next = pop_ref c (λ v d. object_of v d next)
 
 abbrev pub is_of_class : ℕ → Config → Step
-is_of_class k c = with_text k c (λ class. pop_object c (λ v d. push_num (number_of (is_class d.store.heap v class)) d))
+is_of_class k c = with_text k c (λ class. pop_object c (λ v d. push_num (number_of (is_class d.store.held.objects v class)) d))
 
 -- The values of the fields of a class, the last one first, are popped: each from the stack of its form.
 abbrev pub pop_fields : List Form → List Value → Config → (List Value → Config → Step) → Step
@@ -102,23 +101,23 @@ when_reference _ s = Stuck
 abbrev pub field_num : ℕ → ℕ → Line → Config → Step
 field_num k n line c =
     with_text k c (λ class. when_number (form_in (forms_of class) n)
-    (pop_object c (λ v d. attempted line (field_of d.store.heap v class n) (λ w. push_num (word_of w) d))))
+    (pop_object c (λ v d. attempted line (field_of d.store.held.objects v class n) (λ w. push_num (word_of w) (having (reading w) d)))))
 
 abbrev pub field_ref : ℕ → ℕ → Line → Config → Step
 field_ref k n line c =
     with_text k c (λ class. when_reference (form_in (forms_of class) n)
-    (pop_object c (λ v d. attempted line (field_of d.store.heap v class n) (λ w. push_ref w d))))
+    (pop_object c (λ v d. attempted line (field_of d.store.held.objects v class n) (λ w. push_ref w (having (reading w) d)))))
 
 abbrev pub set_field_num : ℕ → ℕ → Line → Config → Step
 set_field_num k n line c =
     with_text k c (λ class. when_number (form_in (forms_of class) n)
     (pop_num c (λ z d. pop_object d (λ v e.
-    attempted line (with_field e.store.heap v class n (kept_as (form_in (forms_of class) n) (Num z))) (λ heap. changed heap e)))))
+    attempted line (with_field e.store.held.objects v class n (kept_as (form_in (forms_of class) n) (Num z))) (λ heap. changed (held.Part (id_of v) n) heap e)))))
 
 abbrev pub set_field_ref : ℕ → ℕ → Line → Config → Step
 set_field_ref k n line c =
     with_text k c (λ class. when_reference (form_in (forms_of class) n)
-    (pop_ref c (λ w d. pop_object d (λ v e. attempted line (with_field e.store.heap v class n w) (λ heap. changed heap e)))))
+    (pop_ref c (λ w d. pop_object d (λ v e. attempted line (with_field e.store.held.objects v class n w) (λ heap. changed (held.Part (id_of v) n) heap e)))))
 
 -- Vectors.
 
@@ -137,7 +136,7 @@ of_type None next = Stuck
 
 -- a vector is popped, and what goes on knows its type's text
 abbrev pub pop_vector : Config → (List ℕ → Value → Config → Step) → Step
-pop_vector c next = pop_ref c (λ v d. of_type (type_of d.store.heap v) (λ ty. next ty v d))
+pop_vector c next = pop_ref c (λ v d. of_type (type_of d.store.held.objects v) (λ ty. next ty v d))
 
 abbrev pub fill_num : ℕ → Line → Config → Step
 fill_num k line c =
@@ -170,39 +169,26 @@ list_ref k n line c =
 
 abbrev pub element_num : Line → Config → Step
 element_num line c =
-    pop_num c (λ i d. pop_vector d (λ ty v e. attempted line (element_at e.store.heap v i) (λ w. when_number (Some (element_of ty)) (push_num (word_of w) e))))
+    pop_num c (λ i d. pop_vector d (λ ty v e.
+    attempted line (element_at e.store.held.objects v i) (λ w. when_number (Some (element_of ty)) (push_num (word_of w) (having (reading w) e)))))
 
 abbrev pub element_ref : Line → Config → Step
 element_ref line c =
-    pop_num c (λ i d. pop_vector d (λ ty v e. attempted line (element_at e.store.heap v i) (λ w. when_reference (Some (element_of ty)) (push_ref w e))))
+    pop_num c (λ i d. pop_vector d (λ ty v e.
+    attempted line (element_at e.store.held.objects v i) (λ w. when_reference (Some (element_of ty)) (push_ref w (having (reading w) e)))))
 
 abbrev pub set_element_num : Line → Config → Step
 set_element_num line c =
     pop_num c (λ z d. pop_num d (λ i e. pop_vector e (λ ty v f.
-    attempted line (with_element f.store.heap v i (kept_as (Some (element_of ty)) (Num z))) (λ heap. when_number (Some (element_of ty)) (changed heap f)))))
+    attempted line (with_element f.store.held.objects v i (kept_as (Some (element_of ty)) (Num z))) (λ heap. when_number (Some (element_of ty)) (changed (element_place f.store.held.objects v i) heap f)))))
 
 abbrev pub set_element_ref : Line → Config → Step
 set_element_ref line c =
     pop_ref c (λ w d. pop_num d (λ i e. pop_vector e (λ ty v f.
-    attempted line (with_element f.store.heap v i w) (λ heap. when_reference (Some (element_of ty)) (changed heap f)))))
+    attempted line (with_element f.store.held.objects v i w) (λ heap. when_reference (Some (element_of ty)) (changed (element_place f.store.held.objects v i) heap f)))))
 
 abbrev pub bound : (Heap → Value → ℤ) → Config → Step
-bound of c = pop_vector c (λ ty v d. push_num (of d.store.heap v) d)
-
--- The library: `read.a.line`, `eof`, `length` and `iformat`.
-
--- the next line of the input, as a new text
-abbrev pub read_line : Line → Config → Step
-read_line line c =
-    attempted line (line_read c.store.input) (λ bytes. make_text bytes (holding (on_input (behind_line c.store.input) c.store) c))
-
-abbrev pub at_end : Config → Step
-at_end c = push_num (number_of (is_at_end c.store.input)) c
-
-abbrev pub library : ℕ → Line → Config → Step
-library code line c =
-    if nat_eq code 9 then read_line line c else
-    (if nat_eq code 10 then at_end c else (if nat_eq code 11 then text_length c else (if nat_eq code 12 then int_text c else Stuck)))
+bound of c = pop_vector c (λ ty v d. push_num (of d.store.held.objects v) d)
 
 -- What an instruction over structures, vectors and texts does; the configuration stands after it already. All others are stuck here.
 abbrev pub acts_on_objects : Instr → Config → Step
@@ -233,5 +219,4 @@ acts_on_objects (instr.SetElemM line) c = set_element_num line c
 acts_on_objects (instr.SetElemP line) c = set_element_ref line c
 acts_on_objects instr.Lwb c = bound low_of c
 acts_on_objects instr.Upb c = bound high_of c
-acts_on_objects (instr.Lib k line) c = library k line c
 acts_on_objects _ c = Stuck

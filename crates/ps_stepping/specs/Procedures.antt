@@ -8,22 +8,25 @@ use Rattle.ps_code.specs.ps_base.declared.trap.Trap.TheVariants.{TooDeep}
 use Rattle.ps_code.specs.ps_base.declared.instr.Instr.{Instr}
 use Rattle.ps_code.specs.ps_base.declared.instr.Instr.TheVariants as instr
 use Rattle.ps_heap.specs.Ends.{Trapped, OutOfTurns}
-use Rattle.ps_meaning.specs.Event.{Turn}
+use Rattle.ps_heap.specs.Events.{Turn}
 use Rattle.ps_heap.specs.Objects.{Object, Scope, new_number}
-use Rattle.ps_heap.specs.Scopes.{new_scope, scope_at, scope_out, kept_name, with_kept_name}
+use Rattle.ps_heap.specs.Scopes.{new_scope, scope_at, scope_out, kept_name}
 use Rattle.ps_heap.specs.Values.{Value, Num, Nil, Procedure, as_compiled, word_of}
-use Rattle.ps_meaning.specs.Meaning.{Store, and_object, and_closure, spent}
+use Rattle.ps_heap.specs.References.{scope_ids}
+use Rattle.ps_heap.specs.Held.{touching, reading_name, assigned_name}
+use Rattle.ps_meaning.specs.Meaning.{Store, and_object, and_closure, on_held, spent}
 use Rattle.ps_meaning.specs.Evaluation.{most_calls}
 use Rattle.ps_stepping.specs.Config.{frame_words, Locals, Caller, Config, constants_in, frame_in, constant_at}
 use Rattle.ps_stepping.specs.Steps.{Step, Goes, Stops, Stuck, on, push_num, push_ref, pop_num, pop_ref, with_text}
-use Rattle.ps_stepping.specs.Objects.{holding, changed, when_number, when_reference, pop_nums, pop_refs, acts_on_objects}
+use Rattle.ps_stepping.specs.Library.{library}
+use Rattle.ps_stepping.specs.Objects.{holding, having, when_number, when_reference, pop_nums, pop_refs, acts_on_objects}
 
 -- Scopes.
 
 -- a new scope of a text inside the current one, which is the current one from then on
 abbrev pub enter_scope : ℕ → Config → Step
 enter_scope k c =
-    with_text k c (λ of. on (record (holding (and_object (new_scope of c.scope) c.store) c) { scope = Some (new_number c.store.heap) }))
+    with_text k c (λ of. on (record (holding (and_object (new_scope of c.scope) c.store) c) { scope = Some (new_number c.store.held.objects) }))
 
 -- what goes on with the text and the parent of a scope
 abbrev pub of_scope : Option Object → (List ℕ → Option ℕ → Step) → Step
@@ -32,27 +35,27 @@ of_scope _ next = Stuck
 
 -- the scope round the current one is the current one again
 abbrev pub leave_scope : Config → Step
-leave_scope c = of_scope (scope_at c.store.heap c.scope) (λ of parent. on (record c { scope = parent }))
+leave_scope c = of_scope (scope_at c.store.held.objects c.scope) (λ of parent. on (record c { scope = parent }))
 
 -- what goes on with the text of the scope so many levels out
 abbrev pub at_level : ℕ → Config → (List ℕ → Step) → Step
-at_level up c next = of_scope (scope_at c.store.heap (scope_out c.store.heap c.scope up)) (λ of parent. next of)
+at_level up c next = of_scope (scope_at c.store.held.objects (scope_out c.store.held.objects c.scope up)) (λ of parent. next of)
 
 abbrev pub kept_num : ℕ → ℕ → Config → Step
 kept_num up i c =
-    at_level up c (λ of. when_number (form_in (forms_of of) i) (push_num (word_of (kept_name c.store.heap c.scope up i)) c))
+    at_level up c (λ of. when_number (form_in (forms_of of) i) (push_num (word_of (kept_name c.store.held.objects c.scope up i)) (having (reading_name c.scope up i) c)))
 
 abbrev pub kept_ref : ℕ → ℕ → Config → Step
 kept_ref up i c =
-    at_level up c (λ of. when_reference (form_in (forms_of of) i) (push_ref (kept_name c.store.heap c.scope up i) c))
+    at_level up c (λ of. when_reference (form_in (forms_of of) i) (push_ref (kept_name c.store.held.objects c.scope up i) (having (reading_name c.scope up i) c)))
 
 abbrev pub keep_num : ℕ → ℕ → Config → Step
 keep_num up i c =
-    pop_num c (λ z d. at_level up d (λ of. when_number (form_in (forms_of of) i) (changed (with_kept_name d.store.heap d.scope up i (Num z)) d)))
+    pop_num c (λ z d. at_level up d (λ of. when_number (form_in (forms_of of) i) (on (having (assigned_name d.scope up i (Num z)) d))))
 
 abbrev pub keep_ref : ℕ → ℕ → Config → Step
 keep_ref up i c =
-    pop_ref c (λ v d. at_level up d (λ of. when_reference (form_in (forms_of of) i) (changed (with_kept_name d.store.heap d.scope up i v) d)))
+    pop_ref c (λ v d. at_level up d (λ of. when_reference (form_in (forms_of of) i) (on (having (assigned_name d.scope up i v) d))))
 
 -- Procedures.
 
@@ -96,19 +99,21 @@ body_of_call of scope zs vs store c = record {
 }
 
 abbrev pub in_turn : Option Store → UnitView → Option ℕ → List ℤ → List Value → Config → Step
-in_turn None of scope zs vs c = Stops OutOfTurns
-in_turn (Some store) of scope zs vs c = Goes (Turn store.counted ∷ []) (body_of_call of scope zs vs store c)
+in_turn None of scope zs vs c = Stops OutOfTurns 0
+in_turn (Some store) of scope zs vs c =
+    Goes (Turn store.held.counted ∷ []) (body_of_call of scope zs vs (on_held (touching (scope_ids scope) store.held) store) c)
 
--- With so many bodies that wait: the depth is tested, and then a turn is taken.
+-- With so many bodies that wait: the depth is tested, then a turn is taken, and then the scope of the procedure is touched.
 abbrev pub called : ℕ → Line → UnitView → Option ℕ → List ℤ → List Value → Config → Step
 called depth line of scope zs vs c =
-    if nat_lt depth most_calls then in_turn (spent c.store) of scope zs vs c else Stops (Trapped TooDeep line)
+    if nat_lt depth most_calls then in_turn (spent c.store) of scope zs vs c else Stops (Trapped TooDeep line) 0
 
--- a call with so many arguments that are references, which stand above the procedure; those that are numbers go by its frame
+-- A call with so many arguments that are references, which stand above the procedure; those that are numbers go by its frame.
 abbrev pub call : ℕ → Line → Config → Step
 call n line c =
     pop_refs n [] c (λ vs d. pop_procedure d (λ of scope e.
-    if takes_refs n (frame_in of) then pop_nums (frame_in of).num_params [] e (λ zs f. called (length f.callers) line of scope zs vs f) else Stuck))
+    if takes_refs n (frame_in of) then pop_nums (frame_in of).num_params [] e (λ zs f.
+    called (length f.callers) line of scope zs vs f) else Stuck))
 
 -- Where a body comes back to one that waits, what it gives is pushed, if the frame of that one has room for it.
 abbrev pub num_back : Caller → Step → Step
@@ -117,7 +122,7 @@ num_back caller next = if nat_lt ((frame_in caller.unit).nums + length caller.nu
 abbrev pub ref_back : Caller → Step → Step
 ref_back caller next = if nat_lt ((frame_in caller.unit).refs + length caller.refs) frame_words then next else Stuck
 
--- What an instruction over scopes, procedures or objects does; the configuration stands after it already. All others are stuck here.
+-- What an instruction over scopes, procedures or objects does, and one of the library; the configuration stands after it already. All others are stuck here.
 abbrev pub acts_on_procedures : Instr → Config → Step
 acts_on_procedures (instr.KeptM u i) c = kept_num u i c
 acts_on_procedures (instr.KeptP u i) c = kept_ref u i c
@@ -127,4 +132,5 @@ acts_on_procedures (instr.Scope k) c = enter_scope k c
 acts_on_procedures instr.Leave c = leave_scope c
 acts_on_procedures (instr.Closure k) c = closure k c
 acts_on_procedures (instr.Call n line) c = call n line c
+acts_on_procedures (instr.Lib k line) c = library k line c
 acts_on_procedures i c = acts_on_objects i c

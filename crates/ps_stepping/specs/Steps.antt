@@ -1,9 +1,9 @@
 -- What a step is, and what instructions do with the two stacks.
-use Rattle.std.specs.Prelude.{ℕ, ◌+◌, ℤ, Bool, List, [], ◌∷◌, length, nat_lt, Option, Some, None, if◌then◌else◌}
+use Rattle.std.specs.Prelude.{ℕ, zero, suc, ◌+◌, ℤ, Bool, List, [], ◌∷◌, length, nat_lt, Option, Some, None, if◌then◌else◌}
 use Rattle.ps_code.specs.ps_base.CodeUnit.{ConstantView, text, literal}
 use Rattle.ps_code.specs.ps_base.declared.line.Line.{Line}
 use Rattle.ps_heap.specs.Ends.{End, Trapped}
-use Rattle.ps_meaning.specs.Event.{Event}
+use Rattle.ps_heap.specs.Events.{Event}
 use Rattle.ps_heap.specs.Operators.{Answer, Gives, Traps}
 use Rattle.ps_heap.specs.Texts.{Attempt, Yields, Fails}
 use Rattle.ps_heap.specs.Values.{Value, number_of}
@@ -11,11 +11,16 @@ use Rattle.ps_heap.specs.Values as value
 use Rattle.ps_meaning.specs.Meaning.{with_local}
 use Rattle.ps_stepping.specs.Config.{frame_words, Config, constants_in, frame_in, constant_at}
 
--- what a step does: it goes on with these events, it ends the run, or there is none
+-- What a step does: it goes on with these events; it ends the run, where so many bytes of objects were touched in it; or there is none.
 pub data Step : Type 0 where
   Goes : (events : List Event) (next : Config) → Step
-  Stops : (end_of_run : End) → Step
+  Stops : (end_of_run : End) (touched : ℕ) → Step
   Stuck : Step
+
+-- what is counted where a step ends in which so many bytes of objects were touched
+abbrev pub and_touched : ℕ → ℕ → ℕ
+and_touched zero counted = counted
+and_touched (suc touched) counted = suc touched + counted
 
 -- goes on quietly
 abbrev pub on : Config → Step
@@ -65,7 +70,7 @@ with_ref c s v = record c { locals = record c.locals { refs = with_local c.local
 -- the value of an operator, or its trap
 abbrev pub answered : Line → Answer → Config → Step
 answered line (Gives z) c = put_num z c
-answered line (Traps trap) c = Stops (Trapped trap line)
+answered line (Traps trap) c = Stops (Trapped trap line) 0
 
 abbrev pub one_num : Line → (ℤ → Answer) → Config → Step
 one_num line f c = pop_num c (λ a d. answered line (f a) d)
@@ -96,4 +101,4 @@ with_text k c next = text_in (constant_at (constants_in c.unit) k) next
 -- goes on with what an operation yields, or ends in its trap
 abbrev pub attempted : {A : Type 0} → Line → Attempt A → (A → Step) → Step
 attempted line (Yields a) next = next a
-attempted line (Fails trap) next = Stops (Trapped trap line)
+attempted line (Fails trap) next = Stops (Trapped trap line) 0

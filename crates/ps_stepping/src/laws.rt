@@ -1,10 +1,10 @@
-ghost use Rattle.std.specs.Prelude.{◌≡◌, List, [], ◌∷◌, ◌++◌};
+ghost use Rattle.std.specs.Prelude.{◌≡◌, Bool, true, ℕ, List, [], ◌∷◌, ◌++◌};
 ghost use Rattle.ps_code.specs.ps_base.declared.instr.Instr.{Instr};
 ghost use Rattle.ps_heap.specs.Ends.{End};
-ghost use Rattle.ps_meaning.specs.Event.{Event, Finish};
+ghost use Rattle.ps_heap.specs.Events.{Event, Finish};
 ghost use Rattle.ps_stepping.specs.Config.{Config, code_in, IsAt};
 ghost use Rattle.ps_stepping.specs.Effects.{effect_of, HasEffect};
-ghost use Rattle.ps_stepping.specs.Machine.{Step, Goes, Stops, Stuck, act, Steps, Runs};
+ghost use Rattle.ps_stepping.specs.Machine.{Step, Goes, Stops, Stuck, and_touched, act, Steps, RunsBy, Runs};
 ghost use Rattle.ps_stepping.specs.Path.{Reaches, Finishes};
 
 /// At an offset of the code there is one instruction at most, and a configuration has one step.
@@ -20,11 +20,18 @@ pub fn rest_of_a_run()
         (behind : List Event) × Finishes last behind }
     ensures rest { (total : List Event) (c last : Config) (before behind : List Event) → Runs total c [] → Reaches c before last →
         Finishes last behind → total ≡ before ++ behind }
-    ensures end { (total : List Event) (c last : Config) (before : List Event) (e : End) → Runs total c [] → Reaches c before last →
-        Steps last (Stops e) → total ≡ before ++ Finish e last.store.counted ∷ [] }
+    ensures end { (total : List Event) (c last : Config) (before : List Event) (e : End) (touched : ℕ) → Runs total c [] → Reaches c before last →
+        Steps last (Stops e touched) → total ≡ before ++ Finish e (and_touched touched last.store.held.counted) ∷ [] }
     ensures goes { (total : List Event) (c last : Config) (before : List Event) → Runs total c [] → Reaches c before last → Steps last Stuck → ⊥ }
     ensures front { (total : List Event) (c last : Config) (before : List Event) → Runs total c [] → Reaches c before last →
         (behind : List Event) × (total ≡ before ++ behind) }
+{}
+
+/// A run whose instructions may all run is a run, and from each configuration that it reaches the next instruction is one that may run.
+pub fn instructions_of_a_run()
+    ensures is_run { (may : Instr → Bool) (total : List Event) (c : Config) (so_far : List Event) → RunsBy may total c so_far → Runs total c so_far }
+    ensures each { (may : Instr → Bool) (total : List Event) (c last : Config) (before : List Event) (i : Instr) → RunsBy may total c [] →
+        Reaches c before last → IsAt (code_in last.unit) last.at i → may i ≡ true }
 {}
 
 /// A step that goes on takes from the two stacks and leaves on them what the table says of its instruction (`docs/formats.md`).

@@ -44,7 +44,7 @@ words_append : (xs ys : List ConstantView) → words_in (xs ++ ys) ≡ words_in 
 words_append [] ys = omega arith
 words_append (x ∷ xs) ys = let h = words_append xs ys in omega arith
 
-text_weighs : (bytes : List ℕ) → 8 * constant_words (text bytes) ≡ text_weight bytes
+pub text_weighs : (bytes : List ℕ) → 8 * constant_words (text bytes) ≡ text_weight bytes
 unfolding constant_words
 text_weighs bytes = omega arith
 

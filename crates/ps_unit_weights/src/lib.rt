@@ -3,5 +3,5 @@
 
 mod laws;
 
-pub use laws::units_weigh_as_counted;
+pub use laws::{units_weigh_as_counted, units_weigh_their_words};
 pub use ps_gen;

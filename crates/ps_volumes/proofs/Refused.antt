@@ -1,7 +1,7 @@
 -- What is left where there is no volume, and where one is made.
-use Rattle.std.proofs.Common.{◌≡◌, ℕ, List, [], sym, subst}
+use Rattle.std.proofs.Common.{◌≡◌, ℕ, List}
 use Rattle.std.specs.Prelude.{Ok, Err}
-use Rattle.ps_port.specs.ps_outside.Outside.{Outside, Leaves, TellsNothing, Rose}
+use Rattle.ps_port.specs.ps_outside.Outside.{Outside, Leaves, TellsNothing}
 use Rattle.obj_store.specs.paged_volume.Attaching.{IsRefused}
 use Rattle.obj_store.specs.volume_parts.Layout.{gate as gate_of}
 use Rattle.obj_store.specs.paged_volume.Making.{IsMaking, IsNew}
@@ -14,6 +14,7 @@ use Rattle.ps_reports.specs.declared.report.Report.TheVariants as reports
 use Rattle.ps_volumes.specs.Attaching.{IsUnattached, report_for}
 use Rattle.ps_volumes.specs.Making.{Makes, IsMade}
 use Rattle.ps_volumes.specs.Making as making
+use Rattle.ps_volumes.proofs.Settled.{held_kept}
 
 pub unattached_by : (old new : Outside (List ℕ)) (cause : OpenFault) (report : Report) → IsRefused old new cause → report ≡ report_for cause → IsUnattached old new report
 unattached_by old new cause report is report_is = record {
@@ -22,7 +23,7 @@ unattached_by old new cause report is report_is = record {
   report_is = report_is;
   told = is.looks.told;
   calm = is.looks.output;
-  keeps = record { images = is.looks.images; contents = λ bytes at. is.looks.same.no_other bytes at };
+  keeps = held_kept old new (record { images = is.looks.images; contents = λ bytes at. is.looks.same.no_other bytes at });
 }
 
 module _ (pages : ℕ) (old new : Outside (List ℕ)) (any_moment : Leaves old new (IsMaking old pages)) (gate : ShutsAt pages old new) (told : TellsNothing old new)

@@ -1,11 +1,15 @@
 -- What is left of a device whose volume was attached, or couldn't be.
-use Rattle.std.specs.Prelude.{◌≡◌, ℕ, Bool, List}
-use Rattle.ps_port.specs.ps_outside.Outside.{Outside, LeavesSame, SettlesFrom, TellsNothing, Rose}
+use Rattle.std.specs.Prelude.{◌≡◌, ◌⊎◌, ℕ, ◌≤◌, Bool, true, List}
+use Rattle.ps_port.specs.ps_outside.Outside.{Outside, After, Leaves, LeavesSame, TellsNothing, Rose}
+use Rattle.volume_next.specs.Moving.{IsKeptIn, KeepsFrom}
 use Rattle.obj_store.specs.volume_parts.Holding.{Held}
 use Rattle.obj_store.specs.paged_volume.Found.{a_volume, found_in}
 use Rattle.obj_store.specs.paged_volume.Attaching.{IsNoVolume}
 use Rattle.obj_store.specs.volume_parts.declared.open_fault.OpenFault.{OpenFault}
 use Rattle.obj_store.specs.volume_parts.declared.open_fault.OpenFault.TheVariants.{Device, NotAVolume, Damaged, Memory}
+use Rattle.obj_store.specs.obj_layout.Stored.{Space}
+use Rattle.obj_store.specs.Opening.{IsSpaceOf}
+use Rattle.obj_store.specs.Store.{Store, outside_of}
 use Rattle.ps_reports.specs.declared.report.Report.{Report}
 use Rattle.ps_reports.specs.declared.report.Report.TheVariants as reports
 use Rattle.ps_reports.specs.Reporting as reported
@@ -23,12 +27,29 @@ pub record Keeps (old new : Outside (List ℕ)) : Type 0 where
   pub images : LeavesSame old new
   pub contents : (bytes : List ℕ) → new.contents bytes → old.contents bytes
 
--- A volume was found in each content at the start, and the device was left as it is; from some moment on a crash leaves only such a content, and
--- before that moment nothing was output.
+-- What was held is left: at each moment of the way a crash leaves what it could leave at its start, or a file that holds the same words under the same
+-- directory as what a read gave then; and so does a read at the end.
+pub record KeepsHeld (old new : Outside (List ℕ)) : Type 0 where
+  pub images : Leaves old new (λ image. old.images old.clock image ⊎ After old.contents IsKeptIn image)
+  pub contents : (bytes : List ℕ) → new.contents bytes → old.contents bytes ⊎ After old.contents IsKeptIn bytes
+
+-- A volume was found in each content at the start, and what it held was left; from some moment on a crash leaves only files that hold that, and
+-- before that moment nothing was output, and a crash leaves what it could leave at the start.
 pub record KeepsVolume (old new : Outside (List ℕ)) : Type 0 where
-  pub keeps : Keeps old new
-  pub settles : SettlesFrom old new
+  pub keeps : KeepsHeld old new
+  pub from : KeepsFrom old new
   pub found : (bytes : List ℕ) → old.contents bytes → HasVolume bytes
+
+-- The store of a volume, and nothing was output: its calls may be made, and the space that it holds is the one that was committed in the file at the start.
+pub record IsStored {H : Type 0} (outside : H → Outside (List ℕ)) (old : Outside (List ℕ)) (store : Store H) : Type 0 where
+  pub keeps : KeepsVolume old (outside store.host)
+  pub told : TellsNothing old (outside store.host)
+  pub counts : old.device_faults ≤ (outside store.host).device_faults
+  pub output : (outside store.host).output_faults ≡ old.output_faults
+  pub live : store.live ≡ true
+  pub used : store.used ≡ store.table.committed.note.used
+  pub holds : (space : Space) → (outside_of outside store).contents space → After old.contents IsSpaceOf space
+  pub stays : (space : Space) → After old.contents IsSpaceOf space → (outside_of outside store).contents space
 
 -- the report of what was wrong with the device or with the file on it
 abbrev pub report_for : OpenFault → Report
@@ -56,4 +77,4 @@ pub record IsUnattached (old new : Outside (List ℕ)) (report : Report) : Type 
   pub report_is : report ≡ report_for cause
   pub told : TellsNothing old new
   pub calm : new.output_faults ≡ old.output_faults
-  pub keeps : Keeps old new
+  pub keeps : KeepsHeld old new

@@ -8,3 +8,4 @@ pub use attaching::{Unattached, attached};
 pub use making::make_volume;
 pub use obj_store;
 pub use ps_reports;
+pub use volume_next;

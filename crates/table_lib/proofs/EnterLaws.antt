@@ -1,6 +1,7 @@
 -- A value is entered under a key of a table, or a key is taken out.
 use Rattle.std.proofs.Common.{◌≡◌, ◌≢◌, ◌⊎◌, ℕ, ◌+◌, ◌-◌, ◌^◌, ◌<◌, Bool, true, false, List, [], ◌∷◌, length, Option, Some, None, Result, Ok, Err, IfSome, MatchResult, refl, sym, ap, ◌∙◌, subst, arith, inl, inr}
 use Rattle.std.specs.List.{AllByRecursion}
+use Rattle.table_nodes.specs.declared.enter.Entered.{Entered}
 use Rattle.table_nodes.specs.heap_places.obj_layout.declared.reference.Reference.{Reference}
 use Rattle.table_nodes.specs.heap_places.obj_layout.declared.reference.Reference.TheVariants.{Nil}
 use Rattle.table_nodes.specs.heap_places.swizzle.Heap.{num_at, ref_at}
@@ -34,7 +35,7 @@ use Rattle.table_lib.specs.Entries.{WritesTable, MarksTable, HasNow, EntersPair,
 use Rattle.table_lib.specs.Operations.{Opens}
 use Rattle.table_lib.specs.declared.words.Opened.{Opened}
 use Rattle.table_lib.proofs.CountLaws.{counted_enter, counted_without}
-use Rattle.table_lib.proofs.RootLaws.{nil_named}
+use Rattle.table_lib.proofs.RootLaws.{nil_named, one_table}
 use Rattle.table_lib.proofs.UseLaws.{uses_unused, uses_used, uses_refused}
 use Rattle.table_lib.proofs.WriteLaws.{rows_stay, table_kept, table_lasts, words_spared}
 
@@ -94,7 +95,7 @@ module _ (ks : Keys) (old m m1 m2 : Place) (at : ℕ) (root : Option ℕ) (count
     found_is : lookup (seek (order_by ks) key) t ≡ Rattle.table_nodes.specs.avl_trees.Rising.find (seek (order_by ks) key) (items t)
     found_is = lookup_items (under (order_by ks)) (seek (order_by ks) key) (parts_of (order_by ks) (total ks) key) t h.rising
 
-    pub pair_entered : (value : Reference) → value ≢ Nil → (before : ℕ) (made : Bool) (top : ℕ) → root ≡ Some top → entering.Enters ks m m1 t key value top → made ≡ is_missing (lookup (seek (order_by ks) key) t)
+    pub pair_entered : (value : Reference) → value ≢ Nil → (before : ℕ) (made : Bool) (top : Entered) → root ≡ Some top.root → entering.Enters ks m m1 t key value top → made ≡ is_missing (lookup (seek (order_by ks) key) t)
         → before ≡ num_at old.heap at 2 → length (items t) < 2 ^ 64 - 1 → (made ≡ true → before < 2 ^ 64 - 1 → count ≡ before + 1) → (made ≡ false → count ≡ before) → EntersPair ks old m2 at (items t) key value
     pair_entered value some before made top is_root w is_made is_before low more same =
         let e = entered_items (order_by ks) (total ks) key value w.fresh t h.rising in
@@ -131,10 +132,6 @@ abbrev pub lifted : {T : Type 0} → Result T SwizzleFault → Result T OpFault
 lifted (Ok x) = Ok x
 lifted (Err fault) = Err (Swizzle fault)
 
--- the table that was opened is that of the call
-at_one : (table : Option ℕ) (here at : ℕ) → table ≡ Some here → table ≡ Some at → here ≡ at
-at_one table here at e f = cc
-
 module _ (T : Type 0) (ks : Keys) (old new : Place) (table : Option ℕ) (key : KeyOf ks) where
   pub enters_refused : (fault : OpFault) (to : Option ℕ) → Opens ks old.heap table (Err fault) → Enters {T = T} ks old new table key to (Err fault)
   enters_refused fault None o = uses_refused ks old table _ _ fault o
@@ -157,7 +154,7 @@ module _ (T : Type 0) (ks : Keys) (old new : Place) (table : Option ℕ) (key : 
         go : (b : Bool) → opened.used ≡ b → Enters ks old new table key (Some value) (lifted result)
         go true e = uses_used ks old table _ _ opened e o (lifted result) (λ t h p low. put_into (name_at old.heap value) opened.at t result (puts t p (Rattle.table_lib.proofs.RootLaws.pairs_of ks old opened.at t h) low))
         go false e = uses_unused ks old table _ _ opened e o (lifted result)
-            (λ at f p. subst (λ i. MatchResult (lifted result) (λ done. EntersPair ks old new i [] key (name_at old.heap value)) (Rattle.table_lib.specs.Entries.IsOpEnterFault old.outside)) (at_one table opened.at at o.at_is f)
+            (λ at f p. subst (λ i. MatchResult (lifted result) (λ done. EntersPair ks old new i [] key (name_at old.heap value)) (Rattle.table_lib.specs.Entries.IsOpEnterFault old.outside)) (one_table table opened.at at o.at_is f)
             (put_into (name_at old.heap value) opened.at leaf result (puts leaf p (no_pairs ks old opened.at (o.never e)) (omega arith))))
 
     stays_unused : (at : ℕ) → opened.at ≡ at → opened.used ≡ false → IsPlace old → (result : Result T SwizzleFault) → MatchResult result (λ done. MarksTable old.heap new.heap old.outside new.outside opened.at) (λ fault. ⊥)
@@ -177,7 +174,7 @@ module _ (T : Type 0) (ks : Keys) (old new : Place) (table : Option ℕ) (key : 
       where
         go : (b : Bool) → opened.used ≡ b → Enters ks old new table key None (lifted result)
         go true e = uses_used ks old table _ _ opened e o (lifted result) (λ t h p. take_from opened.at t result (takes e t p (Rattle.table_lib.proofs.RootLaws.pairs_of ks old opened.at t h)))
-        go false e = uses_unused ks old table _ _ opened e o (lifted result) (λ at f p. stays_unused at (at_one table opened.at at o.at_is f) e p result (marks e))
+        go false e = uses_unused ks old table _ _ opened e o (lifted result) (λ at f p. stays_unused at (one_table table opened.at at o.at_is f) e p result (marks e))
 
     pub enters_done : (to : Option ℕ) (result : Result T SwizzleFault) → ((value : ℕ) → to ≡ Some value → PutsPair ks old new opened.at key (name_at old.heap value) result)
         → (to ≡ None → opened.used ≡ true → TakesPair ks old new opened.at key result)

@@ -1,5 +1,5 @@
 -- The tree of a table, from its root on.
-use Rattle.std.proofs.Common.{refl, ◌≡◌, ℕ, ◌+◌, ◌*◌, ◌^◌, ◌<◌, length, Option, sym, ap, ◌∙◌, subst, arith}
+use Rattle.std.proofs.Common.{refl, ◌≡◌, ℕ, ◌+◌, ◌*◌, ◌^◌, ◌<◌, length, Option, Some, sym, ap, ◌∙◌, subst, arith}
 use Rattle.table_nodes.specs.heap_places.obj_layout.declared.reference.Reference.{Reference}
 use Rattle.table_nodes.specs.heap_places.obj_layout.declared.reference.Reference.TheVariants.{Nil, Pid, Local}
 use Rattle.table_nodes.specs.heap_places.swizzle.Heap.{Heap, num_at}
@@ -36,16 +36,20 @@ pub tree_of : (ks : Keys) (old new : Place) (at : ℕ) (t : Tree (I ks)) (root :
 tree_of ks old new at t root grows h linked = tree_from ks old new at t root grows (pairs_of ks old at t h) linked
 
 -- it is lower than the bound that the number of pairs gives
-pub pairs_low : (ks : Keys) (p : Place) (at : ℕ) (t : Tree (I ks)) (count bound : ℕ) → HasPairs ks p at t → count ≡ num_at p.heap at 2 → count < 2 ^ 64 → bound ≡ 2 * bits count + 2 → height t < bound
+pub pairs_low : (ks : Keys) (p : Place) (at : ℕ) (t : Tree (I ks)) (count bound : ℕ) → HasPairs ks p at t → count ≡ num_at p.heap at 2 → count < 2 ^ 64 → bound ≡ 2 * bits count + 1 → height t < bound
 pairs_low ks p at t count bound h e small is =
     let n : length (items t) ≡ count = sym (e ∙ h.count) in
     let b = height_bound t h.balanced (subst (λ m. m < 2 ^ 64) (sym n) small) in
     let same : bits (length (items t)) ≡ bits count = ap bits n in
     omega (arith, b, same, is)
 
-pub tree_low : (ks : Keys) (p : Place) (at : ℕ) (t : Tree (I ks)) (count bound : ℕ) → IsTable ks p at t → count ≡ num_at p.heap at 2 → count < 2 ^ 64 → bound ≡ 2 * bits count + 2 → height t < bound
+pub tree_low : (ks : Keys) (p : Place) (at : ℕ) (t : Tree (I ks)) (count bound : ℕ) → IsTable ks p at t → count ≡ num_at p.heap at 2 → count < 2 ^ 64 → bound ≡ 2 * bits count + 1 → height t < bound
 tree_low ks p at t count bound h e small is = pairs_low ks p at t count bound (pairs_of ks p at t h) e small is
 
 -- what is found in the tree is what is found among its pairs
 pub found_items : (ks : Keys) (key : KeyOf ks) (p : Place) (at : ℕ) (t : Tree (I ks)) → IsTable ks p at t → lookup (seek (order_by ks) key) t ≡ find (seek (order_by ks) key) (items t)
 found_items ks key p at t h = lookup_items (under (order_by ks)) (seek (order_by ks) key) (parts_of (order_by ks) (total ks) key) t h.rising
+
+-- the table that was opened is that of the call
+pub one_table : (table : Option ℕ) (here at : ℕ) → table ≡ Some here → table ≡ Some at → here ≡ at
+one_table table here at e f = cc

@@ -1,5 +1,8 @@
-ghost use Rattle.std.specs.Prelude.{◌≡◌, ◌+◌, ◌-◌, ◌^◌, ◌<◌, true, false, ℕ, None, Some, IfSome, MatchResult, OnOk};
-ghost use Rattle.table_nodes.specs.heap_places.swizzle.Heap.{IsHeld};
+ghost use Rattle.std.specs.Prelude.{◌≡◌, ◌+◌, ◌*◌, ◌-◌, ◌^◌, ◌<◌, true, false, ℕ, None, Some, IfSome, MatchResult, OnOk, OnErr};
+ghost use Rattle.table_nodes.specs.heap_places.swizzle.Heap.{IsHeld, num_at};
+ghost use Rattle.table_nodes.specs.heap_places.swizzle.Touch.{Keeps};
+ghost use Rattle.table_nodes.specs.avl_trees.Trees.{bits as digits};
+ghost use Rattle.table_nodes.specs.Bringing.{Brings};
 ghost use Rattle.table_nodes.specs.heap_places.swizzle.Joint.{name_at};
 ghost use Rattle.table_nodes.specs.heap_places.swizzle.Text.{text_at};
 ghost use Rattle.table_nodes.specs.Keys.{by_ints, by_texts};
@@ -48,11 +51,13 @@ fn put_pair<V: Vault>(
     requires value { IsHeld sw.old value }
     ensures put { PutsPair (kind_of key) (place sw.old (V.outside vault.old)) (place sw.new (V.outside vault.new)) at (key_in sw.old key) (name_at sw.old value) result }
     ensures spares { OnOk result (SparesBut at sw.old sw.new (V.outside vault.old) (V.outside vault.new)) }
+    ensures still { OnErr result (Keeps sw.old sw.new) }
+    ensures brings { Brings sw.old sw.new (3 * (2 * digits (num_at sw.old at 2) + 2)) }
     ensures alive { OnOk result (V.alive vault.new) }
 {
     sw.sound();
     let count = sw.num(at, 2);
-    let bound = 2 * bits(count) + 2;
+    let bound = 2 * bits(count) + 1;
     let root = match counted_root(sw, vault, at) {
         Ok(root) => root,
         Err(fault) => return Err(fault),
@@ -78,11 +83,13 @@ fn take_key<V: Vault>(
     requires key { IsKeyHeld sw.old key }
     ensures taken { TakesPair (kind_of key) (place sw.old (V.outside vault.old)) (place sw.new (V.outside vault.new)) at (key_in sw.old key) result }
     ensures spares { OnOk result (SparesBut at sw.old sw.new (V.outside vault.old) (V.outside vault.new)) }
+    ensures still { OnErr result (Keeps sw.old sw.new) }
+    ensures brings { Brings sw.old sw.new (3 * (2 * digits (num_at sw.old at 2) + 2)) }
     ensures alive { OnOk result (V.alive vault.new) }
 {
     sw.sound();
     let count = sw.num(at, 2);
-    let bound = 2 * bits(count) + 2;
+    let bound = 2 * bits(count) + 1;
     let root = match counted_root(sw, vault, at) {
         Ok(root) => root,
         Err(fault) => return Err(fault),
@@ -112,6 +119,8 @@ fn enter_opened<V: Vault>(
     ensures taken { to ≡ None → opened.used ≡ true → TakesPair (kind_of key) (place sw.old (V.outside vault.old)) (place sw.new (V.outside vault.new)) opened.at (key_in sw.old key) result }
     ensures marked { to ≡ None → opened.used ≡ false → MatchResult result (λ done. MarksTable sw.old sw.new (V.outside vault.old) (V.outside vault.new) opened.at) (λ fault. ⊥) }
     ensures spares { OnOk result (SparesBut opened.at sw.old sw.new (V.outside vault.old) (V.outside vault.new)) }
+    ensures still { OnErr result (Keeps sw.old sw.new) }
+    ensures brings { Brings sw.old sw.new (3 * (2 * digits (num_at sw.old opened.at 2) + 2)) }
     ensures alive { OnOk result (V.alive vault.new) }
 {
     match to {
@@ -142,6 +151,8 @@ pub fn enter_key<V: Vault>(
     requires to { IfSome to (IsHeld sw.old) }
     ensures entered { Enters (kind_of key) (place sw.old (V.outside vault.old)) (place sw.new (V.outside vault.new)) table (key_in sw.old key) to result }
     ensures spares { (at : ℕ) → table ≡ Some at → OnOk result (SparesBut at sw.old sw.new (V.outside vault.old) (V.outside vault.new)) }
+    ensures still { OnErr result (Keeps sw.old sw.new) }
+    ensures brings { (at : ℕ) → table ≡ Some at → Brings sw.old sw.new (3 * (2 * digits (num_at sw.old at 2) + 2)) }
     ensures alive { OnOk result (V.alive vault.new) }
 {
     let opened = match open_table(sw, kind_of_key(key), table) {
@@ -168,6 +179,8 @@ pub fn enter_text<V: Vault>(
     requires to { IfSome to (IsHeld sw.old) }
     ensures entered { Enters by_texts (place sw.old (V.outside vault.old)) (place sw.new (V.outside vault.new)) table (text_at sw.old key) to result }
     ensures spares { (at : ℕ) → table ≡ Some at → OnOk result (SparesBut at sw.old sw.new (V.outside vault.old) (V.outside vault.new)) }
+    ensures still { OnErr result (Keeps sw.old sw.new) }
+    ensures brings { (at : ℕ) → table ≡ Some at → Brings sw.old sw.new (3 * (2 * digits (num_at sw.old at 2) + 2)) }
     ensures alive { OnOk result (V.alive vault.new) }
 {
     enter_key(sw, vault, Key::Text(key), table, to)
@@ -186,6 +199,8 @@ pub fn enter_int<V: Vault>(
     requires to { IfSome to (IsHeld sw.old) }
     ensures entered { Enters by_ints (place sw.old (V.outside vault.old)) (place sw.new (V.outside vault.new)) table key to result }
     ensures spares { (at : ℕ) → table ≡ Some at → OnOk result (SparesBut at sw.old sw.new (V.outside vault.old) (V.outside vault.new)) }
+    ensures still { OnErr result (Keeps sw.old sw.new) }
+    ensures brings { (at : ℕ) → table ≡ Some at → Brings sw.old sw.new (3 * (2 * digits (num_at sw.old at 2) + 2)) }
     ensures alive { OnOk result (V.alive vault.new) }
 {
     enter_key(sw, vault, Key::Int(key), table, to)

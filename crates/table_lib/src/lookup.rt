@@ -1,7 +1,8 @@
-ghost use Rattle.std.specs.Prelude.{◌≡◌, ℕ, ◌+◌, ◌*◌, ◌≤◌, IfOk, IfSome, OnOk, Some};
+ghost use Rattle.std.specs.Prelude.{◌≡◌, ℕ, ◌+◌, ◌*◌, ◌≤◌, IfOk, IfSome, OnOk, OnErr, Some};
 ghost use Rattle.table_nodes.specs.heap_places.swizzle.Heap.{IsHeld, num_at};
 ghost use Rattle.table_nodes.specs.heap_places.swizzle.Touch.{Keeps};
 ghost use Rattle.table_nodes.specs.avl_trees.Trees.{bits as digits};
+ghost use Rattle.table_nodes.specs.Bringing.{Brings};
 ghost use Rattle.table_nodes.specs.Nodes.{Grows};
 ghost use Rattle.table_nodes.specs.heap_places.swizzle.Text.{text_at};
 ghost use Rattle.table_nodes.specs.Keys.{by_ints, by_texts};
@@ -10,7 +11,7 @@ ghost use Rattle.table_nodes.specs.Steps.{place};
 ghost use Rattle.table_lib.specs.Operations.{LooksUp};
 
 use crate::bits::bits;
-use crate::words::{kind_of_key, open_table, root_node};
+use crate::words::{counted_root, kind_of_key, open_table};
 use std::sync::ledger::Ledger;
 use table_nodes::counted_steps::steps::Steps;
 use table_nodes::heap_places::heap_texts::fault::OpFault;
@@ -36,6 +37,8 @@ pub fn lookup_key<V: Vault, L: Ledger>(
     ensures cost { (at : ℕ) → table ≡ Some at → steps.new ≤ steps.old + (2 * digits (num_at sw.old at 2) + 2) }
     ensures grows { OnOk result (Grows sw.old sw.new (V.outside vault.old) (V.outside vault.new)) }
     ensures keeps { OnOk result (Keeps sw.old sw.new) }
+    ensures still { OnErr result (Keeps sw.old sw.new) }
+    ensures brings { (at : ℕ) → table ≡ Some at → Brings sw.old sw.new (2 * digits (num_at sw.old at 2) + 2) }
     ensures alive { OnOk result (V.alive vault.new) }
 {
     sw.sound();
@@ -46,8 +49,8 @@ pub fn lookup_key<V: Vault, L: Ledger>(
     if !opened.used {
         return Ok(None);
     }
-    let bound = 2 * bits(sw.num(opened.at, 2)) + 2;
-    let root = match root_node(sw, vault, opened.at) {
+    let bound = 2 * bits(sw.num(opened.at, 2)) + 1;
+    let root = match counted_root(sw, vault, opened.at) {
         Ok(root) => root,
         Err(fault) => return Err(OpFault::Swizzle(fault)),
     };
@@ -73,6 +76,8 @@ pub fn lookup_text<V: Vault, L: Ledger>(
     ensures cost { (at : ℕ) → table ≡ Some at → steps.new ≤ steps.old + (2 * digits (num_at sw.old at 2) + 2) }
     ensures grows { OnOk result (Grows sw.old sw.new (V.outside vault.old) (V.outside vault.new)) }
     ensures keeps { OnOk result (Keeps sw.old sw.new) }
+    ensures still { OnErr result (Keeps sw.old sw.new) }
+    ensures brings { (at : ℕ) → table ≡ Some at → Brings sw.old sw.new (2 * digits (num_at sw.old at 2) + 2) }
     ensures alive { OnOk result (V.alive vault.new) }
 {
     lookup_key(sw, vault, Key::Text(key), table, steps)
@@ -93,6 +98,8 @@ pub fn lookup_int<V: Vault, L: Ledger>(
     ensures cost { (at : ℕ) → table ≡ Some at → steps.new ≤ steps.old + (2 * digits (num_at sw.old at 2) + 2) }
     ensures grows { OnOk result (Grows sw.old sw.new (V.outside vault.old) (V.outside vault.new)) }
     ensures keeps { OnOk result (Keeps sw.old sw.new) }
+    ensures still { OnErr result (Keeps sw.old sw.new) }
+    ensures brings { (at : ℕ) → table ≡ Some at → Brings sw.old sw.new (2 * digits (num_at sw.old at 2) + 2) }
     ensures alive { OnOk result (V.alive vault.new) }
 {
     lookup_key(sw, vault, Key::Int(key), table, steps)

@@ -1,8 +1,10 @@
-ghost use Rattle.std.specs.Prelude.{◌≡◌, true, IfOk, IfSome, OnOk, Some};
+ghost use Rattle.std.specs.Prelude.{◌≡◌, ◌+◌, ◌*◌, ℕ, true, IfOk, IfSome, OnOk, OnErr, Some};
 ghost use Rattle.std.specs.declared.cmp.Ordering.TheVariants.{Less};
 ghost use Rattle.table_nodes.specs.avl_trees.Standing.{seek};
 ghost use Rattle.table_nodes.specs.heap_places.ps_heap.Operators.{is_int};
-ghost use Rattle.table_nodes.specs.heap_places.swizzle.Heap.{IsHeld};
+ghost use Rattle.table_nodes.specs.heap_places.swizzle.Heap.{IsHeld, num_at};
+ghost use Rattle.table_nodes.specs.avl_trees.Trees.{bits as digits};
+ghost use Rattle.table_nodes.specs.Bringing.{Brings};
 ghost use Rattle.table_nodes.specs.heap_places.swizzle.Touch.{Keeps};
 ghost use Rattle.table_nodes.specs.Keys.{by_ints, by_texts, order_by};
 ghost use Rattle.table_nodes.specs.Nodes.{IsNode, Grows};
@@ -12,7 +14,7 @@ ghost use Rattle.table_lib.specs.Nexts.{FindsNode, FindsPair, IsIntPair, IsTextP
 ghost use Rattle.table_lib.specs.Operations.{keys_of};
 
 use crate::bits::bits;
-use crate::words::{KeyKind, kind_of_key, open_table, root_node};
+use crate::words::{KeyKind, counted_root, kind_of_key, open_table};
 use table_nodes::follow::{first, next};
 use table_nodes::heap_places::heap_texts::fault::OpFault;
 use table_nodes::heap_places::obj_layout::vault::Vault;
@@ -35,6 +37,8 @@ fn node_above<V: Vault>(
     ensures node { IfOk result (λ found. IfSome found (IsNode sw.new)) }
     ensures grows { OnOk result (Grows sw.old sw.new (V.outside vault.old) (V.outside vault.new)) }
     ensures keeps { OnOk result (Keeps sw.old sw.new) }
+    ensures still { OnErr result (Keeps sw.old sw.new) }
+    ensures brings { (at : ℕ) → table ≡ Some at → Brings sw.old sw.new (2 * digits (num_at sw.old at 2) + 1) }
     ensures alive { OnOk result (V.alive vault.new) }
 {
     sw.sound();
@@ -45,8 +49,8 @@ fn node_above<V: Vault>(
     if !opened.used {
         return Ok(None);
     }
-    let bound = 2 * bits(sw.num(opened.at, 2)) + 2;
-    let root = match root_node(sw, vault, opened.at) {
+    let bound = 2 * bits(sw.num(opened.at, 2)) + 1;
+    let root = match counted_root(sw, vault, opened.at) {
         Ok(root) => root,
         Err(fault) => return Err(OpFault::Swizzle(fault)),
     };
@@ -69,6 +73,8 @@ fn least_node<V: Vault>(
     ensures node { IfOk result (λ found. IfSome found (IsNode sw.new)) }
     ensures grows { OnOk result (Grows sw.old sw.new (V.outside vault.old) (V.outside vault.new)) }
     ensures keeps { OnOk result (Keeps sw.old sw.new) }
+    ensures still { OnErr result (Keeps sw.old sw.new) }
+    ensures brings { (at : ℕ) → table ≡ Some at → Brings sw.old sw.new (2 * digits (num_at sw.old at 2) + 1) }
     ensures alive { OnOk result (V.alive vault.new) }
 {
     sw.sound();
@@ -79,8 +85,8 @@ fn least_node<V: Vault>(
     if !opened.used {
         return Ok(None);
     }
-    let bound = 2 * bits(sw.num(opened.at, 2)) + 2;
-    let root = match root_node(sw, vault, opened.at) {
+    let bound = 2 * bits(sw.num(opened.at, 2)) + 1;
+    let root = match counted_root(sw, vault, opened.at) {
         Ok(root) => root,
         Err(fault) => return Err(OpFault::Swizzle(fault)),
     };
@@ -102,6 +108,8 @@ fn text_pair<V: Vault>(
     ensures held { IfOk result (λ pair. IsTextHeld sw.new pair.0 × IsHeld sw.new pair.1) }
     ensures grows { OnOk result (Grows sw.old sw.new (V.outside vault.old) (V.outside vault.new)) }
     ensures keeps { OnOk result (Keeps sw.old sw.new) }
+    ensures still { OnErr result (Keeps sw.old sw.new) }
+    ensures brings { Brings sw.old sw.new 1 }
     ensures alive { OnOk result (V.alive vault.new) }
 {
     let key = match text_key(sw, vault, node) {
@@ -126,6 +134,8 @@ fn int_pair<V: Vault>(
     ensures held { IfOk result (λ pair. IsHeld sw.new pair.1) }
     ensures grows { OnOk result (Grows sw.old sw.new (V.outside vault.old) (V.outside vault.new)) }
     ensures keeps { OnOk result (Keeps sw.old sw.new) }
+    ensures still { OnErr result (Keeps sw.old sw.new) }
+    ensures brings { Brings sw.old sw.new 1 }
     ensures alive { OnOk result (V.alive vault.new) }
 {
     sw.sound();
@@ -153,6 +163,8 @@ fn text_node<V: Vault>(
     ensures node { IfOk result (λ found. IfSome found (IsNode sw.new)) }
     ensures grows { OnOk result (Grows sw.old sw.new (V.outside vault.old) (V.outside vault.new)) }
     ensures keeps { OnOk result (Keeps sw.old sw.new) }
+    ensures still { OnErr result (Keeps sw.old sw.new) }
+    ensures brings { (at : ℕ) → table ≡ Some at → Brings sw.old sw.new (2 * digits (num_at sw.old at 2) + 1) }
     ensures alive { OnOk result (V.alive vault.new) }
 {
     match after {
@@ -176,6 +188,8 @@ pub fn next_text<V: Vault>(
     ensures held { IfOk result (λ found. IfSome found (λ pair. IsTextHeld sw.new pair.0 × IsHeld sw.new pair.1)) }
     ensures grows { OnOk result (Grows sw.old sw.new (V.outside vault.old) (V.outside vault.new)) }
     ensures keeps { OnOk result (Keeps sw.old sw.new) }
+    ensures still { OnErr result (Keeps sw.old sw.new) }
+    ensures brings { (at : ℕ) → table ≡ Some at → Brings sw.old sw.new (2 * digits (num_at sw.old at 2) + 2) }
     ensures alive { OnOk result (V.alive vault.new) }
 {
     let found = match text_node(sw, vault, after, table) {
@@ -205,6 +219,8 @@ fn int_node<V: Vault>(
     ensures node { IfOk result (λ found. IfSome found (IsNode sw.new)) }
     ensures grows { OnOk result (Grows sw.old sw.new (V.outside vault.old) (V.outside vault.new)) }
     ensures keeps { OnOk result (Keeps sw.old sw.new) }
+    ensures still { OnErr result (Keeps sw.old sw.new) }
+    ensures brings { (at : ℕ) → table ≡ Some at → Brings sw.old sw.new (2 * digits (num_at sw.old at 2) + 1) }
     ensures alive { OnOk result (V.alive vault.new) }
 {
     match after {
@@ -228,6 +244,8 @@ pub fn next_int<V: Vault>(
     ensures held { IfOk result (λ found. IfSome found (λ pair. IsHeld sw.new pair.1)) }
     ensures grows { OnOk result (Grows sw.old sw.new (V.outside vault.old) (V.outside vault.new)) }
     ensures keeps { OnOk result (Keeps sw.old sw.new) }
+    ensures still { OnErr result (Keeps sw.old sw.new) }
+    ensures brings { (at : ℕ) → table ≡ Some at → Brings sw.old sw.new (2 * digits (num_at sw.old at 2) + 2) }
     ensures alive { OnOk result (V.alive vault.new) }
 {
     let found = match int_node(sw, vault, after, table) {

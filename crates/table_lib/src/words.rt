@@ -1,7 +1,8 @@
-ghost use Rattle.std.specs.Prelude.{◌≡◌, true, false, IfOk, IfSome, OnOk};
+ghost use Rattle.std.specs.Prelude.{◌≡◌, true, false, IfOk, IfSome, OnOk, OnErr};
 ghost use Rattle.table_nodes.specs.heap_places.obj_layout.declared.reference.Reference.{Reference};
 ghost use Rattle.table_nodes.specs.heap_places.swizzle.Heap.{IsHeld, num_at, ref_at};
 ghost use Rattle.table_nodes.specs.heap_places.swizzle.Touch.{Keeps};
+ghost use Rattle.table_nodes.specs.Bringing.{Brings, NoneCome};
 ghost use Rattle.table_nodes.specs.Nodes.{IsNode, Grows};
 ghost use Rattle.table_nodes.specs.Sought.{kind_of};
 ghost use Rattle.table_nodes.specs.Steps.{place};
@@ -118,6 +119,8 @@ pub fn root_node<V: Vault>(
     ensures node { IfOk result (λ root. IfSome root (IsNode sw.new)) }
     ensures grows { OnOk result (Grows sw.old sw.new (V.outside vault.old) (V.outside vault.new)) }
     ensures keeps { OnOk result (Keeps sw.old sw.new) }
+    ensures still { OnErr result (Keeps sw.old sw.new) }
+    ensures brings { Brings sw.old sw.new 1 }
     ensures alive { OnOk result (V.alive vault.new) }
 {
     sw.sound();
@@ -150,6 +153,8 @@ pub fn counted_root<V: Vault>(
     ensures node { IfOk result (λ root. IfSome root (IsNode sw.new)) }
     ensures grows { OnOk result (Grows sw.old sw.new (V.outside vault.old) (V.outside vault.new)) }
     ensures keeps { OnOk result (Keeps sw.old sw.new) }
+    ensures still { OnErr result (Keeps sw.old sw.new) }
+    ensures brings { Brings sw.old sw.new 1 }
     ensures alive { OnOk result (V.alive vault.new) }
 {
     let count = sw.num(at, 2);
@@ -173,6 +178,7 @@ pub fn write_table<V: Vault>(
     requires root { IfSome root (IsNode sw.old) }
     ensures written { WritesTable (keys_of keys) sw.old sw.new (V.outside vault.now) at root count }
     ensures spares { SparesBut at sw.old sw.new (V.outside vault.now) (V.outside vault.now) }
+    ensures none { NoneCome sw.old sw.new }
 {
     let _ = vault;
     sw.sound();
@@ -191,6 +197,7 @@ pub fn mark_table<V: Vault>(sw: &mut Swizzle, vault: &V, at: u32)
     requires table { IsTableAt sw.old at }
     ensures marked { MarksTable sw.old sw.new (V.outside vault.now) (V.outside vault.now) at }
     ensures spares { SparesBut at sw.old sw.new (V.outside vault.now) (V.outside vault.now) }
+    ensures none { NoneCome sw.old sw.new }
 {
     let _ = vault;
     sw.sound();

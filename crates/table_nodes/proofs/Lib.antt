@@ -11,5 +11,7 @@ pub mod Putting
 pub mod Removal
 pub mod StepLaws
 pub mod TurnLaws
+pub mod WingLaws
+pub mod BringLaws
 pub use Rattle.heap_places.proofs as of_heap_places
 pub use Rattle.avl_trees.proofs as of_avl_trees

@@ -1,5 +1,5 @@
 -- A pair is put into the tree of a node.
-use Rattle.std.proofs.Common.{true, false, ◌≡◌, ◌≢◌, ℕ, ◌<◌, ◌∷◌, ◌++◌, Option, Some, None, Result, Ok, Err, MatchResult, refl, sym, ap, ◌∙◌, subst, arith, inl, inr}
+use Rattle.std.proofs.Common.{true, false, ◌≡◌, ◌≢◌, ℕ, ◌+◌, ◌<◌, ◌∷◌, ◌++◌, Option, Some, None, Result, Ok, Err, MatchResult, refl, sym, ap, ◌∙◌, subst, arith, inl, inr}
 use Rattle.std.specs.declared.cmp.Ordering.TheVariants.{Less, Equal, Greater}
 use Rattle.heap_places.specs.ps_outside.Outside.{Outside, SameContents}
 use Rattle.heap_places.specs.obj_layout.Stored.{Space}
@@ -11,15 +11,21 @@ use Rattle.heap_places.specs.swizzle.Heap.{Heap, IsFull, top_of}
 use Rattle.heap_places.specs.swizzle.Joint.{name_at}
 use Rattle.heap_places.specs.swizzle.Reading.{joint}
 use Rattle.heap_places.proofs.of_swizzle.JointLaws.{name-fresh}
+use Rattle.heap_places.proofs.of_swizzle.NameLaws.{name_at-injective}
 use Rattle.avl_trees.specs.Trees.{Tree, leaf, node, height, items, insert, lookup, balance}
 use Rattle.avl_trees.specs.Standing.{Stands, Given, under, root_of, row_of, put, fresh_item, seek, IsWritten}
+use Rattle.avl_trees.proofs.Leaning.{insert_leans, grew_left, grew_right}
 use Rattle.avl_trees.proofs.Ordered.{around, all_front, all_back}
 use Rattle.avl_trees.proofs.Standing.{stands_grown}
 use Rattle.avl_trees.proofs.Turning.{touched}
 use Rattle.avl_trees.proofs.Entering.{apart_left, apart_right, left_given, left_entered, right_given, right_entered, entered_here, entered_leaf, entered_grown, entered_here_is, entered_left_is, entered_right_is}
 use Rattle.table_nodes.specs.Keys.{Keys, KeyOf, order_by}
-use Rattle.table_nodes.specs.Nodes.{IsNamed, IsLinked, IsFetchFault}
-use Rattle.table_nodes.specs.Steps.{I, Place, place, IsPlace, rows_of, AreSides, StandsAt, Balances, Holds, Touches}
+use Rattle.table_nodes.specs.Nodes.{IsNamed, IsLinked}
+use Rattle.table_nodes.specs.Steps.{I, Place, place, IsPlace, rows_of, AreSides, StandsAt, Holds, Touches}
+use Rattle.table_nodes.specs.Turning.{Balances}
+use Rattle.table_nodes.specs.Wings.{AreEnds, IsLeftWing, IsRightWing}
+use Rattle.table_nodes.specs.declared.sides.Sides.{Sides}
+use Rattle.table_nodes.specs.declared.wing.Wing.{Wing}
 use Rattle.table_nodes.specs.Searching.{HasValue, IsTree}
 use Rattle.table_nodes.specs.Entering.{Makes, Puts, with_value, IsOpened, Enters, EntersAt, IsEnterFault, IsCountedAt, is_missing, IsNoRoom}
 use Rattle.table_nodes.specs.declared.enter.Entered.{Entered}
@@ -27,6 +33,7 @@ use Rattle.table_nodes.specs.declared.opening.Opened.{Opened}
 use Rattle.table_nodes.proofs.KeyLaws.{total}
 use Rattle.table_nodes.proofs.NodeLaws.{fetch_back}
 use Rattle.table_nodes.proofs.Seeking.{lookup_here, lookup_left, lookup_right}
+use Rattle.table_nodes.proofs.WingLaws.{ends_kept, left_ends, right_ends}
 use Rattle.table_nodes.proofs.StepLaws.{one, linked_kept, place_touched, apart_front, apart_back, other_name}
 
 -- a side of a tree is a tree
@@ -54,11 +61,20 @@ module _ (ks : Keys) (key : KeyOf ks) (value : Reference) where
   abbrev with_entry : Reference → Tree (I ks) → Tree (I ks)
   with_entry fresh t = insert (seek (order_by ks) key) (put value) (fresh_item fresh key value) t
 
+  -- a new node has no sides
+  abbrev new_wing : Wing
+  new_wing = record { sides = Some (record { left = None; right = None }); left = None; right = None }
+
+  abbrev made_as : Result ℕ SwizzleFault → Result Entered SwizzleFault
+  made_as (Ok at) = Ok (record { root = at; made = true; wing = new_wing })
+  made_as (Err fault) = Err fault
+
   pub put_leaf : (old new : Heap) (outside : Outside Space) (root : Option ℕ) (result : Result ℕ SwizzleFault) → root ≡ None
       → MatchResult result (λ at. Makes ks old new outside at key value) (λ fault. IsFull old new 11 fault)
-      → (t : Tree (I ks)) → IsPlace (place old outside) → IsTree ks (place old outside) root t → MatchResult result (Enters ks (place old outside) (place new outside) t key value) (IsEnterFault outside)
+      → (t : Tree (I ks)) → IsPlace (place old outside) → IsTree ks (place old outside) root t → MatchResult (made_as result) (Enters ks (place old outside) (place new outside) t key value) (IsEnterFault outside)
   unfolding insert
-  put_leaf old new outside root result e made (node x b y) p h = absurd (subst (λ s. IsLinked old s (Some b.name)) e h.root_is)
+  put_leaf old new outside root (Err fault) e made (node x b y) p h = absurd (subst (λ s. IsLinked old s (Some b.name)) e h.root_is)
+  put_leaf old new outside root (Ok at) e made (node x b y) p h = absurd (subst (λ s. IsLinked old s (Some b.name)) e h.root_is)
   put_leaf old new outside root (Err fault) e made leaf p h = inr (subst IsNoRoom (sym made.fault_is) (refl, made.full))
   put_leaf old new outside root (Ok at) e made leaf p h = record {
     fresh = Local at;
@@ -69,87 +85,104 @@ module _ (ks : Keys) (key : KeyOf ks) (value : Reference) where
       root_is = made.here;
       others = λ n it p k. made.seen n it k;
     };
+    wing = λ grew. (((tt, tt), λ lower. tt), ((tt, tt), λ lower. tt));
   }
 
-  module _ (old m m1 m2 : Place) (at h : ℕ) (root : Option ℕ) (opened : Opened) (grows : Touches old m) (p : IsPlace old) (l : Tree (I ks)) (a : I ks) (r : Tree (I ks)) (t : IsTree ks old root (node l a r)) (named : IsNamed old.heap at a.name) (o : IsOpened ks m.heap key l a r opened) where
+  module _ (old m m1 m2 : Place) (at : ℕ) (root : Option ℕ) (opened : Opened) (grows : Touches old m) (p : IsPlace old) (l : Tree (I ks)) (a : I ks) (r : Tree (I ks)) (t : IsTree ks old root (node l a r)) (named : IsNamed old.heap at a.name) (o : IsOpened ks m.heap key l a r opened) where
     standing : Stands (rows_of ks m) (node l a r)
     standing = stands_grown (rows_of ks old) (rows_of ks m) (grows.rows ks) (node l a r) t.stands
 
     here : IsPlace m
     here = place_touched old m grows p
 
-    pub put_left : (side : ℕ) → Holds m.heap m1.heap → SameContents m.outside m1.outside → ((t : Tree (I ks)) → IsPlace m → IsTree ks m opened.left t → height t < h → Enters ks m m1 t key value side) → (result : Result ℕ SwizzleFault) → Balances m1 m2 at (Some side) opened.right result
-        → h ≡ height (node l a r) → h < 200 → opened.order ≡ Less → MatchResult result (Enters ks old m2 (node l a r) key value) (IsEnterFault old.outside)
-    put_left side holds contents enters result balances hh low less =
+    pub put_left : (side top : Entered) → Holds m.heap m1.heap → Holds m1.heap m2.heap → Enters ks m m1 l key value side → Balances m1 m2 at (Some side.root) opened.right side.wing top.root
+        → (top.root ≡ at → top.wing ≡ record { sides = Some (record { left = Some side.root; right = opened.right }); left = side.wing.sides; right = None })
+        → height (node l a r) < 200 → opened.order ≡ Less → Enters ks old m2 (node l a r) key value top
+    put_left side top holds last w balances plain low less =
         let e = sym o.order ∙ less in
-        let w = enters l here (tree_left ks old m root opened.left grows l a r t o.left) (omega (arith, hh)) in
         let grown = entered_grown (order_by ks) (total ks) key value w.fresh l t.balanced.0 in
         let g = left_given (order_by ks) (total ks) key value w.fresh (rows_of ks m) (rows_of ks m1) (one ks m here) l a r e standing t.rising w.stands.becomes in
-        let sides : AreSides ks m1 at (Some side) opened.right (with_entry w.fresh l) a r = record {
+        let sides : AreSides ks m1 at (Some side.root) opened.right (with_entry w.fresh l) a r = record {
           given = g;
           here = w.stands.here;
           name = holds.named at a.name (grows.named at a.name named);
           left_is = w.stands.root_is;
           right_is = linked_kept m.heap m1.heap holds.named opened.right (root_of r) o.right;
-          left_low = omega (arith, grown.high, hh, low);
-          right_low = omega (arith, hh, low);
+          left_low = omega (arith, grown.high, low);
+          right_low = omega (arith, low);
         } in
-        go w g result (balances ks _ a r sides)
-      where
-        go : (w : Enters ks m m1 l key value side) → Given (order_by ks) (rows_of ks m1) (with_entry w.fresh l) a r → (result : Result ℕ SwizzleFault)
-            → MatchResult result (StandsAt ks m1 m2 (items (with_entry w.fresh l) ++ a ∷ items r) (balance (with_entry w.fresh l) a r)) (IsFetchFault m1.outside)
-            → MatchResult result (Enters ks old m2 (node l a r) key value) (IsEnterFault old.outside)
-        go w g (Err fault) v = inl (fetch_back old.outside m.outside fault grows.contents (fetch_back m.outside m1.outside fault contents v))
-        go w g (Ok top) v = record {
+        let known : height r + 1 < height (with_entry w.fresh l) → IsLeftWing m1.heap side.wing (with_entry w.fresh l) = λ tall. (w.wing (omega (arith, tall, grown.high, grown.low, t.balanced.2))).0 in
+        let none : height (with_entry w.fresh l) + 1 < height r → IsRightWing m1.heap side.wing r = λ tall. absurd (omega (arith, tall, grown.low, t.balanced.2)) in
+        let v = balances ks (with_entry w.fresh l) a r sides known none in
+        let is = entered_left_is (order_by ks) (total ks) key value w.fresh l a r e in
+        record {
           fresh = w.fresh;
           is_fresh = λ it k. w.is_fresh it (grows.seen w.fresh it k);
           stands = record {
-            becomes = touched (rows_of ks old) (rows_of ks m) (rows_of ks m2) _ _ (grows.rows ks) (left_entered (order_by ks) (total ks) key value w.fresh (rows_of ks m) (rows_of ks m1) (rows_of ks m2) (λ row k. w.is_fresh k.it k.there) l a r (sym o.order ∙ less) t.rising w.stands.becomes v.becomes);
+            becomes = touched (rows_of ks old) (rows_of ks m) (rows_of ks m2) _ _ (grows.rows ks) (left_entered (order_by ks) (total ks) key value w.fresh (rows_of ks m) (rows_of ks m1) (rows_of ks m2) (λ row k. w.is_fresh k.it k.there) l a r e t.rising w.stands.becomes v.becomes);
             here = v.here;
-            root_is = subst (λ u. IsLinked m2.heap (Some top) (root_of u)) (sym (entered_left_is (order_by ks) (total ks) key value w.fresh l a r (sym o.order ∙ less))) v.root_is;
+            root_is = subst (λ u. IsLinked m2.heap (Some top.root) (root_of u)) (sym is) v.root_is;
             others = λ n it p k.
                 let unlike : w.fresh ≢ n = λ e. w.is_fresh it (subst (λ x. joint m.heap m.outside x it) (sym e) (grows.seen n it k)) in
                 v.others n it (apart_left (order_by ks) (total ks) key value w.fresh n unlike l a r (sym o.order ∙ less) t.rising p) (w.stands.others n it (apart_front n (items l) a (items r) p) (grows.seen n it k));
           };
+          wing = λ grew.
+              let gl = grew_left l (with_entry w.fresh l) a r t.balanced grown (insert_leans (seek (order_by ks) key) (put value) (fresh_item w.fresh key value) l t.balanced.0) (ap height (sym is) ∙ grew) in
+              let at_is = last.named at a.name (holds.named at a.name (grows.named at a.name named)) in
+              let root_is : IsNamed m2.heap top.root a.name = subst (λ u. IsLinked m2.heap (Some top.root) (root_of u)) gl.plain v.root_is in
+              let wing_is = plain (name_at-injective m2.heap top.root at v.here.heap root_is.node.held at_is.node.held (root_is.name ∙ sym at_is.name)) in
+              let ends : AreEnds m2.heap (Some (record { left = Some side.root; right = opened.right })) (node (with_entry w.fresh l) a r) =
+              (linked_kept m1.heap m2.heap last.named (Some side.root) (root_of (with_entry w.fresh l)) w.stands.root_is, linked_kept m1.heap m2.heap last.named opened.right (root_of r) sides.right_is) in
+              let below : AreEnds m2.heap side.wing.sides (with_entry w.fresh l) = ends_kept m1.heap m2.heap last.named side.wing.sides (with_entry w.fresh l) (left_ends m1.heap side.wing (with_entry w.fresh l) (w.wing gl.side).0) in
+              subst (λ u. IsLeftWing m2.heap top.wing u × IsRightWing m2.heap top.wing u) (sym (is ∙ gl.plain)) (subst (λ k. IsLeftWing m2.heap k (node (with_entry w.fresh l) a r) × IsRightWing m2.heap k (node (with_entry w.fresh l) a r)) (sym wing_is)
+              ((ends, λ lower. absurd (omega (arith, lower, gl.higher))), (ends, λ lower. below)));
         }
 
-    pub put_right : (side : ℕ) → Holds m.heap m1.heap → SameContents m.outside m1.outside → ((t : Tree (I ks)) → IsPlace m → IsTree ks m opened.right t → height t < h → Enters ks m m1 t key value side) → (result : Result ℕ SwizzleFault) → Balances m1 m2 at opened.left (Some side) result
-        → h ≡ height (node l a r) → h < 200 → opened.order ≡ Greater → MatchResult result (Enters ks old m2 (node l a r) key value) (IsEnterFault old.outside)
-    put_right side holds contents enters result balances hh low more =
+    pub put_right : (side top : Entered) → Holds m.heap m1.heap → Holds m1.heap m2.heap → Enters ks m m1 r key value side → Balances m1 m2 at opened.left (Some side.root) side.wing top.root
+        → (top.root ≡ at → top.wing ≡ record { sides = Some (record { left = opened.left; right = Some side.root }); left = None; right = side.wing.sides })
+        → height (node l a r) < 200 → opened.order ≡ Greater → Enters ks old m2 (node l a r) key value top
+    put_right side top holds last w balances plain low more =
         let e = sym o.order ∙ more in
-        let w = enters r here (tree_right ks old m root opened.right grows l a r t o.right) (omega (arith, hh)) in
         let grown = entered_grown (order_by ks) (total ks) key value w.fresh r t.balanced.1 in
         let g = right_given (order_by ks) (total ks) key value w.fresh (rows_of ks m) (rows_of ks m1) (one ks m here) l a r e standing t.rising w.stands.becomes in
-        let sides : AreSides ks m1 at opened.left (Some side) l a (with_entry w.fresh r) = record {
+        let sides : AreSides ks m1 at opened.left (Some side.root) l a (with_entry w.fresh r) = record {
           given = g;
           here = w.stands.here;
           name = holds.named at a.name (grows.named at a.name named);
           left_is = linked_kept m.heap m1.heap holds.named opened.left (root_of l) o.left;
           right_is = w.stands.root_is;
-          left_low = omega (arith, hh, low);
-          right_low = omega (arith, grown.high, hh, low);
+          left_low = omega (arith, low);
+          right_low = omega (arith, grown.high, low);
         } in
-        go w g result (balances ks l a _ sides)
-      where
-        go : (w : Enters ks m m1 r key value side) → Given (order_by ks) (rows_of ks m1) l a (with_entry w.fresh r) → (result : Result ℕ SwizzleFault)
-            → MatchResult result (StandsAt ks m1 m2 (items l ++ a ∷ items (with_entry w.fresh r)) (balance l a (with_entry w.fresh r))) (IsFetchFault m1.outside)
-            → MatchResult result (Enters ks old m2 (node l a r) key value) (IsEnterFault old.outside)
-        go w g (Err fault) v = inl (fetch_back old.outside m.outside fault grows.contents (fetch_back m.outside m1.outside fault contents v))
-        go w g (Ok top) v = record {
+        let none : height (with_entry w.fresh r) + 1 < height l → IsLeftWing m1.heap side.wing l = λ tall. absurd (omega (arith, tall, grown.low, t.balanced.2)) in
+        let known : height l + 1 < height (with_entry w.fresh r) → IsRightWing m1.heap side.wing (with_entry w.fresh r) = λ tall. (w.wing (omega (arith, tall, grown.high, grown.low, t.balanced.2))).1 in
+        let v = balances ks l a (with_entry w.fresh r) sides none known in
+        let is = entered_right_is (order_by ks) (total ks) key value w.fresh l a r e in
+        record {
           fresh = w.fresh;
           is_fresh = λ it k. w.is_fresh it (grows.seen w.fresh it k);
           stands = record {
-            becomes = touched (rows_of ks old) (rows_of ks m) (rows_of ks m2) _ _ (grows.rows ks) (right_entered (order_by ks) (total ks) key value w.fresh (rows_of ks m) (rows_of ks m1) (rows_of ks m2) (λ row k. w.is_fresh k.it k.there) l a r (sym o.order ∙ more) t.rising w.stands.becomes v.becomes);
+            becomes = touched (rows_of ks old) (rows_of ks m) (rows_of ks m2) _ _ (grows.rows ks) (right_entered (order_by ks) (total ks) key value w.fresh (rows_of ks m) (rows_of ks m1) (rows_of ks m2) (λ row k. w.is_fresh k.it k.there) l a r e t.rising w.stands.becomes v.becomes);
             here = v.here;
-            root_is = subst (λ u. IsLinked m2.heap (Some top) (root_of u)) (sym (entered_right_is (order_by ks) (total ks) key value w.fresh l a r (sym o.order ∙ more))) v.root_is;
+            root_is = subst (λ u. IsLinked m2.heap (Some top.root) (root_of u)) (sym is) v.root_is;
             others = λ n it p k.
                 let unlike : w.fresh ≢ n = λ e. w.is_fresh it (subst (λ x. joint m.heap m.outside x it) (sym e) (grows.seen n it k)) in
                 v.others n it (apart_right (order_by ks) (total ks) key value w.fresh n unlike l a r (sym o.order ∙ more) t.rising p) (w.stands.others n it (apart_back n (items l) a (items r) p) (grows.seen n it k));
           };
+          wing = λ grew.
+              let gr = grew_right l a r (with_entry w.fresh r) t.balanced grown (insert_leans (seek (order_by ks) key) (put value) (fresh_item w.fresh key value) r t.balanced.1) (ap height (sym is) ∙ grew) in
+              let at_is = last.named at a.name (holds.named at a.name (grows.named at a.name named)) in
+              let root_is : IsNamed m2.heap top.root a.name = subst (λ u. IsLinked m2.heap (Some top.root) (root_of u)) gr.plain v.root_is in
+              let wing_is = plain (name_at-injective m2.heap top.root at v.here.heap root_is.node.held at_is.node.held (root_is.name ∙ sym at_is.name)) in
+              let ends : AreEnds m2.heap (Some (record { left = opened.left; right = Some side.root })) (node l a (with_entry w.fresh r)) =
+              (linked_kept m1.heap m2.heap last.named opened.left (root_of l) sides.left_is, linked_kept m1.heap m2.heap last.named (Some side.root) (root_of (with_entry w.fresh r)) w.stands.root_is) in
+              let below : AreEnds m2.heap side.wing.sides (with_entry w.fresh r) = ends_kept m1.heap m2.heap last.named side.wing.sides (with_entry w.fresh r) (right_ends m1.heap side.wing (with_entry w.fresh r) (w.wing gr.side).1) in
+              subst (λ u. IsLeftWing m2.heap top.wing u × IsRightWing m2.heap top.wing u) (sym (is ∙ gr.plain)) (subst (λ k. IsLeftWing m2.heap k (node l a (with_entry w.fresh r)) × IsRightWing m2.heap k (node l a (with_entry w.fresh r))) (sym wing_is)
+              ((ends, λ lower. below), (ends, λ lower. absurd (omega (arith, lower, gr.higher)))));
         }
 
-    pub put_here : (new : Heap) (at_value : ℕ) → name_at m.heap at_value ≡ value → Puts m.heap new m.outside at at_value → opened.order ≡ Equal → Enters ks old (place new m.outside) (node l a r) key value at
-    put_here new at_value is_value puts same =
+    pub put_here : (new : Heap) (at_value : ℕ) (top : Entered) → top.root ≡ at → name_at m.heap at_value ≡ value → Puts m.heap new m.outside at at_value → opened.order ≡ Equal → Enters ks old (place new m.outside) (node l a r) key value top
+    put_here new at_value top top_is is_value puts same =
         let e = sym o.order ∙ same in
         let fresh = Local (top_of old.heap) in
         let w : IsWritten (rows_of ks m) a.name (row_of l (put value a) r) (rows_of ks (place new m.outside)) =
@@ -160,9 +193,10 @@ module _ (ks : Keys) (key : KeyOf ks) (value : Reference) where
           stands = record {
             becomes = touched (rows_of ks old) (rows_of ks m) (rows_of ks (place new m.outside)) _ _ (grows.rows ks) (entered_here (order_by ks) (total ks) key value fresh (rows_of ks m) (rows_of ks (place new m.outside)) (one ks m here) l a r e standing t.rising w);
             here = record { heap = puts.heap; single = here.single };
-            root_is = subst (λ u. IsLinked new (Some at) (root_of u)) (sym (entered_here_is (order_by ks) (total ks) key value fresh l a r e)) (puts.named at a.name (grows.named at a.name named));
+            root_is = subst (λ i. IsLinked new (Some i) (root_of (with_entry fresh (node l a r)))) (sym top_is) (subst (λ u. IsLinked new (Some at) (root_of u)) (sym (entered_here_is (order_by ks) (total ks) key value fresh l a r e)) (puts.named at a.name (grows.named at a.name named)));
             others = λ n it p k. puts.others here.single n it (other_name m.heap at n (items l) a (items r) (grows.named at a.name named) p) (grows.seen n it k);
           };
+          wing = λ grew. absurd (omega (arith, ap height (entered_here_is (order_by ks) (total ks) key value fresh l a r e), grew));
         }
 
 -- Where the root of a tree is.

@@ -1,7 +1,9 @@
 -- A key is taken out of the tree of a node.
-use Rattle.std.proofs.Common.{true, false, ◌≢◌, ◌≡◌, ℕ, ◌<◌, ◌≤◌, ◌∷◌, ◌++◌, Option, Some, None, Result, Ok, Err, sym, ap, ◌∙◌, subst, arith}
+use Rattle.std.proofs.Common.{true, false, ◌≢◌, ◌≡◌, ℕ, ◌<◌, ◌≤◌, ◌+◌, List, ◌∷◌, ◌++◌, Option, Some, None, Result, Ok, Err, sym, ap, ◌∙◌, subst, arith}
 use Rattle.std.specs.declared.cmp.Ordering.TheVariants.{Less, Equal, Greater}
+use Rattle.heap_places.specs.obj_layout.declared.reference.Reference.{Reference}
 use Rattle.heap_places.specs.swizzle.declared.fault.SwizzleFault.{SwizzleFault}
+use Rattle.heap_places.specs.swizzle.Heap.{Heap}
 use Rattle.avl_trees.specs.Trees.{Tree, leaf, node, height, items, balance, least, rest, merge, remove, lookup}
 use Rattle.avl_trees.specs.Standing.{Stands, Given, Becomes, IsApart, root_of, seek}
 use Rattle.avl_trees.proofs.Balanced.{rest_shrunk, remove_shrunk}
@@ -15,6 +17,9 @@ use Rattle.table_nodes.specs.Nodes.{IsNamed, IsLinked, IsFetchFault}
 use Rattle.table_nodes.specs.Steps.{I, Place, IsPlace, StayBeside, rows_of, AreSides, StandsAt, Holds, Touches}
 use Rattle.table_nodes.specs.Searching.{IsTree}
 use Rattle.table_nodes.specs.Entering.{IsOpened, is_missing}
+use Rattle.table_nodes.specs.Wings.{IsLeftWing, IsRightWing}
+use Rattle.table_nodes.specs.declared.wing.Wing.{Wing}
+use Rattle.table_nodes.proofs.WingLaws.{left_wing_kept, right_wing_kept}
 use Rattle.table_nodes.specs.Removing.{IsGoneAt, IsTaken, Leaves, Merges, Removes}
 use Rattle.table_nodes.specs.declared.opening.Opened.{Opened}
 use Rattle.table_nodes.specs.declared.remove.Least.{Least}
@@ -28,6 +33,12 @@ use Rattle.table_nodes.proofs.StepLaws.{one, linked_kept, place_touched, apart_f
 pub tree_grown : (ks : Keys) (old m : Place) (at : ℕ) (root : Option ℕ) → Touches old m → (l : Tree (I ks)) (a : I ks) (r : Tree (I ks)) → IsNamed old.heap at a.name → IsTree ks old root (node l a r) → IsTree ks m (Some at) (node l a r)
 tree_grown ks old m at root grows l a r named h =
     record { stands = stands_grown (rows_of ks old) (rows_of ks m) (grows.rows ks) (node l a r) h.stands; root_is = grows.named at a.name named; rising = h.rising; balanced = h.balanced; values = h.values }
+
+pub leaves_touched : (ks : Keys) (old m new : Place) → Touches old m → (is : List (I ks)) (t : Tree (I ks)) (root : Option ℕ) → Leaves ks m new is t root → Leaves ks old new is t root
+leaves_touched ks old m new grows is t root w = record { becomes = touched (rows_of ks old) (rows_of ks m) (rows_of ks new) is t (grows.rows ks) w.becomes; here = w.here; root_is = w.root_is; others = λ n it a k. w.others n it a (grows.seen n it k) }
+
+pub opened_kept : (ks : Keys) (a b : Heap) → ((at : ℕ) (n : Reference) → IsNamed a at n → IsNamed b at n) → (key : KeyOf ks) (x : Tree (I ks)) (i : I ks) (y : Tree (I ks)) (opened : Opened) → IsOpened ks a key x i y opened → IsOpened ks b key x i y opened
+opened_kept ks a b f key x i y opened o = record { order = o.order; left = linked_kept a b f opened.left (root_of x) o.left; right = linked_kept a b f opened.right (root_of y) o.right }
 
 -- The least node.
 
@@ -64,6 +75,11 @@ module _ (ks : Keys) where
           left_low = omega (arith, s.low, low);
           right_low = omega (arith, low);
         }
+
+    pub least_known : (wing : Wing) → (height (node x b y) < height r → IsRightWing m.heap wing r) → (height r + 1 < height (rest x b y) → IsLeftWing m1.heap wing (rest x b y)) × (height (rest x b y) + 1 < height r → IsRightWing m1.heap wing r)
+    least_known wing known =
+        let s = rest_shrunk x b y h.balanced.0 in
+        (λ tall. absurd (omega (arith, tall, s.low, h.balanced.2)), λ tall. right_wing_kept m.heap m1.heap holds.named wing r (known (omega (arith, tall, s.high))))
 
     pub least_above : (m2 : Place) (top : ℕ) → Holds m1.heap m2.heap → StandsAt ks m1 m2 (items (rest x b y) ++ a ∷ items r) (balance (rest x b y) a r) top → IsTaken ks old m2 (node x b y) a r (record { node = found.node; rest = Some top })
     unfolding least rest
@@ -110,6 +126,12 @@ module _ (ks : Keys) where
           right_low = omega (arith, s.low, low);
         }
 
+    pub merge_known : (wing : Wing) → (height (node x b y) < height (node u d v) → IsLeftWing old.heap wing (node u d v))
+        → (height (rest x b y) + 1 < height (node u d v) → IsLeftWing m1.heap wing (node u d v)) × (height (node u d v) + 1 < height (rest x b y) → IsRightWing m1.heap wing (rest x b y))
+    merge_known wing known =
+        let s = rest_shrunk x b y h.balanced.1 in
+        (λ tall. left_wing_kept old.heap m1.heap holds.named wing (node u d v) (known (omega (arith, tall, s.high))), λ tall. absurd (omega (arith, tall, s.low, h.balanced.2)))
+
     pub merge_done : (m2 : Place) (top : ℕ) → StandsAt ks m1 m2 (items (node u d v) ++ least x b ∷ items (rest x b y)) (balance (node u d v) (least x b) (rest x b y)) top
         → Leaves ks old m2 (items (node (node u d v) a (node x b y))) (merge (node u d v) (node x b y)) (Some top)
     unfolding merge
@@ -151,6 +173,16 @@ module _ (ks : Keys) (key : KeyOf ks) where
           left_low = omega (arith, s.low, low);
           right_low = omega (arith, low);
         }
+
+    pub left_known : (wing : Wing) → Holds m.heap m1.heap → (height l < height r → IsRightWing m.heap wing r) → (height r + 1 < height (removed l) → IsLeftWing m1.heap wing (removed l)) × (height (removed l) + 1 < height r → IsRightWing m1.heap wing r)
+    left_known wing holds known =
+        let s = remove_shrunk (seek (order_by ks) key) l h.balanced.0 in
+        (λ tall. absurd (omega (arith, tall, s.low, h.balanced.2)), λ tall. right_wing_kept m.heap m1.heap holds.named wing r (known (omega (arith, tall, s.high))))
+
+    pub right_known : (wing : Wing) → Holds m.heap m1.heap → (height r < height l → IsLeftWing m.heap wing l) → (height (removed r) + 1 < height l → IsLeftWing m1.heap wing l) × (height l + 1 < height (removed r) → IsRightWing m1.heap wing (removed r))
+    right_known wing holds known =
+        let s = remove_shrunk (seek (order_by ks) key) r h.balanced.1 in
+        (λ tall. left_wing_kept m.heap m1.heap holds.named wing l (known (omega (arith, tall, s.high))), λ tall. absurd (omega (arith, tall, s.low, h.balanced.2)))
 
     pub left_done : (m2 : Place) (side : Option ℕ) (top : ℕ) → opened.order ≡ Less → Leaves ks m m1 (items l) (removed l) side
         → StandsAt ks m1 m2 (items (removed l) ++ a ∷ items r) (balance (removed l) a r) top → Leaves ks old m2 (items (node l a r)) (removed (node l a r)) (Some top)
@@ -211,16 +243,15 @@ unfolding lookup
 gone_leaf ks key p root e leaf h = λ f. cc
 gone_leaf ks key p root e (node x b y) h = absurd (subst (λ s. IsLinked p.heap s (Some b.name)) e h.root_is)
 
-module _ (ks : Keys) (key : KeyOf ks) (old m : Place) (root side : Option ℕ) (bound : ℕ) (grows : Touches old m) (x : Tree (I ks)) (b : I ks) (y : Tree (I ks)) (h : IsTree ks old root (node x b y)) (low : bound ≡ height (node x b y)) (wanted : KeyOf ks) (same : wanted ≡ key) (removed : Removed)
-    (gone : IsGoneAt ks m side bound wanted (Ok removed)) where
-  pub gone_left : IsLinked m.heap side (root_of x) → order_by ks key b.entry.key ≡ Less → removed.gone ≢ is_missing (lookup (seek (order_by ks) key) (node x b y))
-  gone_left linked less =
-      let below = subst (λ k. removed.gone ≢ is_missing (lookup (seek (order_by ks) k) x)) same (gone x (tree_left ks old m root side grows x b y h linked) (omega (arith, low))) in
+module _ (ks : Keys) (key : KeyOf ks) (old m : Place) (root side : Option ℕ) (bound : ℕ) (grows : Touches old m) (x : Tree (I ks)) (b : I ks) (y : Tree (I ks)) (h : IsTree ks old root (node x b y)) where
+  pub gone_left : height x < bound → (wanted : KeyOf ks) → wanted ≡ key → (removed : Removed) → IsGoneAt ks m side bound wanted (Ok removed) → IsLinked m.heap side (root_of x) → order_by ks key b.entry.key ≡ Less → removed.gone ≢ is_missing (lookup (seek (order_by ks) key) (node x b y))
+  gone_left low wanted same removed gone linked less =
+      let below = subst (λ k. removed.gone ≢ is_missing (lookup (seek (order_by ks) k) x)) same (gone x (tree_left ks old m root side grows x b y h linked) low) in
       λ e. below (e ∙ ap is_missing (lookup_left ks key x b y less))
 
-  pub gone_right : IsLinked m.heap side (root_of y) → order_by ks key b.entry.key ≡ Greater → removed.gone ≢ is_missing (lookup (seek (order_by ks) key) (node x b y))
-  gone_right linked more =
-      let below = subst (λ k. removed.gone ≢ is_missing (lookup (seek (order_by ks) k) y)) same (gone y (tree_right ks old m root side grows x b y h linked) (omega (arith, low))) in
+  pub gone_right : height y < bound → (wanted : KeyOf ks) → wanted ≡ key → (removed : Removed) → IsGoneAt ks m side bound wanted (Ok removed) → IsLinked m.heap side (root_of y) → order_by ks key b.entry.key ≡ Greater → removed.gone ≢ is_missing (lookup (seek (order_by ks) key) (node x b y))
+  gone_right low wanted same removed gone linked more =
+      let below = subst (λ k. removed.gone ≢ is_missing (lookup (seek (order_by ks) k) y)) same (gone y (tree_right ks old m root side grows x b y h linked) low) in
       λ e. below (e ∙ ap is_missing (lookup_right ks key x b y more))
 
 pub gone_here : (ks : Keys) (key : KeyOf ks) (x : Tree (I ks)) (b : I ks) (y : Tree (I ks)) → order_by ks key b.entry.key ≡ Equal → true ≢ is_missing (lookup (seek (order_by ks) key) (node x b y))

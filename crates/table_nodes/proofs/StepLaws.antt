@@ -14,7 +14,7 @@ use Rattle.avl_trees.proofs.Ordered.{all_front, all_back}
 use Rattle.avl_trees.proofs.Turning.{set_between, touched}
 use Rattle.table_nodes.specs.Keys.{Keys, order_by}
 use Rattle.table_nodes.specs.Nodes.{Seat, IsSeat, IsNamed, IsLinked, IsSide, Links, with_sides}
-use Rattle.table_nodes.specs.Steps.{I, Place, place, rows_of, IsPlace, AreSides, SetsSides, Holds as Keeps, Answers, Touches}
+use Rattle.table_nodes.specs.Steps.{I, Place, place, rows_of, IsPlace, AreSides, SetsSides, Holds as Keeps, Touches}
 use Rattle.table_nodes.proofs.KeyLaws.{total}
 use Rattle.table_nodes.proofs.NodeLaws.{seat_one, joint_one, single_kept, fetch_back}
 
@@ -80,11 +80,6 @@ sides_set old new outside at left right h w high = record {
   others = λ p. w.others p.single;
   holds = record { nodes = w.nodes; named = w.named };
 }
-
--- what was answered after touches
-pub answers_touched : (ks : Keys) (old m new : Place) → Touches old m → (is : List (I ks)) (t : Tree (I ks)) (result : Result ℕ SwizzleFault) → Answers ks m new is t result → Answers ks old new is t result
-answers_touched ks old m new grows is t (Ok root) w = record { becomes = touched (rows_of ks old) (rows_of ks m) (rows_of ks new) is t (grows.rows ks) w.becomes; here = w.here; root_is = w.root_is; others = λ n it a k. w.others n it a (grows.seen n it k) }
-answers_touched ks old m new grows is t (Err fault) w = fetch_back old.outside m.outside fault grows.contents w
 
 pub holds_after : (old m new : Place) → Touches old m → (result : Result ℕ SwizzleFault) → OnOk result (Keeps m.heap new.heap) → OnOk result (Keeps old.heap new.heap)
 holds_after old m new g (Ok root) w = record { nodes = λ at h. w.nodes at (g.nodes at h); named = λ at n h. w.named at n (g.named at n h) }

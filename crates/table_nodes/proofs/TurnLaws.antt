@@ -1,16 +1,19 @@
 -- A turn of two nodes, and one of three.
-use Rattle.std.proofs.Common.{ℕ, ◌+◌, ◌≤◌, ◌<◌, ◌∷◌, ◌++◌, Option, Some, Result, arith}
+use Rattle.std.proofs.Common.{ℕ, ◌+◌, ◌≤◌, ◌<◌, ◌∷◌, ◌++◌, Option, Some, arith}
 use Rattle.std.proofs.lemmas.Bool.{lt-ltb, le-ltb}
-use Rattle.heap_places.specs.swizzle.declared.fault.SwizzleFault.{SwizzleFault}
 use Rattle.avl_trees.specs.Trees.{Tree, node, items, height, lean_left, lean_right, lean_inner, lean_outer, balance}
 use Rattle.avl_trees.specs.Standing.{root_of}
 use Rattle.avl_trees.proofs.Turning.{touched}
 use Rattle.avl_trees.proofs.Turns.{given_grown, turned_right, turned_left, turned_inner, turned_outer}
 use Rattle.table_nodes.specs.Keys.{Keys, order_by}
 use Rattle.table_nodes.specs.Nodes.{IsLinked}
-use Rattle.table_nodes.specs.Steps.{I, Place, rows_of, AreSides, AreTurned, AreTurnedOut, StandsAt, SetsSides, TurnsInner, TurnsOuter, TurnsRight, TurnsLeft, Answers, Touches}
+use Rattle.table_nodes.specs.Steps.{I, Place, rows_of, AreSides, AreTurned, AreTurnedOut, StandsAt, SetsSides, Touches}
+use Rattle.table_nodes.specs.Turning.{TurnsInner, TurnsOuter, TurnsRight, TurnsLeft}
+use Rattle.table_nodes.specs.Wings.{AreEnds, IsLeftWing, IsRightWing}
+use Rattle.table_nodes.specs.declared.sides.Sides.{Sides}
+use Rattle.table_nodes.specs.declared.wing.Wing.{Wing}
 use Rattle.table_nodes.proofs.KeyLaws.{total}
-use Rattle.table_nodes.proofs.StepLaws.{one, linked_kept, place_touched, answers_touched, apart_front, apart_back, other_name}
+use Rattle.table_nodes.proofs.StepLaws.{one, linked_kept, place_touched, apart_front, apart_back, other_name}
 
 pub single_right : (ks : Keys) (old m m1 m2 : Place) (at left : ℕ) (outer inner right : Option ℕ) → Touches old m → SetsSides m m1 at inner right → SetsSides m1 m2 left outer (Some at)
     → (x : Tree (I ks)) (b : I ks) (y : Tree (I ks)) (a : I ks) (r : Tree (I ks)) → AreSides ks old at (Some left) right (node x b y) a r → height r + 1 < height (node x b y) → height y ≤ height x
@@ -116,31 +119,31 @@ double_outer ks old m m1 m2 m3 at right middle left before after outer grows s1 
           (s1.others here n it (other_name m.heap at n (items l) a (items (node (node u c v) b y)) an p) (grows.seen n it k)));
     }
 
-pub via_inner : (ks : Keys) (old m new : Place) (at left : ℕ) (outer inner right : Option ℕ) (result : Result ℕ SwizzleFault) → Touches old m → TurnsInner m new at left outer inner right result
+pub via_inner : (ks : Keys) (old new : Place) (at left : ℕ) (right : Option ℕ) (sides : Sides) (ends : Option Sides) (root : ℕ) → TurnsInner old new at left right sides ends root
     → (x : Tree (I ks)) (b : I ks) (y : Tree (I ks)) (a : I ks) (r : Tree (I ks)) → AreSides ks old at (Some left) right (node x b y) a r → height r + 1 < height (node x b y) → height x < height y
-    → IsLinked m.heap outer (root_of x) → IsLinked m.heap inner (root_of y) → Answers ks old new (items (node x b y) ++ a ∷ items r) (lean_left (node x b y) a r) result
+    → AreEnds old.heap (Some sides) (node x b y) → AreEnds old.heap ends y → StandsAt ks old new (items (node x b y) ++ a ∷ items r) (lean_left (node x b y) a r) root
 unfolding lean_left
-via_inner ks old m new at left outer inner right result grows turns x b y a r g tall lt ox iy =
-    rw (lt-ltb (height x) (height y) lt) (answers_touched ks old m new grows (items (node x b y) ++ a ∷ items r) (lean_inner x b y a r) result
-    (turns ks x b y a r (record { given = given_grown (order_by ks) (rows_of ks old) (rows_of ks m) (grows.rows ks) (node x b y) a r g.given; here = place_touched old m grows g.here; at_is = grows.named at a.name g.name; left_is = grows.named left b.name g.left_is; outer_is = ox; inner_is = iy; right_is = linked_kept old.heap m.heap grows.named right (root_of r) g.right_is; lower = lt; low = omega (arith, g.left_low); right_low = omega (arith, g.left_low) })))
+via_inner ks old new at left right sides ends root turns x b y a r g tall lt known inner =
+    rw (lt-ltb (height x) (height y) lt)
+    (turns ks x b y a r (record { given = g.given; here = g.here; at_is = g.name; left_is = g.left_is; outer_is = known.0; inner_is = known.1; right_is = g.right_is; lower = lt; low = omega (arith, g.left_low); right_low = omega (arith, tall, g.left_low) }) inner)
 
-pub via_outer : (ks : Keys) (old m new : Place) (at right : ℕ) (left inner outer : Option ℕ) (result : Result ℕ SwizzleFault) → Touches old m → TurnsOuter m new at right left inner outer result
+pub via_outer : (ks : Keys) (old new : Place) (at right : ℕ) (left : Option ℕ) (sides : Sides) (ends : Option Sides) (root : ℕ) → TurnsOuter old new at left right sides ends root
     → (l : Tree (I ks)) (a : I ks) (x : Tree (I ks)) (b : I ks) (y : Tree (I ks)) → AreSides ks old at left (Some right) l a (node x b y) → height l + 1 < height (node x b y) → height y < height x
-    → IsLinked m.heap inner (root_of x) → IsLinked m.heap outer (root_of y) → Answers ks old new (items l ++ a ∷ items (node x b y)) (lean_right l a (node x b y)) result
+    → AreEnds old.heap (Some sides) (node x b y) → AreEnds old.heap ends x → StandsAt ks old new (items l ++ a ∷ items (node x b y)) (lean_right l a (node x b y)) root
 unfolding lean_right
-via_outer ks old m new at right left inner outer result grows turns l a x b y g tall lt ix oy =
-    rw (lt-ltb (height y) (height x) lt) (answers_touched ks old m new grows (items l ++ a ∷ items (node x b y)) (lean_outer l a x b y) result
-    (turns ks l a x b y (record { given = given_grown (order_by ks) (rows_of ks old) (rows_of ks m) (grows.rows ks) l a (node x b y) g.given; here = place_touched old m grows g.here; at_is = grows.named at a.name g.name; right_is = grows.named right b.name g.right_is; inner_is = ix; outer_is = oy; left_is = linked_kept old.heap m.heap grows.named left (root_of l) g.left_is; lower = lt; low = omega (arith, g.right_low); left_low = omega (arith, g.right_low) })))
+via_outer ks old new at right left sides ends root turns l a x b y g tall lt known inner =
+    rw (lt-ltb (height y) (height x) lt)
+    (turns ks l a x b y (record { given = g.given; here = g.here; at_is = g.name; right_is = g.right_is; inner_is = known.0; outer_is = known.1; left_is = g.left_is; lower = lt; low = omega (arith, g.right_low); left_low = omega (arith, tall, g.right_low) }) inner)
 
-pub balanced_right : (ks : Keys) (old new : Place) (at left : ℕ) (right : Option ℕ) (result : Result ℕ SwizzleFault) → TurnsRight old new at left right result → (l : Tree (I ks)) (a : I ks) (r : Tree (I ks)) → AreSides ks old at (Some left) right l a r → height r + 1 < height l
-    → Answers ks old new (items l ++ a ∷ items r) (balance l a r) result
+pub balanced_right : (ks : Keys) (old new : Place) (at left : ℕ) (right : Option ℕ) (wing : Wing) (root : ℕ) → TurnsRight old new at left right wing root → (l : Tree (I ks)) (a : I ks) (r : Tree (I ks)) → AreSides ks old at (Some left) right l a r → height r + 1 < height l
+    → IsLeftWing old.heap wing l → StandsAt ks old new (items l ++ a ∷ items r) (balance l a r) root
 unfolding balance
-balanced_right ks old new at left right result f l a r g tall = rw (lt-ltb (height r + 1) (height l) tall) (f ks l a r g tall)
+balanced_right ks old new at left right wing root f l a r g tall known = rw (lt-ltb (height r + 1) (height l) tall) (f ks l a r g tall known)
 
-pub balanced_left : (ks : Keys) (old new : Place) (at right : ℕ) (left : Option ℕ) (result : Result ℕ SwizzleFault) → TurnsLeft old new at left right result → (l : Tree (I ks)) (a : I ks) (r : Tree (I ks)) → AreSides ks old at left (Some right) l a r → height l + 1 < height r
-    → Answers ks old new (items l ++ a ∷ items r) (balance l a r) result
+pub balanced_left : (ks : Keys) (old new : Place) (at right : ℕ) (left : Option ℕ) (wing : Wing) (root : ℕ) → TurnsLeft old new at left right wing root → (l : Tree (I ks)) (a : I ks) (r : Tree (I ks)) → AreSides ks old at left (Some right) l a r → height l + 1 < height r
+    → IsRightWing old.heap wing r → StandsAt ks old new (items l ++ a ∷ items r) (balance l a r) root
 unfolding balance
-balanced_left ks old new at right left result f l a r g tall = rw (le-ltb (height r + 1) (height l) (omega arith), lt-ltb (height l + 1) (height r) tall) (f ks l a r g tall)
+balanced_left ks old new at right left wing root f l a r g tall known = rw (le-ltb (height r + 1) (height l) (omega (arith, tall)), lt-ltb (height l + 1) (height r) tall) (f ks l a r g tall known)
 
 pub balanced_plain : (ks : Keys) (old new : Place) (at : ℕ) (left right : Option ℕ) → SetsSides old new at left right → (l : Tree (I ks)) (a : I ks) (r : Tree (I ks)) → AreSides ks old at left right l a r → height l ≤ height r + 1 → height r ≤ height l + 1
     → StandsAt ks old new (items l ++ a ∷ items r) (balance l a r) at

@@ -16,6 +16,7 @@ use Rattle.table_nodes.specs.Keys.{Keys, KeyOf, order_by}
 use Rattle.table_nodes.specs.Nodes.{Seat, IsNode, IsNamed, IsLinked, IsSingle, IsFetchFault, OthersStay, rows_in}
 use Rattle.table_nodes.specs.Steps.{I, Place, IsPlace, StandsAt, rows_of}
 use Rattle.table_nodes.specs.Searching.{IsTree}
+use Rattle.table_nodes.specs.Wings.{IsLeftWing, IsRightWing}
 use Rattle.table_nodes.specs.declared.enter.Entered.{Entered}
 use Rattle.table_nodes.specs.declared.opening.Opened.{Opened}
 
@@ -54,10 +55,13 @@ OpensAt ks old new at key result = (x : Tree (I ks)) (b : I ks) (y : Tree (I ks)
     → MatchResult result (IsOpened ks new key x b y) (IsFetchFault old.outside)
 
 -- The pair was put into the tree, where the key was new under a name that had no object.
-pub record Enters (ks : Keys) (old new : Place) (t : Tree (I ks)) (key : KeyOf ks) (value : Reference) (root : ℕ) : Type 0 where
+-- Where the tree has grown, what a turn above looks at is known.
+pub record Enters (ks : Keys) (old new : Place) (t : Tree (I ks)) (key : KeyOf ks) (value : Reference) (entered : Entered) : Type 0 where
   pub fresh : Reference
   pub is_fresh : (it : Shown) → joint old.heap old.outside fresh it → ⊥
-  pub stands : StandsAt ks old new (items t) (insert (seek (order_by ks) key) (put value) (fresh_item fresh key value) t) root
+  pub stands : StandsAt ks old new (items t) (insert (seek (order_by ks) key) (put value) (fresh_item fresh key value) t) entered.root
+  pub wing : height (insert (seek (order_by ks) key) (put value) (fresh_item fresh key value) t) ≡ height t + 1
+      → IsLeftWing new.heap entered.wing (insert (seek (order_by ks) key) (put value) (fresh_item fresh key value) t) × IsRightWing new.heap entered.wing (insert (seek (order_by ks) key) (put value) (fresh_item fresh key value) t)
 
 -- there was no room for a node
 abbrev pub IsNoRoom : SwizzleFault → Type 0
@@ -70,7 +74,7 @@ IsEnterFault outside fault = IsFetchFault outside fault ⊎ IsNoRoom fault
 
 abbrev pub EntersAt : (ks : Keys) → Place → Place → Option ℕ → ℕ → KeyOf ks → Reference → Result Entered SwizzleFault → Type 0
 EntersAt ks old new root bound key value result = (t : Tree (I ks)) → IsPlace old → IsTree ks old root t → height t < bound
-    → MatchResult result (λ entered. Enters ks old new t key value entered.root) (IsEnterFault old.outside)
+    → MatchResult result (λ entered. Enters ks old new t key value entered) (IsEnterFault old.outside)
 
 -- the tree hasn't the key
 abbrev pub is_missing : {A : Type 0} → Option A → Bool

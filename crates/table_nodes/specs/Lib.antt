@@ -8,5 +8,8 @@ pub mod Removing
 pub mod Searching
 pub mod Sought
 pub mod Steps
+pub mod Turning
+pub mod Wings
+pub mod Bringing
 pub use Rattle.heap_places.specs as heap_places
 pub use Rattle.avl_trees.specs as avl_trees

@@ -75,3 +75,8 @@ looks probe (node l a r) = 1 + pick (probe a) (looks probe l) 0 (looks probe r)
 -- Each node that was looked at was a step.
 abbrev pub Charges : (ks : Keys) → Place → Option ℕ → ℕ → KeyOf ks → ℕ → ℕ → Result (Option ℕ) SwizzleFault → Type 0
 Charges ks old root bound key before after result = (t : Tree (I ks)) → IsTree ks old root t → height t < bound → OnOk result (after ≡ before + looks (seek (order_by ks) key) t)
+
+-- how many nodes come at a step, at most
+abbrev pub came_by : Step → ℕ
+came_by Found = 0
+came_by (Down side) = 1

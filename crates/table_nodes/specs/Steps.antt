@@ -1,16 +1,15 @@
 -- What a step of a change does to the nodes of a table's tree, in the area and the vault together.
-use Rattle.std.specs.Prelude.{◌≢◌, Result, MatchResult, ℕ, ◌≤◌, ◌+◌, ◌<◌, List, ◌∷◌, ◌++◌, Option, Some}
+use Rattle.std.specs.Prelude.{◌≢◌, ℕ, ◌≤◌, ◌<◌, List, ◌∷◌, ◌++◌, Option, Some}
 use Rattle.heap_places.specs.ps_outside.Outside.{Outside}
 use Rattle.heap_places.specs.obj_layout.Stored.{Space}
 use Rattle.heap_places.specs.obj_layout.declared.reference.Reference.{Reference}
-use Rattle.heap_places.specs.swizzle.declared.fault.SwizzleFault.{SwizzleFault}
 use Rattle.heap_places.specs.swizzle.Heap.{Heap, IsHeap}
 use Rattle.heap_places.specs.swizzle.Joint.{Shown, name_at}
 use Rattle.heap_places.specs.swizzle.Reading.{joint}
-use Rattle.avl_trees.specs.Trees.{Tree, height, items, node, lean_inner, lean_outer, lean_left, lean_right, balance}
+use Rattle.avl_trees.specs.Trees.{Tree, height, items, node}
 use Rattle.avl_trees.specs.Standing.{Item, Rows, Given, Becomes, IsApart, root_of}
 use Rattle.table_nodes.specs.Keys.{Keys, KeyOf, order_by}
-use Rattle.table_nodes.specs.Nodes.{IsNode, IsNamed, IsLinked, IsSingle, IsFetchFault, Grows, rows_in}
+use Rattle.table_nodes.specs.Nodes.{IsNode, IsNamed, IsLinked, IsSingle, Grows, rows_in}
 
 -- the area and what is seen of the outside
 pub record Place : Type 1 where
@@ -88,30 +87,6 @@ pub record SetsSides (old new : Place) (at : ℕ) (left right : Option ℕ) : Ty
   pub here : IsPlace old → IsPlace new
   pub holds : Holds old.heap new.heap
   pub others : IsPlace old → (n : Reference) (it : Shown) → n ≢ name_at old.heap at → joint old.heap old.outside n it → joint new.heap new.outside n it
-
--- The tree stands from the place that was answered on; it isn't damaged.
-abbrev pub Answers : (ks : Keys) → Place → Place → List (I ks) → Tree (I ks) → Result ℕ SwizzleFault → Type 0
-Answers ks old new is t result = MatchResult result (StandsAt ks old new is t) (IsFetchFault old.outside)
-
-abbrev pub TurnsRight : Place → Place → ℕ → ℕ → Option ℕ → Result ℕ SwizzleFault → Type 0
-TurnsRight old new at left right result = (ks : Keys) (l : Tree (I ks)) (a : I ks) (r : Tree (I ks)) → AreSides ks old at (Some left) right l a r → height r + 1 < height l
-    → Answers ks old new (items l ++ a ∷ items r) (lean_left l a r) result
-
-abbrev pub TurnsLeft : Place → Place → ℕ → Option ℕ → ℕ → Result ℕ SwizzleFault → Type 0
-TurnsLeft old new at left right result = (ks : Keys) (l : Tree (I ks)) (a : I ks) (r : Tree (I ks)) → AreSides ks old at left (Some right) l a r → height l + 1 < height r
-    → Answers ks old new (items l ++ a ∷ items r) (lean_right l a r) result
-
-abbrev pub TurnsInner : Place → Place → ℕ → ℕ → Option ℕ → Option ℕ → Option ℕ → Result ℕ SwizzleFault → Type 0
-TurnsInner old new at left outer inner right result = (ks : Keys) (x : Tree (I ks)) (b : I ks) (y : Tree (I ks)) (a : I ks) (r : Tree (I ks)) → AreTurned ks old at left outer inner right x b y a r
-    → Answers ks old new (items (node x b y) ++ a ∷ items r) (lean_inner x b y a r) result
-
-abbrev pub TurnsOuter : Place → Place → ℕ → ℕ → Option ℕ → Option ℕ → Option ℕ → Result ℕ SwizzleFault → Type 0
-TurnsOuter old new at right left inner outer result = (ks : Keys) (l : Tree (I ks)) (a : I ks) (x : Tree (I ks)) (b : I ks) (y : Tree (I ks)) → AreTurnedOut ks old at right left inner outer l a x b y
-    → Answers ks old new (items l ++ a ∷ items (node x b y)) (lean_outer l a x b y) result
-
-abbrev pub Balances : Place → Place → ℕ → Option ℕ → Option ℕ → Result ℕ SwizzleFault → Type 0
-Balances old new at left right result = (ks : Keys) (l : Tree (I ks)) (a : I ks) (r : Tree (I ks)) → AreSides ks old at left right l a r
-    → Answers ks old new (items l ++ a ∷ items r) (balance l a r) result
 
 -- touches lead from one place to the other
 abbrev pub Touches : Place → Place → Type 0

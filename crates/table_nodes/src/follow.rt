@@ -1,5 +1,6 @@
-ghost use Rattle.std.specs.Prelude.{◌≡◌, ◌+◌, ◌≤◌, OnOk, IfOk, IfSome};
+ghost use Rattle.std.specs.Prelude.{◌≡◌, ◌+◌, ◌-◌, ◌≤◌, OnOk, OnErr, IfOk, IfSome};
 ghost use Rattle.heap_places.specs.swizzle.Touch.{Keeps};
+ghost use Rattle.table_nodes.specs.Bringing.{Brings};
 ghost use Rattle.table_nodes.specs.Nodes.{IsNode, Grows};
 ghost use Rattle.table_nodes.specs.Following.{Begins, Follows, TurnsAt};
 ghost use Rattle.table_nodes.specs.Sought.{IsKeyHeld, kind_of, key_in};
@@ -37,6 +38,8 @@ fn go_on<V: Vault>(
     ensures side { IfOk result (λ turn. IfSome turn.side (IsNode sw.new)) }
     ensures grows { OnOk result (Grows sw.old sw.new (V.outside vault.old) (V.outside vault.new)) }
     ensures keeps { OnOk result (Keeps sw.old sw.new) }
+    ensures still { OnErr result (Keeps sw.old sw.new) }
+    ensures brings { Brings sw.old sw.new 1 }
     ensures alive { OnOk result (V.alive vault.new) }
 {
     let order = match order(sw, vault, at, key) {
@@ -68,11 +71,14 @@ pub fn next<V: Vault>(
 ) -> Result<Option<u32>, SwizzleFault>
     requires alive { V.alive vault.old }
     requires root { IfSome root (IsNode sw.old) }
+    requires bound { 1 ≤ bound }
     requires key { IsKeyHeld sw.old key }
     ensures follows { Follows (kind_of key) (place sw.old (V.outside vault.old)) sw.new root bound (key_in sw.old key) result }
     ensures node { IfOk result (λ found. IfSome found (IsNode sw.new)) }
     ensures grows { OnOk result (Grows sw.old sw.new (V.outside vault.old) (V.outside vault.new)) }
     ensures keeps { OnOk result (Keeps sw.old sw.new) }
+    ensures still { OnErr result (Keeps sw.old sw.new) }
+    ensures brings { Brings sw.old sw.new (bound - 1) }
     ensures alive { OnOk result (V.alive vault.new) }
 {
     sw.sound();
@@ -81,7 +87,7 @@ pub fn next<V: Vault>(
     let mut last = None;
     while let Some(node) = at {
         let height = height(sw, &*vault, at);
-        if height >= bound {
+        if height == 0 || height >= bound {
             return Err(damaged(sw, node, height, bound));
         }
         match go_on(sw, vault, node, key, last) {
@@ -105,10 +111,13 @@ pub fn first<V: Vault>(
 ) -> Result<Option<u32>, SwizzleFault>
     requires alive { V.alive vault.old }
     requires root { IfSome root (IsNode sw.old) }
+    requires bound { 1 ≤ bound }
     ensures begins { Begins (place sw.old (V.outside vault.old)) sw.new root bound result }
     ensures node { IfOk result (λ found. IfSome found (IsNode sw.new)) }
     ensures grows { OnOk result (Grows sw.old sw.new (V.outside vault.old) (V.outside vault.new)) }
     ensures keeps { OnOk result (Keeps sw.old sw.new) }
+    ensures still { OnErr result (Keeps sw.old sw.new) }
+    ensures brings { Brings sw.old sw.new (bound - 1) }
     ensures alive { OnOk result (V.alive vault.new) }
 {
     sw.sound();
@@ -117,7 +126,7 @@ pub fn first<V: Vault>(
     let mut last = None;
     while let Some(node) = at {
         let height = height(sw, &*vault, at);
-        if height >= bound {
+        if height == 0 || height >= bound {
             return Err(damaged(sw, node, height, bound));
         }
         match side(sw, vault, node, 0) {

@@ -7,9 +7,13 @@ pub mod keys;
 pub mod make;
 pub mod nodes;
 pub mod opening;
+pub mod ready;
 pub mod remove;
 pub mod search;
+pub mod sides;
 mod turns;
+pub mod wing;
+pub mod wings;
 
 pub use avl_trees;
 pub use counted_steps;

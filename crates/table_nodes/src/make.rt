@@ -2,6 +2,7 @@ ghost use Rattle.std.specs.Prelude.{◌≡◌, ◌<◌, OnOk, MatchResult};
 ghost use Rattle.heap_places.specs.swizzle.Heap.{IsHeld, IsFull, Stands, header_at};
 ghost use Rattle.heap_places.specs.swizzle.Joint.{name_at};
 ghost use Rattle.heap_places.specs.swizzle.Touch.{Keeps};
+ghost use Rattle.table_nodes.specs.Bringing.{Brings};
 ghost use Rattle.table_nodes.specs.Entering.{Makes};
 ghost use Rattle.table_nodes.specs.Making.{with_key};
 ghost use Rattle.table_nodes.specs.Sought.{IsKeyHeld, kind_of, key_in};
@@ -26,6 +27,7 @@ pub fn make_node<V: Vault>(
         (λ at. Makes (kind_of key) sw.old sw.new (V.outside vault.now) at (key_in sw.old key) (name_at sw.old value))
         (λ fault. IsFull sw.old sw.new 11 fault) }
     ensures keeps { OnOk result (Keeps sw.old sw.new) }
+    ensures brings { Brings sw.old sw.new 1 }
 {
     let _ = vault;
     sw.sound();

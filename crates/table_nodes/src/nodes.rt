@@ -1,7 +1,8 @@
-ghost use Rattle.std.specs.Prelude.{◌≡◌, ◌⊎◌, ℕ, ◌<◌, ◌≤◌, true, false, None, Some, IfOk, IfErr, IfSome, OnOk};
+ghost use Rattle.std.specs.Prelude.{◌≡◌, ◌⊎◌, ℕ, ◌<◌, ◌≤◌, true, false, None, Some, IfOk, IfErr, IfSome, OnOk, OnErr};
 ghost use Rattle.heap_places.specs.obj_layout.declared.reference.Reference.{Reference as Name};
 ghost use Rattle.heap_places.specs.swizzle.Heap.{IsHeld, IsListed};
 ghost use Rattle.heap_places.specs.swizzle.Touch.{Keeps};
+ghost use Rattle.table_nodes.specs.Bringing.{Brings, NoneCome};
 ghost use Rattle.table_nodes.specs.Nodes.{IsNode, IsNamed, IsLinked, IsSide, IsSlot, HasSides, Seat, Grows, Links, IsFetchFault, rows_in, side_of};
 ghost use Rattle.table_nodes.specs.Entering.{Puts};
 ghost use Rattle.table_nodes.specs.Keys.{Keys};
@@ -53,6 +54,8 @@ pub fn side<V: Vault>(
     ensures sound { (ks : Keys) (n : Name) (row : Seat ks) → IsNamed sw.old at n → rows_in ks sw.old (V.outside vault.old) n row → IsSide ks sw.old (V.outside vault.old) (side_of slot row) → IfErr result (IsFetchFault (V.outside vault.old)) }
     ensures grows { OnOk result (Grows sw.old sw.new (V.outside vault.old) (V.outside vault.new)) }
     ensures keeps { OnOk result (Keeps sw.old sw.new) }
+    ensures still { OnErr result (Keeps sw.old sw.new) }
+    ensures brings { Brings sw.old sw.new 1 }
     ensures alive { OnOk result (V.alive vault.new) }
 {
     sw.sound();
@@ -81,6 +84,8 @@ pub fn value<V: Vault>(sw: &mut Swizzle, vault: &mut V, at: u32) -> Result<u32, 
     ensures read { ReadsValue sw.old sw.new (V.outside vault.old) at result }
     ensures grows { OnOk result (Grows sw.old sw.new (V.outside vault.old) (V.outside vault.new)) }
     ensures keeps { OnOk result (Keeps sw.old sw.new) }
+    ensures still { OnErr result (Keeps sw.old sw.new) }
+    ensures brings { Brings sw.old sw.new 1 }
     ensures alive { OnOk result (V.alive vault.new) }
 {
     sw.sound();
@@ -129,6 +134,7 @@ pub fn link<V: Vault>(
     ensures linked { Links sw.old sw.new (V.outside vault.now) at left right height }
     ensures still { HasSides sw.old at left right height → sw.new ≡ sw.old }
     ensures spares { Spares sw.old sw.new (V.outside vault.now) (V.outside vault.now) }
+    ensures none { NoneCome sw.old sw.new }
     ensures marked { HasSides sw.old at left right height ⊎ IsListed at sw.new.assigned }
 {
     sw.sound();
@@ -145,6 +151,7 @@ pub fn put<V: Vault>(sw: &mut Swizzle, vault: &V, at: u32, value: u32)
     ensures put { Puts sw.old sw.new (V.outside vault.now) at value }
     ensures still { IsSlot sw.old at 3 (Some value) → sw.new ≡ sw.old }
     ensures spares { Spares sw.old sw.new (V.outside vault.now) (V.outside vault.now) }
+    ensures none { NoneCome sw.old sw.new }
     ensures marked { IsSlot sw.old at 3 (Some value) ⊎ IsListed at sw.new.assigned }
 {
     sw.sound();
@@ -160,6 +167,7 @@ fn write_value<V: Vault>(sw: &mut Swizzle, vault: &V, node: u32, value: u32)
     requires value { IsHeld sw.old value }
     ensures put { Puts sw.old sw.new (V.outside vault.now) node value }
     ensures spares { Spares sw.old sw.new (V.outside vault.now) (V.outside vault.now) }
+    ensures none { NoneCome sw.old sw.new }
     ensures marked { IsListed node sw.new.assigned }
 {
     let _ = vault;
@@ -184,6 +192,7 @@ fn write_sides<V: Vault>(
     requires right { IfSome right (IsNode sw.old) }
     ensures linked { Links sw.old sw.new (V.outside vault.now) at left right height }
     ensures spares { Spares sw.old sw.new (V.outside vault.now) (V.outside vault.now) }
+    ensures none { NoneCome sw.old sw.new }
     ensures marked { IsListed at sw.new.assigned }
 {
     let _ = vault;

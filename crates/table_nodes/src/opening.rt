@@ -1,5 +1,6 @@
-ghost use Rattle.std.specs.Prelude.{OnOk, IfOk, IfSome};
+ghost use Rattle.std.specs.Prelude.{OnOk, OnErr, IfOk, IfSome};
 ghost use Rattle.heap_places.specs.swizzle.Touch.{Keeps};
+ghost use Rattle.table_nodes.specs.Bringing.{Brings};
 ghost use Rattle.table_nodes.specs.Entering.{OpensAt};
 ghost use Rattle.table_nodes.specs.Nodes.{IsNode, Grows};
 ghost use Rattle.table_nodes.specs.Sought.{IsKeyHeld, kind_of, key_in};
@@ -35,6 +36,8 @@ pub fn open_node<V: Vault>(
     ensures right { IfOk result (λ opened. IfSome opened.right (IsNode sw.new)) }
     ensures grows { OnOk result (Grows sw.old sw.new (V.outside vault.old) (V.outside vault.new)) }
     ensures keeps { OnOk result (Keeps sw.old sw.new) }
+    ensures still { OnErr result (Keeps sw.old sw.new) }
+    ensures brings { Brings sw.old sw.new 2 }
     ensures alive { OnOk result (V.alive vault.new) }
 {
     let order = match order(sw, vault, at, key) {

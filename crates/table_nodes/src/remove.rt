@@ -1,5 +1,7 @@
-ghost use Rattle.std.specs.Prelude.{◌≤◌, OnOk, IfOk, IfSome};
+ghost use Rattle.std.specs.Prelude.{◌≤◌, ◌+◌, ◌*◌, OnOk, OnErr, IfOk, IfSome};
 ghost use Rattle.heap_places.specs.ps_outside.Outside.{SameContents};
+ghost use Rattle.heap_places.specs.swizzle.Touch.{Keeps};
+ghost use Rattle.table_nodes.specs.Bringing.{Brings};
 ghost use Rattle.table_nodes.specs.Nodes.{IsNode};
 ghost use Rattle.table_nodes.specs.Removing.{IsGoneAt, Merges, Removes, TakesLeast};
 ghost use Rattle.table_nodes.specs.Sought.{IsKeyHeld, kind_of, key_in};
@@ -7,9 +9,10 @@ ghost use Rattle.table_nodes.specs.Sparing.{Spares};
 ghost use Rattle.table_nodes.specs.Steps.{place, Holds};
 
 use crate::keys::Key;
-use crate::nodes::{height, side};
+use crate::nodes::height;
 use crate::opening::open_node;
 use crate::turns::balance;
+use crate::wings::{open_left, open_right, open_sides};
 use heap_places::obj_layout::vault::Vault;
 use heap_places::places::damaged;
 use heap_places::swizzle::fault::SwizzleFault;
@@ -38,38 +41,38 @@ fn take_least<V: Vault>(
     ensures rest { IfOk result (λ found. IfSome found.rest (IsNode sw.new)) }
     ensures held { OnOk result (Holds sw.old sw.new) }
     ensures spares { OnOk result (Spares sw.old sw.new (V.outside vault.old) (V.outside vault.new)) }
+    ensures still { OnErr result (Keeps sw.old sw.new) }
+    ensures brings { Brings sw.old sw.new (3 * bound) }
     ensures contents { OnOk result (SameContents (V.outside vault.old) (V.outside vault.new)) }
     ensures alive { OnOk result (V.alive vault.new) }
 {
     let height = height(sw, &*vault, Some(at));
-    if height >= bound {
+    if height == 0 || height >= bound {
         return Err(damaged(sw, at, height, bound));
     }
-    let left = match side(sw, vault, at, 0) {
-        Ok(left) => left,
+    let sides = match open_sides(sw, vault, at) {
+        Ok(sides) => sides,
         Err(fault) => return Err(fault),
     };
-    let right = match side(sw, vault, at, 1) {
-        Ok(right) => right,
-        Err(fault) => return Err(fault),
-    };
-    let Some(below) = left else {
+    let Some(below) = sides.left else {
         return Ok(Least {
             node: at,
-            rest: right,
+            rest: sides.right,
         });
     };
-    let least = match take_least(sw, vault, below, height) {
+    let ready = match open_right(sw, vault, sides.left, sides.right, height) {
+        Ok(ready) => ready,
+        Err(fault) => return Err(fault),
+    };
+    let least = match take_least(sw, vault, below, ready.bound) {
         Ok(least) => least,
         Err(fault) => return Err(fault),
     };
-    match balance(sw, vault, at, least.rest, right) {
-        Ok(root) => Ok(Least {
-            node: least.node,
-            rest: Some(root),
-        }),
-        Err(fault) => Err(fault),
-    }
+    let root = balance(sw, &*vault, at, least.rest, sides.right, ready.wing);
+    Ok(Least {
+        node: least.node,
+        rest: Some(root),
+    })
 }
 
 // Both sides of a node in one tree, without it.
@@ -83,11 +86,14 @@ fn merge_sides<V: Vault>(
     requires alive { V.alive vault.old }
     requires left { IfSome left (IsNode sw.old) }
     requires right { IfSome right (IsNode sw.old) }
+    requires some { 1 ≤ bound }
     requires bound { bound ≤ 200 }
     ensures merged { Merges (place sw.old (V.outside vault.old)) (place sw.new (V.outside vault.new)) left right bound result }
     ensures root { IfOk result (λ root. IfSome root (IsNode sw.new)) }
     ensures held { OnOk result (Holds sw.old sw.new) }
     ensures spares { OnOk result (Spares sw.old sw.new (V.outside vault.old) (V.outside vault.new)) }
+    ensures still { OnErr result (Keeps sw.old sw.new) }
+    ensures brings { Brings sw.old sw.new (3 * bound + 1) }
     ensures contents { OnOk result (SameContents (V.outside vault.old) (V.outside vault.new)) }
     ensures alive { OnOk result (V.alive vault.new) }
 {
@@ -97,14 +103,16 @@ fn merge_sides<V: Vault>(
     let Some(below) = left else {
         return Ok(right);
     };
-    let least = match take_least(sw, vault, above, bound) {
+    let ready = match open_left(sw, vault, right, left, bound) {
+        Ok(ready) => ready,
+        Err(fault) => return Err(fault),
+    };
+    let least = match take_least(sw, vault, above, ready.bound) {
         Ok(least) => least,
         Err(fault) => return Err(fault),
     };
-    match balance(sw, vault, least.node, Some(below), least.rest) {
-        Ok(root) => Ok(Some(root)),
-        Err(fault) => Err(fault),
-    }
+    let root = balance(sw, &*vault, least.node, Some(below), least.rest, ready.wing);
+    Ok(Some(root))
 }
 
 /// The root of a tree out of which a key was taken, and whether the tree had the key.
@@ -115,7 +123,7 @@ pub struct Removed {
 }
 
 /// Takes a key out of the tree of a root, where the tree has it: its node is unlinked, and the next one takes its place. It goes down by calls,
-/// each for a lower height than the one before, so at most `bound` deep.
+/// each for a lower height than the one before, so at most `bound` deep. All that can fail comes before the first write.
 pub fn remove<V: Vault>(
     sw: &mut Swizzle,
     vault: &mut V,
@@ -132,6 +140,8 @@ pub fn remove<V: Vault>(
     ensures root { IfOk result (λ removed. IfSome removed.root (IsNode sw.new)) }
     ensures held { OnOk result (Holds sw.old sw.new) }
     ensures spares { OnOk result (Spares sw.old sw.new (V.outside vault.old) (V.outside vault.new)) }
+    ensures still { OnErr result (Keeps sw.old sw.new) }
+    ensures brings { Brings sw.old sw.new (3 * bound) }
     ensures contents { OnOk result (SameContents (V.outside vault.old) (V.outside vault.new)) }
     ensures alive { OnOk result (V.alive vault.new) }
 {
@@ -142,7 +152,7 @@ pub fn remove<V: Vault>(
         });
     };
     let height = height(sw, &*vault, root);
-    if height >= bound {
+    if height == 0 || height >= bound {
         return Err(damaged(sw, at, height, bound));
     }
     let opened = match open_node(sw, vault, at, key) {
@@ -150,29 +160,41 @@ pub fn remove<V: Vault>(
         Err(fault) => return Err(fault),
     };
     match opened.order {
-        Ordering::Less => match remove(sw, vault, opened.left, height, key) {
-            Ok(left) => match balance(sw, vault, at, left.root, opened.right) {
-                Ok(root) => Ok(Removed {
-                    root: Some(root),
-                    gone: left.gone,
-                }),
+        Ordering::Less => {
+            let ready = match open_right(sw, vault, opened.left, opened.right, height) {
+                Ok(ready) => ready,
+                Err(fault) => return Err(fault),
+            };
+            match remove(sw, vault, opened.left, ready.bound, key) {
+                Ok(left) => {
+                    let root = balance(sw, &*vault, at, left.root, opened.right, ready.wing);
+                    Ok(Removed {
+                        root: Some(root),
+                        gone: left.gone,
+                    })
+                }
                 Err(fault) => Err(fault),
-            },
-            Err(fault) => Err(fault),
-        },
+            }
+        }
         Ordering::Equal => match merge_sides(sw, vault, opened.left, opened.right, height) {
             Ok(root) => Ok(Removed { root, gone: true }),
             Err(fault) => Err(fault),
         },
-        Ordering::Greater => match remove(sw, vault, opened.right, height, key) {
-            Ok(right) => match balance(sw, vault, at, opened.left, right.root) {
-                Ok(root) => Ok(Removed {
-                    root: Some(root),
-                    gone: right.gone,
-                }),
+        Ordering::Greater => {
+            let ready = match open_left(sw, vault, opened.right, opened.left, height) {
+                Ok(ready) => ready,
+                Err(fault) => return Err(fault),
+            };
+            match remove(sw, vault, opened.right, ready.bound, key) {
+                Ok(right) => {
+                    let root = balance(sw, &*vault, at, opened.left, right.root, ready.wing);
+                    Ok(Removed {
+                        root: Some(root),
+                        gone: right.gone,
+                    })
+                }
                 Err(fault) => Err(fault),
-            },
-            Err(fault) => Err(fault),
-        },
+            }
+        }
     }
 }

@@ -1,8 +1,9 @@
-ghost use Rattle.std.specs.Prelude.{◌≡◌, ◌+◌, ◌≤◌, OnOk, IfOk, IfSome};
+ghost use Rattle.std.specs.Prelude.{◌≡◌, ◌+◌, ◌-◌, ◌≤◌, OnOk, OnErr, IfOk, IfSome, MatchResult};
 ghost use Rattle.heap_places.specs.swizzle.Heap.{IsHeld};
 ghost use Rattle.heap_places.specs.swizzle.Touch.{Keeps};
 ghost use Rattle.table_nodes.specs.Nodes.{IsNode, Grows};
-ghost use Rattle.table_nodes.specs.Searching.{Charges, Finds, IsDown, StepsAt};
+ghost use Rattle.table_nodes.specs.Bringing.{Brings};
+ghost use Rattle.table_nodes.specs.Searching.{Charges, Finds, IsDown, StepsAt, came_by};
 ghost use Rattle.table_nodes.specs.Sought.{IsKeyHeld, kind_of, key_in};
 ghost use Rattle.table_nodes.specs.Steps.{place};
 
@@ -32,6 +33,8 @@ fn look<V: Vault>(sw: &mut Swizzle, vault: &mut V, at: u32, key: Key) -> Result<
     ensures down { IfOk result (IsDown sw.new) }
     ensures grows { OnOk result (Grows sw.old sw.new (V.outside vault.old) (V.outside vault.new)) }
     ensures keeps { OnOk result (Keeps sw.old sw.new) }
+    ensures still { OnErr result (Keeps sw.old sw.new) }
+    ensures brings { MatchResult result (λ step. Brings sw.old sw.new (came_by step)) (λ fault. Brings sw.old sw.new 1) }
     ensures alive { OnOk result (V.alive vault.new) }
 {
     let order = match order(sw, vault, at, key) {
@@ -71,6 +74,8 @@ pub fn lookup<V: Vault, L: Ledger>(
     ensures charged { Charges (kind_of key) (place sw.old (V.outside vault.old)) root bound (key_in sw.old key) steps.old steps.new result }
     ensures grows { OnOk result (Grows sw.old sw.new (V.outside vault.old) (V.outside vault.new)) }
     ensures keeps { OnOk result (Keeps sw.old sw.new) }
+    ensures still { OnErr result (Keeps sw.old sw.new) }
+    ensures brings { Brings sw.old sw.new (steps.new - steps.old) }
     ensures alive { OnOk result (V.alive vault.new) }
 {
     sw.sound();

@@ -1,7 +1,7 @@
 //! What the calls of a row answer, each in a line.
 
 use crate::call::{Call, Sought};
-use crate::orders::{first_difference, has_many};
+use crate::orders::{first_difference, has_long, has_many, most_words};
 use crate::scene::{
     Refused, count, enter_number, enter_string, fetch, next_number, number_value, put_next_string,
     put_refused, string_value,
@@ -76,10 +76,21 @@ fn put_answer(
         Call::Height => put_height(out, height_of_table(vault, sw, table)),
         Call::Assigned => Ok(put_counted(out, "assigned ", sw.assigned().len() as u64)),
         Call::Orders(orders) => Ok(put_difference(out, first_difference(vault, sw, table, orders))),
-        Call::Many(keys, factor) => match has_many(vault, sw, table, keys, factor) {
-            Ok(has) => Ok(out.put(if has { "done" } else { "differ" })),
+        Call::Many(keys, factor) => put_had(out, has_many(vault, sw, table, keys, factor)),
+        Call::Long => put_had(out, has_long(vault, sw, table)),
+        Call::Fetches(keys) => match most_words(vault, sw, table, keys) {
+            Ok(Some(most)) => Ok(put_counted(out, "words ", u64::from(most))),
+            Ok(None) => Ok(out.put("differ")),
             Err(refused) => Err(refused),
         },
+    }
+}
+
+// Whether each key had the value that was entered.
+fn put_had(out: &mut Buffer, answer: Result<bool, Refused>) -> Result<(), Refused> {
+    match answer {
+        Ok(had) => Ok(out.put(if had { "done" } else { "differ" })),
+        Err(refused) => Err(refused),
     }
 }
 

@@ -31,6 +31,8 @@ pub enum Call<'a> {
     Assigned,
     Orders(Orders),
     Many(u32, i32),
+    Fetches(u32),
+    Long,
 }
 
 impl<'a> Call<'a> {
@@ -53,6 +55,7 @@ impl<'a> Call<'a> {
             b"next.text" => return Some(Call::Next(Sought::Text(words.rest()))),
             b"orders" => Call::Orders(orders_of(&mut words)?),
             b"many" => Call::Many(words.index()?, words.int()?),
+            b"fetches" => Call::Fetches(words.index()?),
             word => plain_call(word)?,
         };
         if words.is_at_end() { Some(call) } else { None }
@@ -67,6 +70,7 @@ fn plain_call<'a>(word: &[u8]) -> Option<Call<'a>> {
         b"cardinality" => Some(Call::Cardinality),
         b"height" => Some(Call::Height),
         b"assigned" => Some(Call::Assigned),
+        b"long" => Some(Call::Long),
         _ => None,
     }
 }

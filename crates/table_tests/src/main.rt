@@ -22,11 +22,13 @@
 //!   area is reset before each, and the value of a key has the PID 9 and 5 for each key below it. The order in which they are entered has the number FIRST, and STEP more each time; the other one is that of
 //!   the number of times. Each time the table is compared with a list after each call.
 //! - `many COUNT FACTOR`: so many keys are entered with the value of PID 9, the product of FACTOR and a number each, and each is looked up.
+//! - `fetches COUNT`: each key below COUNT is looked up over an empty area.
+//! - `long`: two strings of 65,535 bytes that differ in the last one, and the string of their first 65,534, are entered and looked up.
 //!
 //! The answers are these:
 //!
 //! - `done`, `pid N` of a value, `no value`, `int KEY pid N`, `text TEXT pid N`, `no key`, `count N`, `height N`, `wrong height`,
-//!   `assigned N`, `agree`, `differ at N` of the times, or `differ`.
+//!   `assigned N`, `words N` that came at the most, `agree`, `differ at N` of the times, or `differ`.
 //! - `trapped TRAP`, `damaged AT FOUND WANTED`, `full TOP WANTED SIZE`, or `refused FAULT` by the store for another reason.
 //! - `no pid`: it is no PID, so that no call was made.
 #![tactic(auto)]

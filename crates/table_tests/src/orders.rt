@@ -1,7 +1,9 @@
 //! Enters and removals in many orders, each compared with a list.
 
 use crate::call::Orders;
-use crate::scene::{Refused, count, enter_number, next_number, number_value};
+use crate::scene::{
+    Refused, count, enter_number, enter_string, next_number, number_value, string_value,
+};
 use crate::trees::height_of_table;
 use memory_vault::memory::MemoryVault;
 use table_lib::table_nodes::heap_places::swizzle::swizzle::Swizzle;
@@ -211,4 +213,68 @@ pub fn has_many(
         }
     }
     Ok(true)
+}
+
+/// The most words that come into an empty area where one of the keys below `keys` is looked up, none where a key isn't found.
+pub fn most_words(
+    vault: &mut MemoryVault,
+    sw: &mut Swizzle,
+    table: u64,
+    keys: u32,
+) -> Result<Option<u32>, Refused> {
+    let mut most = 0u32;
+    for number in 0..keys {
+        sw.reset();
+        match number_value(vault, sw, table, number.cast_signed()) {
+            Ok(Some(_)) => {}
+            Ok(None) => return Ok(None),
+            Err(refused) => return Err(refused),
+        }
+        most = most.max(sw.top().saturating_sub(1));
+    }
+    Ok(Some(most))
+}
+
+// The most bytes of a string.
+const MOST_BYTES: usize = 65_535;
+
+// Whether the strings of so many bytes that end with these have these values, and the one without the last byte.
+fn has_values(
+    vault: &mut MemoryVault,
+    sw: &mut Swizzle,
+    table: u64,
+    bytes: &mut [u8; MOST_BYTES],
+) -> Result<bool, Refused> {
+    let before = match string_value(vault, sw, table, &bytes[..MOST_BYTES - 1]) {
+        Ok(found) => found,
+        Err(refused) => return Err(refused),
+    };
+    bytes[MOST_BYTES - 1] = b'a';
+    let first = match string_value(vault, sw, table, bytes) {
+        Ok(found) => found,
+        Err(refused) => return Err(refused),
+    };
+    bytes[MOST_BYTES - 1] = b'b';
+    match string_value(vault, sw, table, bytes) {
+        Ok(last) => Ok(before == Some(9) && first == Some(14) && last == Some(19)),
+        Err(refused) => Err(refused),
+    }
+}
+
+/// Enters two strings of the most bytes, which differ in the last one, and the one without it, and looks each up. False where one hasn't its value.
+pub fn has_long(vault: &mut MemoryVault, sw: &mut Swizzle, table: u64) -> Result<bool, Refused> {
+    let mut bytes = [b'a'; MOST_BYTES];
+    match enter_string(vault, sw, table, &bytes, Some(14)) {
+        Ok(()) => {}
+        Err(refused) => return Err(refused),
+    }
+    match enter_string(vault, sw, table, &bytes[..MOST_BYTES - 1], Some(9)) {
+        Ok(()) => {}
+        Err(refused) => return Err(refused),
+    }
+    bytes[MOST_BYTES - 1] = b'b';
+    match enter_string(vault, sw, table, &bytes, Some(19)) {
+        Ok(()) => has_values(vault, sw, table, &mut bytes),
+        Err(refused) => Err(refused),
+    }
 }

@@ -1,9 +1,9 @@
 -- Which images stand for which heaps: only those in which a volume is found; and a new volume for the heaps without a database, and no other.
-use Rattle.std.proofs.Common.{◌≡◌, ℕ, ◌≤◌, Bool, List, [], ◌∷◌, length, refl, sym, ◌∙◌, ap, subst, arith, Option, Some, None}
+use Rattle.std.proofs.Common.{◌≡◌, ⊎_elim, ℕ, ◌≤◌, Bool, List, [], ◌∷◌, length, refl, sym, ◌∙◌, ap, subst, arith, Option, Some, None}
 use Rattle.std.specs.List.{AllByRecursion}
 use Rattle.std.specs.Option.{option_map}
 use Rattle.std.proofs.lemmas.Option.{same_Some}
-use Rattle.ps_port.specs.ps_outside.Outside.{Outside}
+use Rattle.ps_port.specs.ps_outside.Outside.{Outside, After}
 use Rattle.ps_volumes.specs.obj_layout.declared.reference.Reference.{Reference}
 use Rattle.ps_volumes.specs.obj_layout.declared.reference.Reference.TheVariants.{Pid}
 use Rattle.ps_volumes.specs.obj_layout.Objects.{Placed, HoldsObjects}
@@ -24,6 +24,7 @@ use Rattle.heap_fit.specs.ps_heap.reaching.Reaching.{IsIn, at_start, by_step}
 use Rattle.heap_fit.specs.Heaps.{IsFitDatabase, AreNamedOnce, IsFitHeap}
 use Rattle.ps_volumes.specs.obj_store.Spaces.{word_at, words_of, space_of, space_found}
 use Rattle.ps_volumes.specs.Attaching.{KeepsVolume}
+use Rattle.ps_volumes.specs.volume_next.Moving.{HoldsSame, IsKeptIn}
 use Rattle.volume_meaning.specs.Space.{space_in, HoldSame, SeenIn}
 use Rattle.volume_meaning.specs.Stands.{IsDirectoryOf, SpaceStands, Stands, StandsSince}
 use Rattle.volume_meaning.proofs.Used.{held-from, space-used}
@@ -73,20 +74,31 @@ stands-held image other heap same s = record {
   stands = s.stands;
 }
 
+-- A file that holds the same words under the same directory stands for the same heap.
+
+same-found : (was now : Held) → HoldsSame was now → space_of was.note.used was ≡ space_of now.note.used now
+same-found was now same = sym (λ i. record { words = words_of (same.used i) (same.bytes i); directory = same.directory i; file = [] })
+
+pub stands-kept : (bytes image : List ℕ) (heap : StoredHeap) → IsKeptIn bytes image → Stands bytes heap → Stands image heap
+stands-kept bytes image heap is =
+    stands-held bytes image heap (ap space_found is.was_found ∙ same-found is.was is.now is.same ∙ sym (ap space_found is.now_found))
+
 -- What is left of a volume stands for the heap that it stood for.
 
-pub stands-since : (old new : Outside (List ℕ)) (heap : StoredHeap) → KeepsVolume old new → ((bytes : List ℕ) → old.contents bytes → Stands bytes heap)
-    → StandsSince old new heap
-stands-since old new heap kept stood = record {
-  since = kept.settles.since;
-  from = kept.settles.from;
-  until = kept.settles.until;
-  stands = λ m image from until at. stood image (kept.settles.settled m image from until at);
-}
+module _ (old new : Outside (List ℕ)) (heap : StoredHeap) (kept : KeepsVolume old new) (stood : (bytes : List ℕ) → old.contents bytes → Stands bytes heap) where
+  stands-after_one : (image : List ℕ) → After old.contents IsKeptIn image → Stands image heap
+  stands-after_one image at = stands-kept at.from image heap at.by (stood at.from at.was)
 
-pub stands-after : (old new : Outside (List ℕ)) (heap : StoredHeap) → KeepsVolume old new → ((bytes : List ℕ) → old.contents bytes → Stands bytes heap) →
-    (bytes : List ℕ) → new.contents bytes → Stands bytes heap
-stands-after old new heap kept stood bytes at = stood bytes (kept.keeps.contents bytes at)
+  pub stands-since : StandsSince old new heap
+  stands-since = record {
+    since = kept.from.since;
+    from = kept.from.from;
+    until = kept.from.until;
+    stands = λ m image low high at. stands-after_one image (kept.from.settled m image low high at);
+  }
+
+  pub stands-after : (bytes : List ℕ) → new.contents bytes → Stands bytes heap
+  stands-after bytes at = ⊎_elim (λ same. stood bytes same) (λ now. stands-after_one bytes now) (kept.keeps.contents bytes at)
 
 -- Spaces without a directory.
 

@@ -18,7 +18,9 @@ use Rattle.ps_code_laws.specs.text_forms.Forms.{forms_of, forms_from, form_here,
 use Rattle.ps_code_laws.specs.ps_heap.Values.{Num, Text, Pointer}
 use Rattle.heap_meaning.specs.Standing.{IsKindOf}
 use Rattle.heap_meaning.specs.Paired.{paired}
-use Rattle.heap_fit.specs.ps_heap.Tables.{by_strings, cardinality}
+use Rattle.heap_fit.specs.ps_heap.Tables.{Entry, by_strings, cardinality}
+use Rattle.heap_fit.specs.ps_heap.avl_trees.Trees as trees
+use Rattle.heap_fit.specs.ps_heap.avl_trees.Trees.{items}
 use Rattle.heap_fit.specs.ps_heap.Objects.{Object, Structure, Keyed}
 use Rattle.heap_fit.specs.ps_heap.References.{next_in}
 use Rattle.heap_fit.specs.ps_heap.Databases.{every_root}
@@ -29,10 +31,11 @@ use Rattle.heap_fit.specs.ps_soundness.ps_meaning.ps_base.TyView as types
 use Rattle.heap_fit.specs.ps_soundness.ps_type_text.Texts.{Field, IsNamed, is_name_byte}
 use Rattle.heap_fit.specs.Heaps.{at_structure, at_table, IsFitAt, IsFitHeap}
 use Rattle.volume_meaning.specs.Space.{holding, IsStored, SeenIn, with_tables}
-use Rattle.volume_meaning.specs.Tables.{IsTable, IsNodeOf}
+use Rattle.volume_meaning.specs.Tables.{IsStringKey, StandsForTree, IsTable, IsNodeOf}
 use Rattle.volume_meaning.specs.Stands.{IsThing, IsHome, Both, AreNamed, IsDirectory, StandsUnder, SpaceStands, Stands}
 use Rattle.volume_meaning.proofs.Seen.{seen-one}
 use Rattle.volume_meaning.proofs.Spelled.{space-held, each-below}
+use Rattle.volume_meaning.proofs.Trees.{node_shown, sides-of, one-entry}
 use Rattle.volume_meaning.proofs.Cutting.{pid, at, space_with, is-object, Follow, cut-of, seen-there, of_text, text-is}
 
 -- The words.
@@ -51,7 +54,7 @@ abbrev table : ℕ → List ℕ
 table count = 0x0000000100000007 ∷ 0 ∷ 3 ∷ 0 ∷ pid 28 ∷ 1 ∷ 1 ∷ count ∷ []
 
 abbrev node : List ℕ
-node = 0x0000000400000008 ∷ 0 ∷ 3 ∷ 0 ∷ 0 ∷ 0 ∷ pid 39 ∷ pid 45 ∷ 0 ∷ 0 ∷ 0 ∷ []
+node = 0x0000000400000008 ∷ 0 ∷ 3 ∷ 0 ∷ 0 ∷ 0 ∷ pid 39 ∷ pid 45 ∷ 0 ∷ 0 ∷ 1 ∷ []
 
 -- "k"
 abbrev key : List ℕ
@@ -128,8 +131,8 @@ directory_shown = record { kind = kind.Directory; refs = Pid 9 ∷ Pid 15 ∷ Pi
 abbrev table_shown : ℕ → Shown
 table_shown count = record { kind = kind.Table; refs = Pid 28 ∷ []; nums = 1 ∷ 1 ∷ count ∷ []; bytes = 0 }
 
-abbrev node_shown : Shown
-node_shown = record { kind = kind.Node; refs = Nil ∷ Nil ∷ Pid 39 ∷ Pid 45 ∷ []; nums = 0 ∷ 0 ∷ 0 ∷ []; bytes = 0 }
+abbrev one_node : Shown
+one_node = node_shown Nil Nil (Pid 39) (Pid 45) 0 1
 
 abbrev box_shown : ℕ → Shown
 box_shown home = record { kind = kind.Structure; refs = Pid 54 ∷ Pid 63 ∷ Pid 20 ∷ []; nums = home ∷ 3 ∷ []; bytes = 0 }
@@ -153,9 +156,9 @@ unfolding header_in reference_at object_in
 table-seen home count = seen-in home count 20 (table count) (table_shown count) (inr (inr (inr (inl refl))))
     (record { flags = refl; pid = refl; chain = refl; refs = (inr (omega arith), tt) }) refl
 
-node-seen : (home count : ℕ) → SeenIn (space home count) (Pid 28) node_shown
+node-seen : (home count : ℕ) → SeenIn (space home count) (Pid 28) one_node
 unfolding header_in reference_at object_in
-node-seen home count = seen-in home count 28 node node_shown (inr (inr (inr (inr (inl refl)))))
+node-seen home count = seen-in home count 28 node one_node (inr (inr (inr (inr (inl refl)))))
     (record { flags = refl; pid = refl; chain = refl; refs = (inl refl, (inl refl, (inr (omega arith), (inr (omega arith), tt)))) }) refl
 
 key-seen : (home count : ℕ) → SeenIn (space home count) (Pid 39) (of_text 1 (0x6b ∷ []))
@@ -281,11 +284,13 @@ table-is = record {
   home = 1;
   refs = refl;
   nums = refl;
-  nodes = (
-    node_shown,
-    node-seen 1 1,
-    (
+  nodes = record {
+    tree = trees.node trees.leaf (record { key = codes "k"; object = 1 }) trees.leaf;
+    stands = (
+      one_node,
       Nil,
+      Nil,
+      node-seen 1 1,
       record {
         kind_is = refl;
         key_name = Pid 39;
@@ -298,8 +303,11 @@ table-is = record {
         is_value = (refl, record { it = box_shown 1; there = inl (box-seen 1 1); kind_is = refl });
       },
       refl,
-    ),
-  );
+      refl,
+      (omega arith, omega arith),
+    );
+    are = refl;
+  };
   ordered = (tt, tt);
 }
 
@@ -412,12 +420,11 @@ box-paired : (home count : ℕ) (names : List Reference) → StandsUnder (space 
 box-paired home count names s =
     let table = table-of home count names s in
     let first : table.root ≡ Pid 28 = cc in
-    let there = subst (λ (n : Reference). SeenIn (space home count) n table.nodes.0) first table.nodes.1 in
-    let same = seen-one (space home count) (Pid 28) table.nodes.0 node_shown there (node-seen home count) in
-    let node = table.nodes.2.1 in
-    let refs : node_shown.refs ≡ Nil ∷ table.nodes.2.0 ∷ node.key_name ∷ node.value_name ∷ [] = sym (ap (λ (it : Shown). it.refs) same) ∙ node.refs in
-    let value : node.value_name ≡ Pid 45 = cc in
-    subst (λ (n : Reference). paired names n 1) value node.is_value.0
+    let seen = SeenIn (space home count) in
+    let stands = subst (λ (n : Reference). StandsForTree seen (paired names) (IsStringKey seen) n table.nodes.tree) first table.nodes.stands in
+    let sides = sides-of (space home count) (paired names) (IsStringKey seen) 28 Nil Nil (Pid 39) (Pid 45) 0 1 table.nodes.tree (node-seen home count) stands in
+    let is = one-entry sides.l sides.entry sides.r (record { key = codes "k"; object = 1 }) (sym (ap items sides.tree_is) ∙ table.nodes.are) in
+    subst (λ (e : Entry (List ℕ)). paired names (Pid 45) e.object) is sides.value_is.0
 
 -- Another home: the structure's word is the number of another database.
 another_home : SpaceStands (space 2 1) heap → ⊥

@@ -11,6 +11,7 @@ ghost use Rattle.ps_volumes.specs.paged_volume.Making.{IsNew};
 ghost use Rattle.ps_volumes.specs.paged_volume.Standing.{held_in};
 ghost use Rattle.ps_volumes.specs.volume_parts.declared.note.Note.{Note};
 ghost use Rattle.heap_fit.specs.ps_heap.Held.{StoredHeap};
+ghost use Rattle.heap_fit.specs.database_meaning.Same.{IsSame};
 ghost use Rattle.volume_meaning.specs.Space.{holding, spaced, space_in, HoldSame};
 ghost use Rattle.volume_meaning.specs.Stands.{Stands, StandsSince};
 ghost use Rattle.ps_volumes.specs.Attaching.{KeepsVolume};
@@ -34,6 +35,11 @@ pub fn what_stands_is_a_volume()
 /// A law: images that hold the same, the same used words under the same directory, stand for the same heaps.
 pub fn what_is_held_decides()
     ensures { (image other : List ℕ) (heap : StoredHeap) → HoldSame image other → Stands image heap → Stands other heap }
+{}
+
+/// A law: an image that stands for a heap stands for each heap that is the same but for the ids of its objects.
+pub fn ids_dont_matter()
+    ensures { (image : List ℕ) (heap other : StoredHeap) → IsSame heap other → Stands image heap → Stands image other }
 {}
 
 /// A law: where the bytes that are held begin with the spelling of as many words as are used, those are the words of the space.

@@ -1,10 +1,11 @@
 -- A volume that was committed once more, or looked at alone.
-use Rattle.std.proofs.Common.{◌≡◌, ◌⊎◌, inr, ⊎_elim, ℕ, ◌-◌, ◌*◌, ◌≤◌, Bool, true, false, List, [], length, get_or, replicate, refl, sym, ◌∙◌, ap, arith, Option, Some, None}
+use Rattle.std.proofs.Common.{◌≡◌, ◌⊎◌, inr, ⊎_elim, ℕ, ◌-◌, ◌*◌, ◌≤◌, Bool, true, false, List, [], length, get_or, replicate, refl, sym, ◌∙◌, ap, subst, arith, Option, Some, None}
 use Rattle.std.specs.Option.{option_map}
 use Rattle.std.proofs.lemmas.List.{take-append-le, take_all}
 use Rattle.ps_port.specs.ps_outside.Outside.{Outside, After, Leaves, TellsNothing, Rose}
 use Rattle.ps_port.specs.ps_outside.Past.{KeepsPast}
 use Rattle.ps_port.proofs.of_ps_outside.Moments.{along_then, along_now}
+use Rattle.ps_port.proofs.of_ps_outside.PastMoments.{past_along, past_then}
 use Rattle.volume_parts.specs.Layout.{pages_of_words}
 use Rattle.volume_parts.specs.Holding.{Held}
 use Rattle.volume_parts.specs.Holding.{saved}
@@ -12,7 +13,7 @@ use Rattle.volume_parts.specs.Calls.{Was}
 use Rattle.volume_parts.specs.declared.note.Note.{Note}
 use Rattle.paged_volume.specs.Layout.{capacity_pages}
 use Rattle.paged_volume.specs.Found.{held_at}
-use Rattle.paged_volume.specs.Standing.{held_in, held_of, seen, with_zeros}
+use Rattle.paged_volume.specs.Standing.{held_in, held_of, seen, staged_in, with_zeros}
 use Rattle.paged_volume.specs.Attaching.{IsAttached}
 use Rattle.paged_volume.specs.Committing.{IsSwitchFault}
 use Rattle.paged_volume.specs.declared.committed.Committed.{Committed}
@@ -35,18 +36,18 @@ module _ (a b : Outside (List ℕ)) (lives : Bool) (table : Table) (is : IsAttac
   start_used : (bytes : List ℕ) → a.contents bytes → (start bytes).note ≡ table.committed.note
   start_used bytes at = (is.found bytes at).note
 
-  pub kept_as : (image bytes : List ℕ) → a.contents bytes → held_in image ≡ held_in bytes → After a.contents IsKeptIn image
-  kept_as image bytes at same = record {
-    from = bytes;
-    was = at;
-    by = record {
-      was = start bytes;
-      now = start bytes;
-      was_found = started bytes at;
-      now_found = same ∙ started bytes at;
-      same = record { used = refl; directory = refl; bytes = refl };
-    };
+  -- a file in which the same is found holds the same
+  kept_by : (image bytes : List ℕ) → a.contents bytes → held_in image ≡ held_in bytes → IsKeptIn bytes image
+  kept_by image bytes at same = record {
+    was = start bytes;
+    now = start bytes;
+    was_found = started bytes at;
+    now_found = same ∙ started bytes at;
+    same = record { used = refl; directory = refl; bytes = refl };
   }
+
+  pub kept_as : (image bytes : List ℕ) → a.contents bytes → held_in image ≡ held_in bytes → After a.contents IsKeptIn image
+  kept_as image bytes at same = record { from = bytes; was = at; by = kept_by image bytes at same }
 
   -- looking leaves what was held
   pub looked : KeepsFrom a b
@@ -60,11 +61,12 @@ module _ (a b : Outside (List ℕ)) (lives : Bool) (table : Table) (is : IsAttac
   }
 
   pub looks_moves : Moves a b
-  looks_moves = record { told = is.looks.told; counts = is.looks.counts; output = is.looks.output; keeps = looked }
+  looks_moves = record { told = is.looks.told; past = past_along is.looks.images; counts = is.looks.counts; output = is.looks.output; keeps = looked }
 
   pub looked_alone : IsMigrated a b false
   looked_alone = record {
     moves = looks_moves;
+    still = λ bytes at. record { from = bytes; was = is.looks.same.kept bytes at; by = kept_by bytes bytes at refl };
     once = λ e. absurd (cc);
     left = λ e. (is.looks.images, is.looks.same);
   }
@@ -143,18 +145,33 @@ module _ (a b : Outside (List ℕ)) (lives : Bool) (table : Table) (is : IsAttac
     pub switched_moves : b.device_faults ≤ c.device_faults → c.output_faults ≡ b.output_faults → Moves a c
     switched_moves counts output = record {
       told = along_then is.looks.told told (along_now is.looks.told);
+      past = past_then (past_along is.looks.images) past;
       counts = let first = is.looks.counts in omega arith;
       output = output ∙ is.looks.output;
       keeps = switched_keeps;
     }
 
-    pub committed_once : b.device_faults ≤ c.device_faults → c.output_faults ≡ b.output_faults
-        → ((found : Option Held) → (seen other c).images c.clock found → Was (seen table b) (saved table.committed.note.used table.committed.note.directory) found) → IsMigrated a c true
-    committed_once counts output kept = record {
-      moves = switched_moves counts output;
-      once = λ e image at. committed_as image (kept (held_in image) (record { from = image; was = at; by = refl }));
-      left = λ e. absurd (cc);
-    }
+    -- the images at the end, and what a read gives then
+    module _ (kept : (found : Option Held) → (seen other c).images c.clock found → Was (seen table b) (saved table.committed.note.used table.committed.note.directory) found)
+        (stays : (found : Option Held) → Was (seen table b) (λ held. with_zeros table.committed.pages (saved table.committed.note.used table.committed.note.directory held)) found → (seen other c).contents found)
+        (is_image : (image : List ℕ) → c.contents image → c.images c.clock image) (one : (x y : List ℕ) → a.contents x → a.contents y → x ≡ y) where
+      committed_at : (image : List ℕ) → c.images c.clock image → After a.contents IsCommittedIn image
+      committed_at image at = committed_as image (kept (held_in image) (record { from = image; was = at; by = refl }))
+
+      -- what was held at the start is held in what a read gives then
+      still_held : (bytes : List ℕ) → a.contents bytes → After c.contents (λ now was. IsKeptIn was now) bytes
+      still_held bytes at =
+          let now = stays _ (record { from = Some (staged_in table bytes); was = record { from = bytes; was = is.looks.same.kept bytes at; by = refl }; by = refl }) in
+          let kept_now = kept_then now.from (committed_at now.from (is_image now.from now.was)) in
+          record { from = now.from; was = now.was; by = subst (λ (was : List ℕ). IsKeptIn was now.from) (one kept_now.from bytes kept_now.was at) kept_now.by }
+
+      pub committed_once : b.device_faults ≤ c.device_faults → c.output_faults ≡ b.output_faults → IsMigrated a c true
+      committed_once counts output = record {
+        moves = switched_moves counts output;
+        still = still_held;
+        once = λ e. committed_at;
+        left = λ e. absurd (cc);
+      }
 
 -- without pins nothing is committed only where the device failed
 pub switch_failed : {H : Type 0} (outside : H → Outside (List ℕ)) (old new : H) (lived lives : Bool) (p q : Table) (next : Committed) (fault : VolumeFault) → p.pins.items ≡ []

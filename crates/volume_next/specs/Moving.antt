@@ -1,9 +1,12 @@
 -- What is left of a volume that gets its index page.
-use Rattle.std.specs.Prelude.{◌≡◌, ℕ, ◌+◌, ◌%◌, ◌^◌, ◌≤◌, Bool, true, false, List, Some}
+use Rattle.std.specs.Prelude.{◌≡◌, ℕ, ◌+◌, ◌%◌, ◌^◌, ◌≤◌, Bool, true, false, nat_lt, nat_eq, if◌then◌else◌, List, Some}
 use Rattle.ps_port.specs.ps_outside.Outside.{Outside, After, LeavesSame, SameContents, TellsNothing, Rose}
+use Rattle.ps_port.specs.ps_outside.Past.{KeepsPast}
 use Rattle.volume_parts.specs.Holding.{Held}
 use Rattle.volume_parts.specs.declared.open_fault.OpenFault.{OpenFault}
 use Rattle.volume_parts.specs.declared.open_fault.OpenFault.TheVariants.{Device}
+use Rattle.paged_volume.specs.Layout.{least_indexed, depth_at}
+use Rattle.paged_volume.specs.Found.{Found, a_volume, no_volume, damaged, found_in}
 use Rattle.paged_volume.specs.Standing.{held_in}
 use Rattle.paged_volume.specs.Attaching.{IsRefused}
 
@@ -40,16 +43,31 @@ pub record KeepsFrom (old new : Outside (List ℕ)) : Type 0 where
   pub settled : (m : ℕ) (image : List ℕ) → since ≤ m → m ≤ new.clock → new.images m image → After old.contents IsKeptIn image
   pub untold : (m : ℕ) (bytes : List ℕ) → old.clock ≤ m → m ≤ since → new.told m bytes → old.told old.clock bytes
 
--- Calls of the device that output nothing; and each image of the way holds what was held.
+-- A volume of at least 88 pages has no index page, where its depth is 0.
+abbrev pub lacks_at : ℕ → ℕ → Bool
+lacks_at pages depth = if nat_lt pages least_indexed then false else nat_eq depth 0
+
+abbrev pub lacks_page : Found → List ℕ → Bool
+lacks_page (a_volume pages second held) image = lacks_at pages (depth_at second image)
+lacks_page (no_volume size gate) image = false
+lacks_page (damaged damage) image = false
+
+abbrev pub lacks_index : List ℕ → Bool
+lacks_index image = lacks_page (found_in image) image
+
+-- Calls of the device that output nothing; what is seen of the moments that have been stays, and each image of the way holds what was held.
 pub record Moves (old new : Outside (List ℕ)) : Type 0 where
   pub told : TellsNothing old new
+  pub past : KeepsPast old new
   pub counts : old.device_faults ≤ new.device_faults
   pub output : new.output_faults ≡ old.output_faults
   pub keeps : KeepsFrom old new
 
--- Whether it was committed: then each image at the end holds it by one commit more, and is what a read gives where a content is told; else the device was only looked at.
+-- Whether it was committed: then each image at the end holds it by one commit more; else the device was only looked at. And where a read gave a file at the start, at the end
+-- one gives a file that holds the same.
 pub record IsMigrated (old new : Outside (List ℕ)) (committed : Bool) : Type 0 where
   pub moves : Moves old new
+  pub still : (bytes : List ℕ) → old.contents bytes → After new.contents (λ now was. IsKeptIn was now) bytes
   pub once : committed ≡ true → (image : List ℕ) → new.images new.clock image → After old.contents IsCommittedIn image
   pub left : committed ≡ false → LeavesSame old new × SameContents old new
 

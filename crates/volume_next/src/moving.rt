@@ -1,7 +1,7 @@
 //! The index page of a volume that has none yet.
 
-ghost use Rattle.std.specs.Prelude.{◌≡◌, IfErr, IfOk};
-ghost use Rattle.volume_next.specs.Moving.{IsMigrated, IsUnmoved};
+ghost use Rattle.std.specs.Prelude.{◌≡◌, List, ℕ, IfErr, IfOk};
+ghost use Rattle.volume_next.specs.Moving.{IsMigrated, IsUnmoved, lacks_index};
 
 use paged_volume::layout::LEAST_INDEXED;
 use paged_volume::volume_parts::OpenFault;
@@ -14,10 +14,11 @@ use std::alloc::Global;
 /// attaching alone.
 pub fn migrate<H: Host>(alloc: Global, host: H) -> Result<(H, bool), Refused<H>>
     ensures ok { IfOk result (λ given. IsMigrated (H.outside host) (H.outside given.0) given.1) }
+    ensures when { IfOk result (λ given. (bytes : List ℕ) → (H.outside host).contents bytes → given.1 ≡ lacks_index bytes) }
     ensures err { IfErr result (λ refused. IsUnmoved (H.outside host) (H.outside refused.host) refused.cause) }
 {
     let mut volume = Volume::attach(alloc, host)?;
-    if volume.pages() < LEAST_INDEXED || volume.depth() == 1 {
+    if volume.pages() < LEAST_INDEXED || volume.depth() != 0 {
         return Ok((volume.release(), false));
     }
     volume.sound();

@@ -21,7 +21,7 @@ use Rattle.machine_core.specs.Stepped.{Does, UnlessBroken}
 
 -- a new scope of this text inside the current one is the current one
 abbrev pub in_scope : List ℕ → Config → Step
-in_scope of c = on (record (holding (and_object (new_scope of c.scope) c.store) c) { scope = Some (new_number c.store.heap) })
+in_scope of c = on (record (holding (and_object (new_scope of c.scope) c.store) c) { scope = Some (new_number c.store.held.objects) })
 
 -- a procedure of this unit, made in the current scope, is pushed
 abbrev pub with_procedure : UnitView → Config → Step

@@ -7,10 +7,10 @@ use Rattle.machine_core.specs.text_forms.Forms.{forms_of, form_in}
 use Rattle.machine_core.specs.heap_places.declared.value.Value as code
 use Rattle.machine_core.specs.heap_places.declared.value.Value.TheVariants as held
 use Rattle.machine_core.specs.ps_heap.Values.{Value, number_of}
-use Rattle.machine_core.specs.ps_heap.Scopes.{with_kept_name}
+use Rattle.machine_core.specs.ps_heap.Held.{assigned_name}
 use Rattle.machine_core.specs.ps_stepping.Config.{Config}
-use Rattle.machine_core.specs.ps_stepping.Steps.{Step, Stuck, push_num, push_ref}
-use Rattle.machine_core.specs.ps_stepping.Objects.{changed, when_number, when_reference}
+use Rattle.machine_core.specs.ps_stepping.Steps.{Step, Stuck, on, push_num, push_ref}
+use Rattle.machine_core.specs.ps_stepping.Objects.{having, when_number, when_reference}
 use Rattle.machine_core.specs.ps_stepping.Procedures.{at_level}
 use Rattle.machine_core.specs.joint_ops.World.{IsForIn}
 use Rattle.machine_core.specs.declared.machine.Machine.{Machine}
@@ -26,6 +26,10 @@ number_kept up name c s = at_level up c (λ of. when_number (form_in (forms_of o
 
 abbrev pub reference_kept : ℕ → ℕ → Config → Step → Step
 reference_kept up name c s = at_level up c (λ of. when_reference (form_in (forms_of of) name) s)
+
+-- the name gets a value
+abbrev pub name_put : ℕ → ℕ → Value → Config → Step
+name_put up name v c = on (having (assigned_name c.scope up name v) c)
 
 -- what goes on where the name is of the row of a value
 abbrev pub row_kept : code.Value → ℕ → ℕ → Config → Step → Step
@@ -51,4 +55,4 @@ module _ (before after : Outside Space) where
     pub names : UnlessBroken answer (NamesObjects new)
     pub size : UnlessBroken answer (new.objects.size ≡ old.objects.size)
     pub does : (names : List Reference) (c : Config) (v : Value) → HeldBy before names old c → IsForIn old.objects before names to v
-        → Does before after old.objects.size (row_kept to up name c (changed (with_kept_name c.store.heap c.scope up name v) c)) answer new
+        → Does before after old.objects.size (row_kept to up name c (name_put up name v c)) answer new

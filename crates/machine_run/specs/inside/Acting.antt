@@ -4,7 +4,7 @@ use Rattle.ps_base.specs.declared.instr.Instr.{Instr}
 use Rattle.machine_core.specs.ps_outside.Outside.{Outside}
 use Rattle.machine_core.specs.obj_layout.Stored.{Space}
 use Rattle.machine_core.specs.swizzle.Reading.{LeavesOutside}
-use Rattle.machine_core.specs.ps_stepping.Machine.{acts}
+use Rattle.machine_core.specs.ps_stepping.Plain.{acts_plainly}
 use Rattle.machine_core.specs.declared.machine.Machine.{Machine}
 use Rattle.machine_core.specs.declared.stepped.Stepped.{Stepped}
 use Rattle.machine_core.specs.Stepped.{Takes}
@@ -12,6 +12,6 @@ use Rattle.machine_core.specs.Failing.{FailsAsReading}
 
 -- The machine does what the instruction says whose own offset this is.
 pub record ActsAs (before after : Outside Space) (i : Instr) (own : ℕ) (old new : Machine) (answer : Stepped) : Type 0 where
-  pub takes : Takes before after (acts i own) old new answer
+  pub takes : Takes before after (acts_plainly i own) old new answer
   pub fails : FailsAsReading before after answer new
   pub leaves : LeavesOutside before after

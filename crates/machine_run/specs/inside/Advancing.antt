@@ -7,13 +7,14 @@ use Rattle.machine_core.specs.swizzle.Heap.{header_at}
 use Rattle.machine_core.specs.swizzle.declared.fault.SwizzleFault.{SwizzleFault}
 use Rattle.machine_core.specs.swizzle.declared.fault.SwizzleFault.TheVariants.{Vault}
 use Rattle.machine_core.specs.ps_heap.Ends.{report_of}
-use Rattle.machine_core.specs.ps_meaning.Event.{Event, outputs}
+use Rattle.machine_core.specs.ps_heap.Events.{Event, outputs}
 use Rattle.machine_core.specs.ps_stepping.Config.{Config}
-use Rattle.machine_core.specs.ps_stepping.Machine.{Step, Goes, Stops, Steps}
+use Rattle.machine_core.specs.ps_stepping.Machine.{Step, Goes, Stops}
 use Rattle.machine_core.specs.declared.machine.Machine.{Machine}
 use Rattle.machine_core.specs.declared.run_end.RunEnd.{RunEnd}
 use Rattle.machine_core.specs.Holding.{Holds}
 use Rattle.machine_core.specs.Full.{BreaksBy}
+use Rattle.machine_core.specs.ps_stepping.Plain.{PlainSteps}
 use Rattle.machine_core.specs.Stepped.{end_of}
 use Rattle.machine_run.specs.declared.run.Advanced.{Advanced}
 use Rattle.machine_run.specs.declared.run.Advanced.TheVariants.{On, Ended, Broke, Failed}
@@ -51,7 +52,7 @@ module _ (old new : Outside Space) where
     -- or the output failed.
     abbrev pub AdvancesBy : ℕ → Step → Machine → Advanced → Type 0
     AdvancesBy size s m On = (events : List Event) × (next : Config) × (s ≡ Goes events next) × Holds new m next × TellsBut old new (owed ++ outputs events) left
-    AdvancesBy size s m Ended = (s ≡ Stops (end_of m.end)) × TellsBut old new owed left
+    AdvancesBy size s m Ended = (touched : ℕ) × (s ≡ Stops (end_of m.end) touched) × TellsBut old new owed left
     AdvancesBy size s m Broke = BreaksBy old new size s m.fault × TellsBut old new owed left
     AdvancesBy size s m Failed = (events : List Event) × (next : Config) × (s ≡ Goes events next) × FailsAfter old new (owed ++ outputs events)
 
@@ -64,7 +65,7 @@ module _ (old new : Outside Space) where
     pub record Advances (m m' : Machine) (answer : Advanced) : Type 0 where
       pub size : WhereOn answer (m'.objects.size ≡ m.objects.size)
       pub cleared : WhereFailed answer (left ≡ [])
-      pub by : (c : Config) → Holds old m c → (s : Step) × Steps c s × AdvancesBy m.objects.size s m' answer
+      pub by : (c : Config) → Holds old m c → (s : Step) × PlainSteps c s × AdvancesBy m.objects.size s m' answer
 
     -- the report of an end is output after what is pending, or the output failed in it
     abbrev pub Reports : RunEnd → Result RunEnd SwizzleFault → Type 0

@@ -11,7 +11,8 @@ use Rattle.machine_core.specs.text_forms.declared.forms.Located.{Located}
 use Rattle.machine_core.specs.text_forms.Forms.{forms_of, located_in, is_number_form}
 use Rattle.machine_core.specs.heap_places.declared.value.Value as code
 use Rattle.machine_core.specs.ps_heap.Ends.{Trapped}
-use Rattle.machine_core.specs.ps_heap.Objects.{with_field, kept_as}
+use Rattle.machine_core.specs.ps_heap.Objects.{with_field, kept_as, id_of}
+use Rattle.machine_core.specs.ps_heap.Held.{Part}
 use Rattle.machine_core.specs.ps_heap.Values.{Value}
 use Rattle.machine_core.specs.ps_stepping.Config.{Config}
 use Rattle.machine_core.specs.ps_stepping.Steps.{Step, Stops, Stuck, attempted}
@@ -50,7 +51,7 @@ module _ (here : area.Heap) (outside : Outside Space) where
 
 -- the step of an operation on what this value denotes that ends in a trap
 abbrev pub trap_at : Value → Trap → Line → Config → Step
-trap_at v trap line c = object_of v c (λ o d. Stops (Trapped trap line))
+trap_at v trap line c = object_of v c (λ o d. Stops (Trapped trap line) 0)
 
 module _ (before after : Outside Space) where
   -- The trap of an operation on what an object denotes was answered, in an area of whatever size.
@@ -80,7 +81,7 @@ module _ (before after : Outside Space) where
         → NamesClass old.objects before field.code field.constant class → located_in (forms_of class) field.number ≡ Some located
         → IsOfRow located.place.form to → IsForIn old.objects before names to v
         → Does before after old.objects.size
-        (pop_object c (λ o d. attempted line (with_field d.store.heap o class field.number (kept_as (Some located.place.form) v)) (λ heap. changed heap d)))
+        (pop_object c (λ o d. attempted line (with_field d.store.held.objects o class field.number (kept_as (Some located.place.form) v)) (λ heap. changed (Part (id_of o) field.number) heap d)))
         answer new
     pub damaged : (s : Step) → s ≡ Stuck → LacksPlace old.objects before field.code field.constant field.number to → Does before after old.objects.size s
         answer new

@@ -7,10 +7,11 @@ use Rattle.machine_core.specs.obj_layout.declared.reference.Reference.{Reference
 use Rattle.machine_core.specs.text_forms.declared.forms.Form.{Form}
 use Rattle.machine_core.specs.text_forms.Forms.{element_of, is_number_form}
 use Rattle.machine_core.specs.ps_heap.Values.{Value, Num, Vector, word_of}
+use Rattle.machine_core.specs.ps_heap.Held.{reading, element_place}
 use Rattle.machine_core.specs.ps_heap.Objects.{kept_as, with_element, element_of as element_at}
 use Rattle.machine_core.specs.ps_stepping.Config.{Config}
 use Rattle.machine_core.specs.ps_stepping.Steps.{Step, Stuck, attempted, push_num, push_ref}
-use Rattle.machine_core.specs.ps_stepping.Objects.{type_of, when_number, when_reference, changed}
+use Rattle.machine_core.specs.ps_stepping.Objects.{type_of, when_number, when_reference, having, changed}
 use Rattle.machine_core.specs.joint_ops.World.{DenotesIn}
 use Rattle.machine_core.specs.declared.machine.Machine.{Machine}
 use Rattle.machine_core.specs.declared.stepped.Stepped.{Stepped}
@@ -20,22 +21,22 @@ use Rattle.machine_core.specs.Stepped.{Does, UnlessBroken}
 
 -- The element at a subscript of a vector whose type has this text, as it is pushed: an int or a bool, or a reference.
 abbrev pub number_read : Line → ℤ → List ℕ → Value → Config → Step
-number_read line at ty v c = attempted line (element_at c.store.heap v at) (λ w. when_number (Some (element_of ty)) (push_num (word_of w) c))
+number_read line at ty v c = attempted line (element_at c.store.held.objects v at) (λ w. when_number (Some (element_of ty)) (push_num (word_of w) (having (reading w) c)))
 
 abbrev pub reference_read : Line → ℤ → List ℕ → Value → Config → Step
-reference_read line at ty v c = attempted line (element_at c.store.heap v at) (λ w. when_reference (Some (element_of ty)) (push_ref w c))
+reference_read line at ty v c = attempted line (element_at c.store.held.objects v at) (λ w. when_reference (Some (element_of ty)) (push_ref w (having (reading w) c)))
 
 -- A number, or a reference, is written there.
 abbrev pub number_put : Line → ℤ → ℤ → List ℕ → Value → Config → Step
 number_put line at z ty v c =
-    attempted line (with_element c.store.heap v at (kept_as (Some (element_of ty)) (Num z))) (λ heap. when_number (Some (element_of ty)) (changed heap c))
+    attempted line (with_element c.store.held.objects v at (kept_as (Some (element_of ty)) (Num z))) (λ heap. when_number (Some (element_of ty)) (changed (element_place c.store.held.objects v at) heap c))
 
 abbrev pub reference_put : Line → ℤ → Value → List ℕ → Value → Config → Step
-reference_put line at w ty v c = attempted line (with_element c.store.heap v at w) (λ heap. when_reference (Some (element_of ty)) (changed heap c))
+reference_put line at w ty v c = attempted line (with_element c.store.held.objects v at w) (λ heap. when_reference (Some (element_of ty)) (changed (element_place c.store.held.objects v at) heap c))
 
 -- What is to be written belongs into the other row: the trap of the subscript, or none.
 abbrev pub refused : Line → ℤ → Value → Value → Config → Step
-refused line at w v c = attempted line (with_element c.store.heap v at w) (λ heap. Stuck)
+refused line at w v c = attempted line (with_element c.store.held.objects v at w) (λ heap. Stuck)
 
 -- ints or bools, or references
 abbrev pub OfNumbers : Form → Type 0
@@ -52,7 +53,7 @@ module _ (before after : Outside Space) where
     pub names : UnlessBroken answer (NamesObjects new)
     pub size : UnlessBroken answer (new.objects.size ≡ old.objects.size)
     pub does : (names : List Reference) (c : Config) (id : ℕ) (ty : List ℕ) → HeldBy before names old c
-        → DenotesIn old.objects before names (Some vector) (Vector id) → type_of c.store.heap (Vector id) ≡ Some ty → such (element_of ty)
+        → DenotesIn old.objects before names (Some vector) (Vector id) → type_of c.store.held.objects (Vector id) ≡ Some ty → such (element_of ty)
         → Does before after old.objects.size (of ty (Vector id) c) answer new
 
   -- And so where an object, or none, denotes a value that is written.
@@ -61,7 +62,7 @@ module _ (before after : Outside Space) where
     pub names : UnlessBroken answer (NamesObjects new)
     pub size : UnlessBroken answer (new.objects.size ≡ old.objects.size)
     pub does : (names : List Reference) (c : Config) (id : ℕ) (ty : List ℕ) (w : Value) → HeldBy before names old c
-        → DenotesIn old.objects before names (Some vector) (Vector id) → type_of c.store.heap (Vector id) ≡ Some ty → such (element_of ty)
+        → DenotesIn old.objects before names (Some vector) (Vector id) → type_of c.store.held.objects (Vector id) ≡ Some ty → such (element_of ty)
         → DenotesIn old.objects before names to w → Does before after old.objects.size (reference_put line at w ty (Vector id) c) answer new
 
   -- And so where whatever is to be written is refused.

@@ -4,7 +4,7 @@ use Rattle.database_meaning.proofs.laws.runs_stay_right.Goals as goal
 
 pub returns : goal.returns
 returns c = record {
-  start = λ replies counted stored there homed. start-right replies counted stored there homed;
+  start = λ weigh replies counted stored there homed. start-right weigh replies counted stored there homed;
   makes = λ object h r low. made-right object h r low;
   counts = λ bytes h r. counting-right bytes h r;
   assigns = λ id n v h r low. assigned-right id n v h r low;

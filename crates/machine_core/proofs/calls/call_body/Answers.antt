@@ -84,6 +84,7 @@ returns-clause-calls g c =
       names = λ n there. names-entered body c.args.refs (record m { turns = t }) c.enter.new.m e (record { code = n.code; scope = n.scope; own = n.own; below = n.below; callers = n.callers; item = n.item }) there;
       size = ap (λ (n : Machine). n.objects.size) e.new_is;
       does = λ names conf of scope h is. (
+        conf.store.held.counted,
         begun m out names conf h c.args.refs body.frame.num_params e.low_refs e.refs_count refs_low c.args.line of scope e.low_nums e.nums_count nums_low few t some,
         goes-in m out names conf h c.args.refs body.frame.num_params e.low_refs e.refs_count refs_low c.args.line of scope e.low_nums e.nums_count nums_low few t some,
         record {

@@ -1,6 +1,6 @@
 use Rattle.std.proofs.Common.{◌≡◌, true, false, Bool, ap, sym, ◌∙◌, subst, rules}
 use Rattle.std.specs.Prelude.{if◌then◌else◌, ◌+ℤ◌, ℤ}
-use Rattle.ps_stepping.specs.ps_meaning.Evaluation.{goes_on}
+use Rattle.ps_stepping.specs.ps_meaning.Loops.{goes_on}
 use Rattle.ps_stepping.specs.Machine.{on, with_num, back, counted}
 use Rattle.machine_core.specs.Stepped.{Takes}
 use Rattle.machine_core.proofs.Between.{same-step}

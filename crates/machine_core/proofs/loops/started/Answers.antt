@@ -1,7 +1,7 @@
 use Rattle.std.proofs.Common.{◌≡◌, pos, true, false, sym, rules}
 use Rattle.ps_stepping.specs.ps_meaning.Meaning.{spent}
 use Rattle.ps_stepping.specs.ps_heap.Operators.{is_same}
-use Rattle.ps_stepping.specs.ps_meaning.Evaluation.{goes_on}
+use Rattle.ps_stepping.specs.ps_meaning.Loops.{goes_on}
 use Rattle.ps_stepping.specs.Machine.{forward, started, turn_to}
 use Rattle.machine_core.proofs.Between.{same-held}
 use Rattle.machine_core.proofs.Jumping.{starts_with_turn, starts_past}

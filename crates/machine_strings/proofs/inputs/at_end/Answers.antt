@@ -4,7 +4,7 @@ use Rattle.std.proofs.Common.{◌≡◌, Bool, ℤ, rules, subst, ap, sym, ◌�
 use Rattle.machine_core.specs.ps_heap.Texts.{is_at_end}
 use Rattle.machine_core.specs.ps_heap.Values.{number_of}
 use Rattle.machine_core.specs.ps_stepping.Steps.{push_num}
-use Rattle.machine_core.specs.ps_stepping.Objects.{at_end}
+use Rattle.machine_core.specs.ps_stepping.Library.{at_end}
 use Rattle.machine_core.specs.Stepped.{Takes}
 use Rattle.machine_core.proofs.Between.{same-held}
 use Rattle.machine_strings.proofs.inputs.at_end.Goals as goal

@@ -1,8 +1,8 @@
 use Rattle.std.proofs.Common.{◌≡◌, ℕ, List, sym, ap, ◌∙◌, subst, refl, rules}
 use Rattle.machine_core.specs.ps_meaning.Meaning.{on_input}
 use Rattle.machine_core.specs.ps_heap.Texts.{Attempt, behind_line, line_read, string_of}
-use Rattle.machine_core.specs.ps_stepping.Steps.{attempted}
-use Rattle.machine_core.specs.ps_stepping.Objects.{read_line, make_text, holding}
+use Rattle.machine_core.specs.ps_stepping.Objects.{holding}
+use Rattle.machine_core.specs.ps_stepping.Library.{read_line}
 use Rattle.machine_core.specs.joint_ops.Made.{MakesText}
 use Rattle.machine_operands.proofs.Parts.{making-fails}
 use Rattle.machine_strings.proofs.Parts.{gives}
@@ -38,8 +38,8 @@ returns-clause-takes g c =
       step = refl;
       held = held-passed m left out names conf h passed;
       makes =
-          subst (λ (a : Attempt (List ℕ)). MakesText m.objects made.new.self out conf.store.heap names a made.result) is
-          (made.ensures.made v conf.store.heap names h.world);
+          subst (λ (a : Attempt (List ℕ)). MakesText m.objects made.new.self out conf.store.held.objects names a made.result) is
+          (made.ensures.made v conf.store.held.objects names h.world);
     })
 
 pub returns-clause-fails : goal.returns-clause-fails

@@ -2,7 +2,7 @@ use mir.Syntax.{w32}
 use mir.Val.{to_z, of_z}
 use Rattle.std.proofs.Common.{◌≡◌, Bool, ℤ, rules, subst, ap, sym, ◌∙◌}
 use Rattle.machine_core.specs.ps_heap.Values.{number_of}
-use Rattle.machine_core.specs.ps_meaning.Evaluation.{text_relation}
+use Rattle.machine_core.specs.ps_meaning.Operations.{text_relation}
 use Rattle.machine_core.specs.ps_stepping.Steps.{push_num}
 use Rattle.machine_core.specs.ps_stepping.Objects.{compare_texts}
 use Rattle.machine_core.specs.Stepped.{Takes}

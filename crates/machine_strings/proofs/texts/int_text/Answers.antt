@@ -1,7 +1,8 @@
 use Rattle.std.proofs.Common.{rules}
 use Rattle.std.specs.Fmt.{signed_decimal}
 use Rattle.machine_core.specs.ps_heap.Texts.{Yields}
-use Rattle.machine_core.specs.ps_stepping.Objects.{int_text, make_text}
+use Rattle.machine_core.specs.ps_stepping.Objects.{make_text}
+use Rattle.machine_core.specs.ps_stepping.Library.{int_text}
 use Rattle.machine_core.specs.joint_ops.Made.{MakesText}
 use Rattle.machine_operands.proofs.Parts.{making-fails}
 use Rattle.machine_strings.proofs.Parts.{gives}
@@ -19,8 +20,8 @@ returns-clause-takes g c =
     made.ensures.keeps made.ensures.held (c.give_text.ensures vault)
     (λ names conf h.
     let n = (p.pops vault).gives names conf h in
-    let did = made.ensures.made n.0.store.heap names n.2.world in
-    let makes : MakesText last.objects made.new.self out n.0.store.heap names (Yields (signed_decimal z)) made.result = search (rules, did) in
+    let did = made.ensures.made n.0.store.held.objects names n.2.world in
+    let makes : MakesText last.objects made.new.self out n.0.store.held.objects names (Yields (signed_decimal z)) made.result = search (rules, did) in
     record {
       next = n.0;
       attempt = Yields (signed_decimal z);

@@ -2,7 +2,7 @@ use mir.Syntax.{w32}
 use mir.Val.{to_z, of_z}
 use Rattle.std.proofs.Common.{◌≡◌, ℕ, ℤ, pos, length, rules, arith, ap, sym, ◌∙◌, subst}
 use Rattle.machine_core.specs.ps_stepping.Steps.{push_num}
-use Rattle.machine_core.specs.ps_stepping.Objects.{text_length}
+use Rattle.machine_core.specs.ps_stepping.Library.{text_length}
 use Rattle.machine_core.specs.Stepped.{Takes}
 use Rattle.machine_strings.proofs.Parts.{after-parts}
 use Rattle.machine_strings.proofs.texts.length.Goals as goal

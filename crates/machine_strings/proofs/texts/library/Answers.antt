@@ -1,21 +1,50 @@
-use Rattle.std.proofs.Common.{◌≡◌, ℕ, rules, sym, subst}
-use Rattle.machine_core.specs.ps_stepping.Objects.{library}
+use Rattle.std.proofs.Common.{◌≡◌, ℕ, rules, arith, sym, subst, ◌∙◌, ap}
+use Rattle.machine_core.specs.ps_stepping.Config.{Config}
+use Rattle.machine_core.specs.ps_stepping.Steps.{Step}
+use Rattle.machine_core.specs.ps_stepping.Plain.{plain_library}
 use Rattle.machine_core.specs.Stepped.{Takes}
+use Rattle.machine_core.proofs.Between.{stuck-there}
 use Rattle.machine_core.proofs.Failing.{whole-failing}
+use Rattle.machine_strings.proofs.PlainCalls.{line-call, end-call, length-call, int-call, no-plain-call}
 use Rattle.machine_strings.proofs.texts.library.Goals as goal
 
 pub returns-in-9-clause-takes : goal.returns-in-9-clause-takes
-returns-in-9-clause-takes g c = let t = c.read_line.ensures.takes c.args.vault.now in search (rules, t)
+returns-in-9-clause-takes g c =
+    let out = g.V.Vault.outside c.args.vault.now in
+    let did = c.read_line in
+    let is : c.args.code ≡ 9 = search rules in
+    subst (λ (of : Config → Step). Takes out out of c.args.m.now did.new.m did.result) (sym (ap (λ (n : ℕ). plain_library n c.args.line) is ∙ line-call c.args.line)) (did.ensures.takes c.args.vault.now)
 
 pub returns-in-10-clause-takes : goal.returns-in-10-clause-takes
 returns-in-10-clause-takes g c =
     let out = g.V.Vault.outside c.args.vault.now in
     let did = c.at_end in
     let is : c.args.code ≡ 10 = search rules in
-    subst (λ (n : ℕ). Takes out out (library n c.args.line) c.args.m.now did.new.m did.result) (sym is) (did.ensures.takes c.args.vault.now)
+    subst (λ (of : Config → Step). Takes out out of c.args.m.now did.new.m did.result) (sym (ap (λ (n : ℕ). plain_library n c.args.line) is ∙ end-call c.args.line)) (did.ensures.takes c.args.vault.now)
 
 pub returns-in-11-clause-takes : goal.returns-in-11-clause-takes
-returns-in-11-clause-takes g c = let t = c.length.ensures.takes c.args.vault.now in search (rules, t)
+returns-in-11-clause-takes g c =
+    let out = g.V.Vault.outside c.args.vault.now in
+    let did = c.length in
+    let is : c.args.code ≡ 11 = search rules in
+    subst (λ (of : Config → Step). Takes out out of c.args.m.now did.new.m did.result) (sym (ap (λ (n : ℕ). plain_library n c.args.line) is ∙ length-call c.args.line)) (did.ensures.takes c.args.vault.now)
+
+pub returns-in-12-clause-takes : goal.returns-in-12-clause-takes
+returns-in-12-clause-takes g c =
+    let out = g.V.Vault.outside c.args.vault.now in
+    let did = c.int_text in
+    let is : c.args.code ≡ 12 = search rules in
+    subst (λ (of : Config → Step). Takes out out of c.args.m.now did.new.m did.result) (sym (ap (λ (n : ℕ). plain_library n c.args.line) is ∙ int-call c.args.line)) did.ensures.takes
+
+pub returns-in_default-clause-takes : goal.returns-in_default-clause-takes
+returns-in_default-clause-takes g c =
+    let out = g.V.Vault.outside c.args.vault.now in
+    let nine : c.args.code ≡ 9 → ⊥ = λ h. omega (arith, h) in
+    let ten : c.args.code ≡ 10 → ⊥ = λ h. omega (arith, h) in
+    let eleven : c.args.code ≡ 11 → ⊥ = λ h. omega (arith, h) in
+    let twelve : c.args.code ≡ 12 → ⊥ = λ h. omega (arith, h) in
+    stuck-there out out c.args.m.now c.requires.sound (plain_library c.args.code c.args.line)
+    (λ d h. no-plain-call c.args.code c.args.line d nine ten eleven twelve)
 
 pub returns-in-9-clause-fails : goal.returns-in-9-clause-fails
 returns-in-9-clause-fails g c = c.read_line.ensures.fails c.args.vault.now

@@ -32,7 +32,7 @@ returns-clause-takes g c =
     let n = (p.pops vault).gives names conf h in
     let i = (q.pops vault).gives names n.0 n.2 in
     let a = (t.pops vault).gives names i.0 i.2 in
-    let did = made.ensures.made a.0.store.heap names a.1 a.3.world a.4 in
+    let did = made.ensures.made a.0.store.held.objects names a.1 a.3.world a.4 in
     record {
       next = a.0;
       attempt = part_of a.1 from count;
@@ -42,8 +42,8 @@ returns-clause-takes g c =
           ∙ a.2 (λ z f. attempted line (part_of z from count) (λ bytes. make_text bytes f));
       held = a.3;
       makes =
-          subst (λ (y : ℤ). MakesText last.objects made.new.self out a.0.store.heap names (part_of a.1 from y) made.result) same_count
-          (subst (λ (x : ℤ). MakesText last.objects made.new.self out a.0.store.heap names (part_of a.1 x (to_z w32 (of_z w32 count))) made.result) same_from did);
+          subst (λ (y : ℤ). MakesText last.objects made.new.self out a.0.store.held.objects names (part_of a.1 from y) made.result) same_count
+          (subst (λ (x : ℤ). MakesText last.objects made.new.self out a.0.store.held.objects names (part_of a.1 x (to_z w32 (of_z w32 count))) made.result) same_from did);
     })
 
 pub returns-clause-fails : goal.returns-clause-fails

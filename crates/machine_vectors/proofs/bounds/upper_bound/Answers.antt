@@ -14,7 +14,7 @@ returns-clause-takes g c =
     let m = c.pop_vector.new.m in
     let give = c.give_bound in
     let p = c.in-Some.ensures in
-    vector-then before c.args.m.now m p.leaves (λ ty u d. push_num (high_of d.store.heap u) d) after give.new.m give.result c.in-Some.vector (p.pops v)
+    vector-then before c.args.m.now m p.leaves (λ ty u d. push_num (high_of d.store.held.objects u) d) after give.new.m give.result c.in-Some.vector (p.pops v)
     (bound-found before after m give.new.m bound.new.self give.result c.in-Some.vector high_of p.names bound.ensures.leaves bound.result bound.ensures.keeps
     bound.ensures.got (give.ensures v w))
 

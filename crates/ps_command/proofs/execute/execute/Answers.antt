@@ -22,7 +22,7 @@ returns-in-Ok-attached g c =
       why = λ program r.
           let ran = subst (λ h. EndsRun (o h) (o back) run input program end) c.release.ensures (c.run_attached.ensures.ran program r) in
           let left = subst (λ h. LeavesSame (o h) (o back)) c.release.ensures c.run_attached.ensures.left in
-          steps.ran (run_behind old host (o back) is.looks.told is.looks.output run input program end ran)
+          steps.ran (run_behind old host (o back) is.told is.output run input program end ran)
           (volume_kept o old store (o back) is left (ends_keep host (o back) ran.bytes ran.status end ran.ends) (g.met.H.Host.is_image back));
     }
 

@@ -1,6 +1,5 @@
 use Rattle.std.proofs.Common.{subst}
 use Rattle.ps_port.specs.ps_outside.Outside.{Rose}
-use Rattle.ps_causes.specs.Command.{Unready}
 use Rattle.ps_causes.specs.Source.{IsProgram}
 use Rattle.ps_causes.specs.Steps.{RefusalWhy}
 use Rattle.ps_causes.specs.ps_reports.Reporting.{line_of, status_of}

@@ -8,7 +8,7 @@ pub returns-clause-rest : goal.returns-clause-rest
 returns-clause-rest _ = λ total c last before behind run way end. rest_is total c last before behind run way end
 
 pub returns-clause-end : goal.returns-clause-end
-returns-clause-end _ = λ total c last before e run way s. stops_at_the_end total c last before e run way s
+returns-clause-end _ = λ total c last before e touched run way s. stops_at_the_end total c last before e touched run way s
 
 pub returns-clause-goes : goal.returns-clause-goes
 returns-clause-goes _ = λ total c last before run way s. is_never_stuck total c last before run way s

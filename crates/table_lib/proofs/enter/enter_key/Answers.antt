@@ -3,6 +3,8 @@ use Rattle.table_nodes.specs.Sought.{kind_of, key_in}
 use Rattle.table_nodes.specs.Steps.{place}
 use Rattle.table_lib.specs.Operations.{Opens}
 use Rattle.table_lib.proofs.EnterLaws.{enters_refused, enters_done}
+use Rattle.table_nodes.proofs.BringLaws.{brings_none}
+use Rattle.table_nodes.proofs.of_heap_places.of_swizzle.TouchLaws.{keeps-refl}
 use Rattle.table_lib.proofs.enter.enter_key.Goals as goal
 
 pub returns-in-Err-clause-entered : goal.returns-in-Err-clause-entered
@@ -21,3 +23,9 @@ returns-in-Err-enter_opened-clause-entered g c =
     enters_done _ (kind_of c.args.key) (place c.args.sw.now (g.V.Vault.outside c.args.vault.now)) (place c.enter_opened.new.sw (g.V.Vault.outside c.enter_opened.new.vault)) c.args.table (key_in c.args.sw.now c.args.key) c.in-Ok.opened
     (subst (λ ks. Opens ks c.args.sw.now c.args.table (Ok c.in-Ok.opened)) c.kind_of_key.ensures c.in-Ok.ensures) c.args.to (Err c.in-Err-enter_opened.fault)
     c.in-Err-enter_opened.ensures.put c.in-Err-enter_opened.ensures.taken c.in-Err-enter_opened.ensures.marked
+
+pub returns-in-Err-clause-brings : goal.returns-in-Err-clause-brings
+returns-in-Err-clause-brings g c at e = brings_none c.args.sw.now _
+
+pub returns-in-Err-clause-still : goal.returns-in-Err-clause-still
+returns-in-Err-clause-still g c = keeps-refl c.args.sw.now

@@ -1,4 +1,4 @@
-use Rattle.std.proofs.Common.{◌+◌, ◌*◌, ◌≡◌, Some, Ok, refl, ap, subst}
+use Rattle.std.proofs.Common.{arith, ◌+◌, ◌*◌, ◌≡◌, Some, Ok, refl, ap, subst}
 use Rattle.table_nodes.specs.heap_places.swizzle.Joint.{name_at}
 use Rattle.table_nodes.proofs.of_heap_places.of_swizzle.NameLaws.{name-not_nil}
 use Rattle.table_nodes.specs.avl_trees.Trees.{lookup}
@@ -15,6 +15,9 @@ use Rattle.table_lib.specs.Entries.{WritesTable}
 use Rattle.table_lib.proofs.RootLaws.{pairs_low, tree_from}
 use Rattle.table_lib.proofs.WriteLaws.{but_then, table_kept, table_lasts}
 use Rattle.table_lib.proofs.EnterLaws.{pair_entered}
+use Rattle.table_nodes.specs.avl_trees.Trees.{bits as digits}
+use Rattle.table_nodes.proofs.of_heap_places.of_swizzle.TouchLaws.{keeps-trans}
+use Rattle.table_nodes.proofs.BringLaws.{brings_more, brings_touched, brings_written}
 use Rattle.table_lib.proofs.enter.put_pair.Goals as goal
 
 pub returns-in-Err-enter-clause-put : goal.returns-in-Err-enter-clause-put
@@ -23,7 +26,7 @@ returns-in-Err-enter-clause-put g c t p h low =
     let old = (place c.args.sw.now (g.V.Vault.outside c.args.vault.now)) in
     let m = (place c.counted_root.new.sw (g.V.Vault.outside c.counted_root.new.vault)) in
     let tree = tree_from ks old m c.args.at t c.in-Ok.root c.in-Ok.ensures.grows h (c.in-Ok.ensures.root ks t h) in
-    let lower = pairs_low ks old c.args.at t c.num-count.result (2 * c.bits.result + 2) h c.num-count.ensures c.num-count.type_inv (ap (λ b. 2 * b + 2) c.bits.ensures.value) in
+    let lower = pairs_low ks old c.args.at t c.num-count.result (2 * c.bits.result + 1) h c.num-count.ensures c.num-count.type_inv (ap (λ b. 2 * b + 1) c.bits.ensures.value) in
     let here = place_touched old m c.in-Ok.ensures.grows p in
     fault_after old.outside m.outside c.in-Err-enter.fault c.in-Ok.ensures.grows.contents (c.in-Err-enter.ensures.entered t here tree lower)
 
@@ -42,17 +45,29 @@ returns-clause-put g c t p h low =
     let key = key_in old.heap c.args.key in
     let value = name_at old.heap c.args.value in
     let tree = tree_from ks old m c.args.at t c.in-Ok.root c.in-Ok.ensures.grows h (c.in-Ok.ensures.root ks t h) in
-    let lower = pairs_low ks old c.args.at t c.num-count.result (2 * c.bits.result + 2) h c.num-count.ensures c.num-count.type_inv (ap (λ b. 2 * b + 2) c.bits.ensures.value) in
+    let lower = pairs_low ks old c.args.at t c.num-count.result (2 * c.bits.result + 1) h c.num-count.ensures c.num-count.type_inv (ap (λ b. 2 * b + 1) c.bits.ensures.value) in
     let here = place_touched old m c.in-Ok.ensures.grows p in
     let same_key = key_in_kept old.heap m.heap c.args.key c.in-Ok.ensures.keeps c.requires.key in
     let same_value = (c.in-Ok.ensures.keeps.objects c.args.value c.requires.value).name in
-    let w = entered_as ks m m1 c.in-Ok.root (2 * c.bits.result + 2) (key_in m.heap c.args.key) key (name_at m.heap c.args.value) value (Ok c.in-Ok-enter.entered) same_key same_value c.in-Ok-enter.ensures.entered t here tree lower in
+    let w = entered_as ks m m1 c.in-Ok.root (2 * c.bits.result + 1) (key_in m.heap c.args.key) key (name_at m.heap c.args.value) value (Ok c.in-Ok-enter.entered) same_key same_value c.in-Ok-enter.ensures.entered t here tree lower in
     let is_made : c.in-Ok-enter.entered.made ≡ is_missing (lookup (seek (order_by ks) key) t) =
     subst (λ k. c.in-Ok-enter.entered.made ≡ is_missing (lookup (seek (order_by ks) k) t)) same_key (c.in-Ok-enter.ensures.counted t tree lower) in
     let wrote = subst (λ k. WritesTable k m1.heap m2.heap m1.outside c.args.at (Some c.in-Ok-enter.entered.root) c.count_with-count.result) c.kind_of_key.ensures c.write_table.ensures.written in
     pair_entered ks old m m1 m2 c.args.at (Some c.in-Ok-enter.entered.root) c.count_with-count.result c.requires.table c.in-Ok.ensures.keeps c.in-Ok.ensures.grows c.in-Ok-enter.ensures.spares wrote refl
-    key t h value (name-not_nil old.heap c.args.value) c.num-count.result c.in-Ok-enter.entered.made c.in-Ok-enter.entered.root refl w is_made c.num-count.ensures low c.count_with-count.ensures.more c.count_with-count.ensures.same
+    key t h value (name-not_nil old.heap c.args.value) c.num-count.result c.in-Ok-enter.entered.made c.in-Ok-enter.entered refl w is_made c.num-count.ensures low c.count_with-count.ensures.more c.count_with-count.ensures.same
 
 pub returns-clause-spares : goal.returns-clause-spares
 returns-clause-spares g c =
     but_then c.args.at _ _ _ _ _ _ c.requires.table.held (spares_then _ _ _ _ _ _ (spares_touched _ _ _ _ c.in-Ok.ensures.keeps c.in-Ok.ensures.grows) c.in-Ok-enter.ensures.spares) c.write_table.ensures.spares
+
+pub returns-in-Err-clause-brings : goal.returns-in-Err-clause-brings
+returns-in-Err-clause-brings g c = brings_more _ _ 1 _ (omega arith) c.counted_root.ensures.brings
+
+pub returns-in-Err-enter-clause-brings : goal.returns-in-Err-enter-clause-brings
+returns-in-Err-enter-clause-brings g c = brings_touched _ _ _ 1 (3 * (2 * c.bits.result + 1)) _ c.in-Err-enter.ensures.still (omega (arith, c.bits.ensures.value, ap digits c.num-count.ensures)) c.counted_root.ensures.brings c.enter.ensures.brings
+
+pub returns-clause-brings : goal.returns-clause-brings
+returns-clause-brings g c = brings_written _ _ _ _ 1 (3 * (2 * c.bits.result + 1)) _ c.in-Ok-enter.ensures.spares.lasts c.write_table.ensures.spares.lasts c.write_table.ensures.none (omega (arith, c.bits.ensures.value, ap digits c.num-count.ensures)) c.counted_root.ensures.brings c.enter.ensures.brings
+
+pub returns-in-Err-enter-clause-still : goal.returns-in-Err-enter-clause-still
+returns-in-Err-enter-clause-still g c = keeps-trans _ _ _ c.in-Ok.ensures.keeps c.in-Err-enter.ensures.still

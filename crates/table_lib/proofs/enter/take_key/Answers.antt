@@ -1,4 +1,4 @@
-use Rattle.std.proofs.Common.{◌+◌, ◌*◌, ◌≢◌, Ok, refl, ap, subst}
+use Rattle.std.proofs.Common.{arith, ◌+◌, ◌*◌, ◌≢◌, Ok, refl, ap, subst}
 use Rattle.table_nodes.specs.avl_trees.Trees.{lookup}
 use Rattle.table_nodes.specs.avl_trees.Standing.{seek}
 use Rattle.table_nodes.specs.Keys.{order_by}
@@ -14,6 +14,9 @@ use Rattle.table_lib.specs.Entries.{WritesTable}
 use Rattle.table_lib.proofs.RootLaws.{pairs_low, tree_from}
 use Rattle.table_lib.proofs.WriteLaws.{but_then}
 use Rattle.table_lib.proofs.EnterLaws.{key_taken}
+use Rattle.table_nodes.specs.avl_trees.Trees.{bits as digits}
+use Rattle.table_nodes.proofs.of_heap_places.of_swizzle.TouchLaws.{keeps-trans}
+use Rattle.table_nodes.proofs.BringLaws.{brings_more, brings_touched, brings_written}
 use Rattle.table_lib.proofs.enter.take_key.Goals as goal
 
 pub returns-in-Err-remove-clause-taken : goal.returns-in-Err-remove-clause-taken
@@ -22,7 +25,7 @@ returns-in-Err-remove-clause-taken g c t p h =
     let old = (place c.args.sw.now (g.V.Vault.outside c.args.vault.now)) in
     let m = (place c.counted_root.new.sw (g.V.Vault.outside c.counted_root.new.vault)) in
     let tree = tree_from ks old m c.args.at t c.in-Ok.root c.in-Ok.ensures.grows h (c.in-Ok.ensures.root ks t h) in
-    let lower = pairs_low ks old c.args.at t c.num-count.result (2 * c.bits.result + 2) h c.num-count.ensures c.num-count.type_inv (ap (λ b. 2 * b + 2) c.bits.ensures.value) in
+    let lower = pairs_low ks old c.args.at t c.num-count.result (2 * c.bits.result + 1) h c.num-count.ensures c.num-count.type_inv (ap (λ b. 2 * b + 1) c.bits.ensures.value) in
     let here = place_touched old m c.in-Ok.ensures.grows p in
     fetch_back old.outside m.outside c.in-Err-remove.fault c.in-Ok.ensures.grows.contents (c.in-Err-remove.ensures.removed t here tree lower)
 
@@ -35,10 +38,10 @@ returns-clause-taken g c t p h =
     let m2 = place c.write_table.new.sw (g.V.Vault.outside c.remove.new.vault) in
     let key = key_in old.heap c.args.key in
     let tree = tree_from ks old m c.args.at t c.in-Ok.root c.in-Ok.ensures.grows h (c.in-Ok.ensures.root ks t h) in
-    let lower = pairs_low ks old c.args.at t c.num-count.result (2 * c.bits.result + 2) h c.num-count.ensures c.num-count.type_inv (ap (λ b. 2 * b + 2) c.bits.ensures.value) in
+    let lower = pairs_low ks old c.args.at t c.num-count.result (2 * c.bits.result + 1) h c.num-count.ensures c.num-count.type_inv (ap (λ b. 2 * b + 1) c.bits.ensures.value) in
     let here = place_touched old m c.in-Ok.ensures.grows p in
     let same_key = key_in_kept old.heap m.heap c.args.key c.in-Ok.ensures.keeps c.requires.key in
-    let w = removed_as ks m m1 c.in-Ok.root (2 * c.bits.result + 2) (key_in m.heap c.args.key) key (Ok c.in-Ok-remove.removed) same_key c.in-Ok-remove.ensures.removed t here tree lower in
+    let w = removed_as ks m m1 c.in-Ok.root (2 * c.bits.result + 1) (key_in m.heap c.args.key) key (Ok c.in-Ok-remove.removed) same_key c.in-Ok-remove.ensures.removed t here tree lower in
     let is_gone : c.in-Ok-remove.removed.gone ≢ is_missing (lookup (seek (order_by ks) key) t) =
     subst (λ k. c.in-Ok-remove.removed.gone ≢ is_missing (lookup (seek (order_by ks) k) t)) same_key (c.in-Ok-remove.ensures.counted t tree lower) in
     let wrote = subst (λ k. WritesTable k m1.heap m2.heap m1.outside c.args.at c.in-Ok-remove.removed.root c.count_without-count.result) c.kind_of_key.ensures c.write_table.ensures.written in
@@ -48,3 +51,15 @@ returns-clause-taken g c t p h =
 pub returns-clause-spares : goal.returns-clause-spares
 returns-clause-spares g c =
     but_then c.args.at _ _ _ _ _ _ c.requires.table.held (spares_then _ _ _ _ _ _ (spares_touched _ _ _ _ c.in-Ok.ensures.keeps c.in-Ok.ensures.grows) c.in-Ok-remove.ensures.spares) c.write_table.ensures.spares
+
+pub returns-in-Err-clause-brings : goal.returns-in-Err-clause-brings
+returns-in-Err-clause-brings g c = brings_more _ _ 1 _ (omega arith) c.counted_root.ensures.brings
+
+pub returns-in-Err-remove-clause-brings : goal.returns-in-Err-remove-clause-brings
+returns-in-Err-remove-clause-brings g c = brings_touched _ _ _ 1 (3 * (2 * c.bits.result + 1)) _ c.in-Err-remove.ensures.still (omega (arith, c.bits.ensures.value, ap digits c.num-count.ensures)) c.counted_root.ensures.brings c.remove.ensures.brings
+
+pub returns-clause-brings : goal.returns-clause-brings
+returns-clause-brings g c = brings_written _ _ _ _ 1 (3 * (2 * c.bits.result + 1)) _ c.in-Ok-remove.ensures.spares.lasts c.write_table.ensures.spares.lasts c.write_table.ensures.none (omega (arith, c.bits.ensures.value, ap digits c.num-count.ensures)) c.counted_root.ensures.brings c.remove.ensures.brings
+
+pub returns-in-Err-remove-clause-still : goal.returns-in-Err-remove-clause-still
+returns-in-Err-remove-clause-still g c = keeps-trans _ _ _ c.in-Ok.ensures.keeps c.in-Err-remove.ensures.still

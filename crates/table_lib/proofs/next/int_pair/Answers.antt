@@ -1,6 +1,8 @@
 use Rattle.std.proofs.Common.{Ok, refl, ap, sym, ◌∙◌}
 use Rattle.table_nodes.specs.Keys.{by_ints}
 use Rattle.table_nodes.proofs.SoughtLaws.{same_ok, int_key_same}
+use Rattle.table_nodes.proofs.of_heap_places.of_swizzle.TouchLaws.{keeps-refl}
+use Rattle.table_nodes.proofs.BringLaws.{brings_none}
 use Rattle.table_lib.proofs.next.int_pair.Goals as goal
 
 pub returns-in-Err-clause-read : goal.returns-in-Err-clause-read
@@ -15,3 +17,9 @@ returns-in-Ok-value-clause-read g c a named has some =
 
 pub returns-in-Err-value-clause-read : goal.returns-in-Err-value-clause-read
 returns-in-Err-value-clause-read g c a named has some = c.in-Err-value.ensures.read by_ints a.name has.row named has.there (λ e. some (ap (λ x. x.value) (sym has.entry) ∙ e))
+
+pub returns-in-Err-clause-brings : goal.returns-in-Err-clause-brings
+returns-in-Err-clause-brings g c = brings_none c.args.sw.now 1
+
+pub returns-in-Err-clause-still : goal.returns-in-Err-clause-still
+returns-in-Err-clause-still g c = keeps-refl c.args.sw.now

@@ -1,4 +1,4 @@
-use Rattle.std.proofs.Common.{Option, Ok, subst}
+use Rattle.std.proofs.Common.{◌*◌, ◌+◌, arith, Option, Ok, subst}
 use Rattle.std.specs.Prelude.{ℕ}
 use Rattle.table_nodes.specs.Keys.{by_ints}
 use Rattle.table_nodes.specs.Steps.{place}
@@ -6,6 +6,9 @@ use Rattle.table_lib.specs.Nexts.{IsIntPair, FindsNode, after_key}
 use Rattle.table_lib.proofs.NextLaws.{pairs_refused, pairs_none, pairs_some, pairs_fault}
 use Rattle.table_nodes.proofs.StepLaws.{touches_then}
 use Rattle.table_nodes.proofs.of_heap_places.of_swizzle.TouchLaws.{keeps-trans}
+use Rattle.table_nodes.specs.heap_places.swizzle.Heap.{num_at}
+use Rattle.table_nodes.specs.avl_trees.Trees.{bits as digits}
+use Rattle.table_nodes.proofs.BringLaws.{brings_more, brings_touched}
 use Rattle.table_lib.proofs.next.next_int.Goals as goal
 
 pub returns-in-Err-clause-next : goal.returns-in-Err-clause-next
@@ -41,3 +44,18 @@ returns-in-Ok-int_pair-clause-grows g c =
 
 pub returns-in-Ok-int_pair-clause-keeps : goal.returns-in-Ok-int_pair-clause-keeps
 returns-in-Ok-int_pair-clause-keeps g c = keeps-trans c.args.sw.now c.int_node.new.sw c.int_pair.new.sw c.in-Ok.ensures.keeps c.in-Ok-int_pair.ensures.keeps
+
+pub returns-in-Err-clause-brings : goal.returns-in-Err-clause-brings
+returns-in-Err-clause-brings g c at e = brings_more _ _ _ _ (omega arith) (c.int_node.ensures.brings at e)
+
+pub returns-in_default-clause-brings : goal.returns-in_default-clause-brings
+returns-in_default-clause-brings g c at e = brings_more _ _ _ _ (omega arith) (c.int_node.ensures.brings at e)
+
+pub returns-in-Ok-int_pair-clause-brings : goal.returns-in-Ok-int_pair-clause-brings
+returns-in-Ok-int_pair-clause-brings g c at e = brings_touched _ _ _ (2 * digits (num_at c.args.sw.now at 2) + 1) 1 _ c.in-Ok-int_pair.ensures.keeps (omega arith) (c.int_node.ensures.brings at e) c.int_pair.ensures.brings
+
+pub returns-in-Err-int_pair-clause-brings : goal.returns-in-Err-int_pair-clause-brings
+returns-in-Err-int_pair-clause-brings g c at e = brings_touched _ _ _ (2 * digits (num_at c.args.sw.now at 2) + 1) 1 _ c.in-Err-int_pair.ensures.still (omega arith) (c.int_node.ensures.brings at e) c.int_pair.ensures.brings
+
+pub returns-in-Err-int_pair-clause-still : goal.returns-in-Err-int_pair-clause-still
+returns-in-Err-int_pair-clause-still g c = keeps-trans _ _ _ c.in-Ok.ensures.keeps c.in-Err-int_pair.ensures.still

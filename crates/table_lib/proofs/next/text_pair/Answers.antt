@@ -1,10 +1,12 @@
-use Rattle.std.proofs.Common.{ap, sym, ◌∙◌}
+use Rattle.std.proofs.Common.{arith, ap, sym, ◌∙◌}
 use Rattle.table_nodes.specs.declared.keys.Key.TheVariants.{Text}
 use Rattle.table_nodes.specs.Keys.{by_texts}
 use Rattle.table_nodes.specs.Steps.{place}
 use Rattle.table_nodes.proofs.NodeLaws.{fetch_back}
 use Rattle.table_nodes.proofs.SoughtLaws.{key_held_kept, key_in_kept}
 use Rattle.table_nodes.proofs.StepLaws.{touches_then}
+use Rattle.table_nodes.proofs.of_heap_places.of_swizzle.TouchLaws.{keeps-trans}
+use Rattle.table_nodes.proofs.BringLaws.{brings_touched}
 use Rattle.table_lib.proofs.next.text_pair.Goals as goal
 
 pub returns-in-Err-clause-read : goal.returns-in-Err-clause-read
@@ -32,3 +34,15 @@ returns-in-Ok-value-clause-grows g c =
 
 pub returns-in-Ok-value-clause-held : goal.returns-in-Ok-value-clause-held
 returns-in-Ok-value-clause-held g c = (key_held_kept c.text_key.new.sw c.value.new.sw (Text c.in-Ok.key) c.in-Ok-value.ensures.keeps c.in-Ok.ensures.held, c.in-Ok-value.ensures.held)
+
+pub returns-in-Err-value-clause-brings : goal.returns-in-Err-value-clause-brings
+returns-in-Err-value-clause-brings g c = brings_touched _ _ _ 0 1 1 c.in-Err-value.ensures.still (omega arith) c.in-Ok.ensures.brings c.value.ensures.brings
+
+pub returns-in-Ok-value-clause-brings : goal.returns-in-Ok-value-clause-brings
+returns-in-Ok-value-clause-brings g c = brings_touched _ _ _ 0 1 1 c.in-Ok-value.ensures.keeps (omega arith) c.in-Ok.ensures.brings c.value.ensures.brings
+
+pub returns-in-Err-value-clause-still : goal.returns-in-Err-value-clause-still
+returns-in-Err-value-clause-still g c = keeps-trans _ _ _ c.in-Ok.ensures.keeps c.in-Err-value.ensures.still
+
+pub returns-in-Ok-value-clause-keeps : goal.returns-in-Ok-value-clause-keeps
+returns-in-Ok-value-clause-keeps g c = keeps-trans _ _ _ c.in-Ok.ensures.keeps c.in-Ok-value.ensures.keeps

@@ -1,9 +1,11 @@
+use Rattle.std.proofs.Common.{arith}
 use Rattle.table_nodes.specs.heap_places.swizzle.Heap.{ref_at}
 use Rattle.table_nodes.specs.heap_places.swizzle.Joint.{name_of}
 use Rattle.table_nodes.specs.avl_trees.Standing.{root_of}
 use Rattle.table_nodes.specs.Steps.{place}
 use Rattle.table_nodes.proofs.NodeLaws.{grows_touch, side_kind, side_row}
 use Rattle.table_nodes.proofs.StepLaws.{is_side}
+use Rattle.table_nodes.proofs.BringLaws.{brings_only, brings_same, keeps_same}
 use Rattle.table_lib.proofs.words.root_node.Goals as goal
 
 pub returns-then-is_node-clause-grows : goal.returns-then-is_node-clause-grows
@@ -21,3 +23,18 @@ returns-else-is_node-clause-root g c ks t h =
 
 pub returns-in-Ok-None-clause-grows : goal.returns-in-Ok-None-clause-grows
 returns-in-Ok-None-clause-grows g c = grows_touch c.args.sw.now c.touch_slot.new.self (g.V.Vault.outside c.args.vault.now) (g.V.Vault.outside c.touch_slot.new.vault) _ c.sound.ensures c.sound-in-Ok-None.ensures c.in-Ok-None.ensures.call.contents c.in-Ok-None.ensures.keeps c.in-Ok-None.ensures.joint
+
+pub returns-then-is_node-clause-brings : goal.returns-then-is_node-clause-brings
+returns-then-is_node-clause-brings g c = brings_only _ _ _ 1 (omega arith) c.in-Ok-Some.ensures.only
+
+pub returns-else-is_node-clause-brings : goal.returns-else-is_node-clause-brings
+returns-else-is_node-clause-brings g c = brings_only _ _ _ 1 (omega arith) c.in-Ok-Some.ensures.only
+
+pub returns-in-Ok-None-clause-brings : goal.returns-in-Ok-None-clause-brings
+returns-in-Ok-None-clause-brings g c = brings_only _ _ _ 1 (omega arith) c.in-Ok-None.ensures.only
+
+pub returns-in-Err-clause-brings : goal.returns-in-Err-clause-brings
+returns-in-Err-clause-brings g c = brings_same _ _ 1 c.in-Err.ensures.refused
+
+pub returns-in-Err-clause-still : goal.returns-in-Err-clause-still
+returns-in-Err-clause-still g c = keeps_same _ _ c.in-Err.ensures.refused

@@ -1,12 +1,16 @@
-use Rattle.std.proofs.Common.{IfSome, Ok, Err, refl, sym, ◌∙◌, subst, arith, inl}
+use Rattle.std.proofs.Common.{◌*◌, IfSome, Ok, Err, refl, sym, ◌∙◌, subst, arith, inl}
+use Rattle.heap_places.specs.swizzle.Heap.{Heap}
+use Rattle.heap_places.specs.swizzle.Touch.{Keeps}
+use Rattle.heap_places.proofs.of_swizzle.TouchLaws.{keeps-refl, keeps-trans}
 use Rattle.table_nodes.specs.Nodes.{IsNode}
 use Rattle.avl_trees.specs.Trees.{leaf, node}
 use Rattle.avl_trees.specs.Standing.{row_of}
 use Rattle.heap_places.specs.swizzle.Joint.{name_at}
 use Rattle.table_nodes.specs.Sought.{kind_of, key_in}
 use Rattle.table_nodes.specs.Steps.{place}
+use Rattle.table_nodes.proofs.BringLaws.{keeps_lasts, brings_none, brings_more, brings_then, brings_written}
 use Rattle.table_nodes.proofs.SoughtLaws.{key_in_kept}
-use Rattle.table_nodes.proofs.StepLaws.{place_touched}
+use Rattle.table_nodes.proofs.StepLaws.{place_touched, side_map}
 use Rattle.table_nodes.proofs.Putting.{root_named, no_root, entered_as, tree_left, tree_right, put_leaf, put_left, put_right, put_here, fault_after, counted_leaf, counted_left, counted_right, counted_here}
 use Rattle.table_nodes.proofs.Sparing.{spares_made, spares_then, spares_touched}
 use Rattle.table_nodes.proofs.enter.+enter.Goals as goal
@@ -19,12 +23,12 @@ pub returns-in-Err-clause-entered : goal.returns-in-Err-clause-entered
 returns-in-Err-clause-entered g t c tree p h lower =
     put_leaf (kind_of c.args.key) (key_in c.args.sw.now c.args.key) (name_at c.args.sw.now c.args.value) c.args.sw.now c.make_node.new.sw (g.V.Vault.outside c.args.vault.now) c.args.root (Err c.in-Err.fault) c.in_default.is c.in-Err.ensures.made tree p h
 
-pub returns-then-height-bound-clause-entered : goal.returns-then-height-bound-clause-entered
-returns-then-height-bound-clause-entered g t c leaf p h lower = absurd (no_root c.args.sw.now c.args.root c.in-Some.at c.in-Some.is h.root_is)
-returns-then-height-bound-clause-entered g t c (node x b y) p h lower =
+pub returns-then-height-eq0-clause-entered : goal.returns-then-height-eq0-clause-entered
+returns-then-height-eq0-clause-entered g t c leaf p h lower = absurd (no_root c.args.sw.now c.args.root c.in-Some.at c.in-Some.is h.root_is)
+returns-then-height-eq0-clause-entered g t c (node x b y) p h lower =
     let named = root_named c.args.sw.now c.args.root c.in-Some.at b.name c.in-Some.is h.root_is in
     let e = c.height-height.ensures.some (kind_of c.args.key) c.in-Some.at b.name (row_of x b y) refl named h.stands.0 in
-    absurd (omega (arith, e, lower, c.if-height-bound.true))
+    absurd (grind (arith, e, lower, c.then-height-eq0.either))
 
 pub returns-in-Err-open_node-clause-entered : goal.returns-in-Err-open_node-clause-entered
 returns-in-Err-open_node-clause-entered g t c leaf p h lower = absurd (no_root c.args.sw.now c.args.root c.in-Some.at c.in-Some.is h.root_is)
@@ -32,23 +36,24 @@ returns-in-Err-open_node-clause-entered g t c (node x b y) p h lower =
     let named = root_named c.args.sw.now c.args.root c.in-Some.at b.name c.in-Some.is h.root_is in
     inl (c.in-Err-open_node.ensures.opens x b y h.stands named)
 
-pub returns-in-Ok-balance-clause-entered : goal.returns-in-Ok-balance-clause-entered
-returns-in-Ok-balance-clause-entered g t c leaf p h lower = absurd (no_root c.args.sw.now c.args.root c.in-Some.at c.in-Some.is h.root_is)
-returns-in-Ok-balance-clause-entered g t c (node x b y) p h lower =
+pub returns-in-Ok-enter-clause-entered : goal.returns-in-Ok-enter-clause-entered
+returns-in-Ok-enter-clause-entered g t c leaf p h lower = absurd (no_root c.args.sw.now c.args.root c.in-Some.at c.in-Some.is h.root_is)
+returns-in-Ok-enter-clause-entered g t c (node x b y) p h lower =
     let ks = kind_of c.args.key in
     let key = key_in c.args.sw.now c.args.key in
     let value = name_at c.args.sw.now c.args.value in
     let old = place c.args.sw.now (g.V.Vault.outside c.args.vault.now) in
     let m = place c.open_node.new.sw (g.V.Vault.outside c.open_node.new.vault) in
     let m1 = place c.enter.new.sw (g.V.Vault.outside c.enter.new.vault) in
-    let m2 = place c.balance.new.sw (g.V.Vault.outside c.balance.new.vault) in
+    let m2 = place c.with_left.new.sw (g.V.Vault.outside c.enter.new.vault) in
     let named = root_named old.heap c.args.root c.in-Some.at b.name c.in-Some.is h.root_is in
     let e = c.height-height.ensures.some ks c.in-Some.at b.name (row_of x b y) refl named h.stands.0 in
     let o = c.in-Ok-open_node.ensures.opens x b y h.stands named in
     let enters = entered_as ks m m1 c.in-Ok-open_node.opened.left c.height-height.result (key_in m.heap c.args.key) key (name_at m.heap c.args.value) value (Ok c.in-Ok-enter.left)
     (key_in_kept old.heap m.heap c.args.key c.in-Ok-open_node.ensures.keeps c.requires.key) (c.in-Ok-open_node.ensures.keeps.objects c.args.value c.requires.value).name c.in-Ok-enter.ensures.entered in
-    put_left ks key value old m m1 m2 c.in-Some.at c.height-height.result c.args.root c.in-Ok-open_node.opened c.in-Ok-open_node.ensures.grows p x b y h named o
-    c.in-Ok-enter.left.root c.in-Ok-enter.ensures.held c.in-Ok-enter.ensures.contents enters (Ok c.in-Ok-balance.root) c.in-Ok-balance.ensures.balanced e (omega (arith, c.if-height-bound.false, c.requires.bound)) c.in-Less.is
+    let w = enters x (place_touched old m c.in-Ok-open_node.ensures.grows p) (tree_left ks old m c.args.root c.in-Ok-open_node.opened.left c.in-Ok-open_node.ensures.grows x b y h o.left) (omega (arith, e)) in
+    put_left ks key value old m m1 m2 c.in-Some.at c.args.root c.in-Ok-open_node.opened c.in-Ok-open_node.ensures.grows p x b y h named o
+    c.in-Ok-enter.left c.with_left.result c.in-Ok-enter.ensures.held c.with_left.ensures.held w c.with_left.ensures.balanced c.with_left.ensures.plain (omega (arith, e, c.if-height-bound.false, c.requires.bound)) c.in-Less.is
 
 pub returns-in-Err-enter-clause-entered : goal.returns-in-Err-enter-clause-entered
 returns-in-Err-enter-clause-entered g t c leaf p h lower = absurd (no_root c.args.sw.now c.args.root c.in-Some.at c.in-Some.is h.root_is)
@@ -72,26 +77,27 @@ returns-in-Equal-clause-entered g t c (node x b y) p h lower =
     let m = place c.open_node.new.sw (g.V.Vault.outside c.open_node.new.vault) in
     let named = root_named old.heap c.args.root c.in-Some.at b.name c.in-Some.is h.root_is in
     let o = c.in-Ok-open_node.ensures.opens x b y h.stands named in
-    put_here ks key value old m m m c.in-Some.at c.height-height.result c.args.root c.in-Ok-open_node.opened c.in-Ok-open_node.ensures.grows p x b y h named o
-    c.put.new.sw c.args.value (c.in-Ok-open_node.ensures.keeps.objects c.args.value c.requires.value).name c.put.ensures.put c.in-Equal.is
+    put_here ks key value old m m m c.in-Some.at c.args.root c.in-Ok-open_node.opened c.in-Ok-open_node.ensures.grows p x b y h named o
+    c.put.new.sw c.args.value _ refl (c.in-Ok-open_node.ensures.keeps.objects c.args.value c.requires.value).name c.put.ensures.put c.in-Equal.is
 
-pub returns-in-Ok-balance-2-clause-entered : goal.returns-in-Ok-balance-2-clause-entered
-returns-in-Ok-balance-2-clause-entered g t c leaf p h lower = absurd (no_root c.args.sw.now c.args.root c.in-Some.at c.in-Some.is h.root_is)
-returns-in-Ok-balance-2-clause-entered g t c (node x b y) p h lower =
+pub returns-in-Ok-enter-2-clause-entered : goal.returns-in-Ok-enter-2-clause-entered
+returns-in-Ok-enter-2-clause-entered g t c leaf p h lower = absurd (no_root c.args.sw.now c.args.root c.in-Some.at c.in-Some.is h.root_is)
+returns-in-Ok-enter-2-clause-entered g t c (node x b y) p h lower =
     let ks = kind_of c.args.key in
     let key = key_in c.args.sw.now c.args.key in
     let value = name_at c.args.sw.now c.args.value in
     let old = place c.args.sw.now (g.V.Vault.outside c.args.vault.now) in
     let m = place c.open_node.new.sw (g.V.Vault.outside c.open_node.new.vault) in
     let m1 = place c.enter-in-Greater.new.sw (g.V.Vault.outside c.enter-in-Greater.new.vault) in
-    let m2 = place c.balance-in-Ok-enter-2.new.sw (g.V.Vault.outside c.balance-in-Ok-enter-2.new.vault) in
+    let m2 = place c.with_right.new.sw (g.V.Vault.outside c.enter-in-Greater.new.vault) in
     let named = root_named old.heap c.args.root c.in-Some.at b.name c.in-Some.is h.root_is in
     let e = c.height-height.ensures.some ks c.in-Some.at b.name (row_of x b y) refl named h.stands.0 in
     let o = c.in-Ok-open_node.ensures.opens x b y h.stands named in
     let enters = entered_as ks m m1 c.in-Ok-open_node.opened.right c.height-height.result (key_in m.heap c.args.key) key (name_at m.heap c.args.value) value (Ok c.in-Ok-enter-2.right)
     (key_in_kept old.heap m.heap c.args.key c.in-Ok-open_node.ensures.keeps c.requires.key) (c.in-Ok-open_node.ensures.keeps.objects c.args.value c.requires.value).name c.in-Ok-enter-2.ensures.entered in
-    put_right ks key value old m m1 m2 c.in-Some.at c.height-height.result c.args.root c.in-Ok-open_node.opened c.in-Ok-open_node.ensures.grows p x b y h named o
-    c.in-Ok-enter-2.right.root c.in-Ok-enter-2.ensures.held c.in-Ok-enter-2.ensures.contents enters (Ok c.in-Ok-balance-2.root) c.in-Ok-balance-2.ensures.balanced e (omega (arith, c.if-height-bound.false, c.requires.bound)) c.in-Greater.is
+    let w = enters y (place_touched old m c.in-Ok-open_node.ensures.grows p) (tree_right ks old m c.args.root c.in-Ok-open_node.opened.right c.in-Ok-open_node.ensures.grows x b y h o.right) (omega (arith, e)) in
+    put_right ks key value old m m1 m2 c.in-Some.at c.args.root c.in-Ok-open_node.opened c.in-Ok-open_node.ensures.grows p x b y h named o
+    c.in-Ok-enter-2.right c.with_right.result c.in-Ok-enter-2.ensures.held c.with_right.ensures.held w c.with_right.ensures.balanced c.with_right.ensures.plain (omega (arith, e, c.if-height-bound.false, c.requires.bound)) c.in-Greater.is
 
 pub returns-in-Err-enter-2-clause-entered : goal.returns-in-Err-enter-2-clause-entered
 returns-in-Err-enter-2-clause-entered g t c leaf p h lower = absurd (no_root c.args.sw.now c.args.root c.in-Some.at c.in-Some.is h.root_is)
@@ -105,49 +111,13 @@ returns-in-Err-enter-2-clause-entered g t c (node x b y) p h lower =
     fault_after old.outside m.outside c.in-Err-enter-2.fault c.in-Ok-open_node.ensures.grows.contents
     (c.in-Err-enter-2.ensures.entered y (place_touched old m c.in-Ok-open_node.ensures.grows p) (tree_right ks old m c.args.root c.in-Ok-open_node.opened.right c.in-Ok-open_node.ensures.grows x b y h o.right) (omega (arith, e)))
 
-pub returns-in-Err-balance-clause-entered : goal.returns-in-Err-balance-clause-entered
-returns-in-Err-balance-clause-entered g t c leaf p h lower = absurd (no_root c.args.sw.now c.args.root c.in-Some.at c.in-Some.is h.root_is)
-returns-in-Err-balance-clause-entered g t c (node x b y) p h lower =
-    let ks = kind_of c.args.key in
-    let key = key_in c.args.sw.now c.args.key in
-    let value = name_at c.args.sw.now c.args.value in
-    let old = place c.args.sw.now (g.V.Vault.outside c.args.vault.now) in
-    let m = place c.open_node.new.sw (g.V.Vault.outside c.open_node.new.vault) in
-    let m1 = place c.enter.new.sw (g.V.Vault.outside c.enter.new.vault) in
-    let m2 = place c.balance.new.sw (g.V.Vault.outside c.balance.new.vault) in
-    let named = root_named old.heap c.args.root c.in-Some.at b.name c.in-Some.is h.root_is in
-    let e = c.height-height.ensures.some ks c.in-Some.at b.name (row_of x b y) refl named h.stands.0 in
-    let o = c.in-Ok-open_node.ensures.opens x b y h.stands named in
-    let enters = entered_as ks m m1 c.in-Ok-open_node.opened.left c.height-height.result (key_in m.heap c.args.key) key (name_at m.heap c.args.value) value (Ok c.in-Ok-enter.left)
-    (key_in_kept old.heap m.heap c.args.key c.in-Ok-open_node.ensures.keeps c.requires.key) (c.in-Ok-open_node.ensures.keeps.objects c.args.value c.requires.value).name c.in-Ok-enter.ensures.entered in
-    put_left ks key value old m m1 m2 c.in-Some.at c.height-height.result c.args.root c.in-Ok-open_node.opened c.in-Ok-open_node.ensures.grows p x b y h named o
-    c.in-Ok-enter.left.root c.in-Ok-enter.ensures.held c.in-Ok-enter.ensures.contents enters (Err c.in-Err-balance.fault) c.in-Err-balance.ensures.balanced e (omega (arith, c.if-height-bound.false, c.requires.bound)) c.in-Less.is
-
-pub returns-in-Err-balance-2-clause-entered : goal.returns-in-Err-balance-2-clause-entered
-returns-in-Err-balance-2-clause-entered g t c leaf p h lower = absurd (no_root c.args.sw.now c.args.root c.in-Some.at c.in-Some.is h.root_is)
-returns-in-Err-balance-2-clause-entered g t c (node x b y) p h lower =
-    let ks = kind_of c.args.key in
-    let key = key_in c.args.sw.now c.args.key in
-    let value = name_at c.args.sw.now c.args.value in
-    let old = place c.args.sw.now (g.V.Vault.outside c.args.vault.now) in
-    let m = place c.open_node.new.sw (g.V.Vault.outside c.open_node.new.vault) in
-    let m1 = place c.enter-in-Greater.new.sw (g.V.Vault.outside c.enter-in-Greater.new.vault) in
-    let m2 = place c.balance-in-Ok-enter-2.new.sw (g.V.Vault.outside c.balance-in-Ok-enter-2.new.vault) in
-    let named = root_named old.heap c.args.root c.in-Some.at b.name c.in-Some.is h.root_is in
-    let e = c.height-height.ensures.some ks c.in-Some.at b.name (row_of x b y) refl named h.stands.0 in
-    let o = c.in-Ok-open_node.ensures.opens x b y h.stands named in
-    let enters = entered_as ks m m1 c.in-Ok-open_node.opened.right c.height-height.result (key_in m.heap c.args.key) key (name_at m.heap c.args.value) value (Ok c.in-Ok-enter-2.right)
-    (key_in_kept old.heap m.heap c.args.key c.in-Ok-open_node.ensures.keeps c.requires.key) (c.in-Ok-open_node.ensures.keeps.objects c.args.value c.requires.value).name c.in-Ok-enter-2.ensures.entered in
-    put_right ks key value old m m1 m2 c.in-Some.at c.height-height.result c.args.root c.in-Ok-open_node.opened c.in-Ok-open_node.ensures.grows p x b y h named o
-    c.in-Ok-enter-2.right.root c.in-Ok-enter-2.ensures.held c.in-Ok-enter-2.ensures.contents enters (Err c.in-Err-balance-2.fault) c.in-Err-balance-2.ensures.balanced e (omega (arith, c.if-height-bound.false, c.requires.bound)) c.in-Greater.is
-
 pub returns-in-Ok-clause-counted : goal.returns-in-Ok-clause-counted
 returns-in-Ok-clause-counted g t c tree h lower =
     counted_leaf (kind_of c.args.key) (key_in c.args.sw.now c.args.key) (place c.args.sw.now (g.V.Vault.outside c.args.vault.now)) c.args.root c.in_default.is tree h
 
-pub returns-in-Ok-balance-clause-counted : goal.returns-in-Ok-balance-clause-counted
-returns-in-Ok-balance-clause-counted g t c leaf h lower = absurd (no_root c.args.sw.now c.args.root c.in-Some.at c.in-Some.is h.root_is)
-returns-in-Ok-balance-clause-counted g t c (node x b y) h lower =
+pub returns-in-Ok-enter-clause-counted : goal.returns-in-Ok-enter-clause-counted
+returns-in-Ok-enter-clause-counted g t c leaf h lower = absurd (no_root c.args.sw.now c.args.root c.in-Some.at c.in-Some.is h.root_is)
+returns-in-Ok-enter-clause-counted g t c (node x b y) h lower =
     let ks = kind_of c.args.key in
     let key = key_in c.args.sw.now c.args.key in
     let old = place c.args.sw.now (g.V.Vault.outside c.args.vault.now) in
@@ -156,11 +126,11 @@ returns-in-Ok-balance-clause-counted g t c (node x b y) h lower =
     let m = place c.open_node.new.sw (g.V.Vault.outside c.open_node.new.vault) in
     let o = c.in-Ok-open_node.ensures.opens x b y h.stands named in
     let same = key_in_kept old.heap m.heap c.args.key c.in-Ok-open_node.ensures.keeps c.requires.key in
-    counted_left ks key old m c.args.root c.in-Ok-open_node.opened.left c.height-height.result c.in-Ok-open_node.ensures.grows x b y h e (key_in m.heap c.args.key) same c.in-Ok-enter.left c.in-Ok-enter.ensures.counted o.left (sym o.order ∙ c.in-Less.is)
+    c.with_left.ensures.made ∙ counted_left ks key old m c.args.root c.in-Ok-open_node.opened.left c.height-height.result c.in-Ok-open_node.ensures.grows x b y h e (key_in m.heap c.args.key) same c.in-Ok-enter.left c.in-Ok-enter.ensures.counted o.left (sym o.order ∙ c.in-Less.is)
 
-pub returns-in-Ok-balance-2-clause-counted : goal.returns-in-Ok-balance-2-clause-counted
-returns-in-Ok-balance-2-clause-counted g t c leaf h lower = absurd (no_root c.args.sw.now c.args.root c.in-Some.at c.in-Some.is h.root_is)
-returns-in-Ok-balance-2-clause-counted g t c (node x b y) h lower =
+pub returns-in-Ok-enter-2-clause-counted : goal.returns-in-Ok-enter-2-clause-counted
+returns-in-Ok-enter-2-clause-counted g t c leaf h lower = absurd (no_root c.args.sw.now c.args.root c.in-Some.at c.in-Some.is h.root_is)
+returns-in-Ok-enter-2-clause-counted g t c (node x b y) h lower =
     let ks = kind_of c.args.key in
     let key = key_in c.args.sw.now c.args.key in
     let old = place c.args.sw.now (g.V.Vault.outside c.args.vault.now) in
@@ -169,7 +139,7 @@ returns-in-Ok-balance-2-clause-counted g t c (node x b y) h lower =
     let m = place c.open_node.new.sw (g.V.Vault.outside c.open_node.new.vault) in
     let o = c.in-Ok-open_node.ensures.opens x b y h.stands named in
     let same = key_in_kept old.heap m.heap c.args.key c.in-Ok-open_node.ensures.keeps c.requires.key in
-    counted_right ks key old m c.args.root c.in-Ok-open_node.opened.right c.height-height.result c.in-Ok-open_node.ensures.grows x b y h e (key_in m.heap c.args.key) same c.in-Ok-enter-2.right c.in-Ok-enter-2.ensures.counted o.right (sym o.order ∙ c.in-Greater.is)
+    c.with_right.ensures.made ∙ counted_right ks key old m c.args.root c.in-Ok-open_node.opened.right c.height-height.result c.in-Ok-open_node.ensures.grows x b y h e (key_in m.heap c.args.key) same c.in-Ok-enter-2.right c.in-Ok-enter-2.ensures.counted o.right (sym o.order ∙ c.in-Greater.is)
 
 pub returns-in-Equal-clause-counted : goal.returns-in-Equal-clause-counted
 returns-in-Equal-clause-counted g t c leaf h lower = absurd (no_root c.args.sw.now c.args.root c.in-Some.at c.in-Some.is h.root_is)
@@ -183,17 +153,47 @@ returns-in-Equal-clause-counted g t c (node x b y) h lower =
     let o = c.in-Ok-open_node.ensures.opens x b y h.stands named in
     counted_here ks key x b y (sym o.order ∙ c.in-Equal.is)
 
-pub returns-in-Ok-balance-clause-held : goal.returns-in-Ok-balance-clause-held
-returns-in-Ok-balance-clause-held g t c = record {
-  nodes = λ at h. c.in-Ok-balance.ensures.held.nodes at (c.in-Ok-enter.ensures.held.nodes at (c.in-Ok-open_node.ensures.grows.nodes at h));
-  named = λ at n h. c.in-Ok-balance.ensures.held.named at n (c.in-Ok-enter.ensures.held.named at n (c.in-Ok-open_node.ensures.grows.named at n h));
+pub returns-in-Ok-enter-clause-held : goal.returns-in-Ok-enter-clause-held
+returns-in-Ok-enter-clause-held g t c = record {
+  nodes = λ at h. c.with_left.ensures.held.nodes at (c.in-Ok-enter.ensures.held.nodes at (c.in-Ok-open_node.ensures.grows.nodes at h));
+  named = λ at n h. c.with_left.ensures.held.named at n (c.in-Ok-enter.ensures.held.named at n (c.in-Ok-open_node.ensures.grows.named at n h));
 }
 
-pub returns-in-Ok-balance-2-clause-held : goal.returns-in-Ok-balance-2-clause-held
-returns-in-Ok-balance-2-clause-held g t c = record {
-  nodes = λ at h. c.in-Ok-balance-2.ensures.held.nodes at (c.in-Ok-enter-2.ensures.held.nodes at (c.in-Ok-open_node.ensures.grows.nodes at h));
-  named = λ at n h. c.in-Ok-balance-2.ensures.held.named at n (c.in-Ok-enter-2.ensures.held.named at n (c.in-Ok-open_node.ensures.grows.named at n h));
+pub returns-in-Ok-enter-clause-spares : goal.returns-in-Ok-enter-clause-spares
+returns-in-Ok-enter-clause-spares g t c = spares_then _ _ _ _ _ _ (spares_touched _ _ _ _ c.in-Ok-open_node.ensures.keeps c.in-Ok-open_node.ensures.grows) (spares_then _ _ _ _ _ _ c.in-Ok-enter.ensures.spares c.with_left.ensures.spares)
+
+pub returns-in-Ok-enter-clause-brings : goal.returns-in-Ok-enter-clause-brings
+returns-in-Ok-enter-clause-brings g t c = brings_written _ _ _ _ 2 (3 * c.height-height.result) _ c.in-Ok-enter.ensures.spares.lasts c.with_left.ensures.spares.lasts c.with_left.ensures.none (omega (arith, c.if-height-bound.false)) c.open_node.ensures.brings c.enter.ensures.brings
+
+pub returns-in-Err-enter-clause-brings : goal.returns-in-Err-enter-clause-brings
+returns-in-Err-enter-clause-brings g t c = brings_then _ _ _ 2 (3 * c.height-height.result) _ (keeps_lasts _ _ c.in-Err-enter.ensures.still) (omega (arith, c.if-height-bound.false)) c.open_node.ensures.brings c.enter.ensures.brings
+
+pub returns-in-Err-enter-clause-still : goal.returns-in-Err-enter-clause-still
+returns-in-Err-enter-clause-still g t c = keeps-trans _ _ _ c.in-Ok-open_node.ensures.keeps c.in-Err-enter.ensures.still
+
+pub with_left-requires-clause-at : goal.with_left-requires-clause-at
+with_left-requires-clause-at g t c = c.in-Ok-enter.ensures.held.nodes _ (c.in-Ok-open_node.ensures.grows.nodes _ (subst (λ i. IfSome i (IsNode c.args.sw.now)) c.in-Some.is c.requires.root))
+
+pub returns-in-Ok-enter-2-clause-held : goal.returns-in-Ok-enter-2-clause-held
+returns-in-Ok-enter-2-clause-held g t c = record {
+  nodes = λ at h. c.with_right.ensures.held.nodes at (c.in-Ok-enter-2.ensures.held.nodes at (c.in-Ok-open_node.ensures.grows.nodes at h));
+  named = λ at n h. c.with_right.ensures.held.named at n (c.in-Ok-enter-2.ensures.held.named at n (c.in-Ok-open_node.ensures.grows.named at n h));
 }
+
+pub returns-in-Ok-enter-2-clause-spares : goal.returns-in-Ok-enter-2-clause-spares
+returns-in-Ok-enter-2-clause-spares g t c = spares_then _ _ _ _ _ _ (spares_touched _ _ _ _ c.in-Ok-open_node.ensures.keeps c.in-Ok-open_node.ensures.grows) (spares_then _ _ _ _ _ _ c.in-Ok-enter-2.ensures.spares c.with_right.ensures.spares)
+
+pub returns-in-Ok-enter-2-clause-brings : goal.returns-in-Ok-enter-2-clause-brings
+returns-in-Ok-enter-2-clause-brings g t c = brings_written _ _ _ _ 2 (3 * c.height-height.result) _ c.in-Ok-enter-2.ensures.spares.lasts c.with_right.ensures.spares.lasts c.with_right.ensures.none (omega (arith, c.if-height-bound.false)) c.open_node.ensures.brings c.enter-in-Greater.ensures.brings
+
+pub returns-in-Err-enter-2-clause-brings : goal.returns-in-Err-enter-2-clause-brings
+returns-in-Err-enter-2-clause-brings g t c = brings_then _ _ _ 2 (3 * c.height-height.result) _ (keeps_lasts _ _ c.in-Err-enter-2.ensures.still) (omega (arith, c.if-height-bound.false)) c.open_node.ensures.brings c.enter-in-Greater.ensures.brings
+
+pub returns-in-Err-enter-2-clause-still : goal.returns-in-Err-enter-2-clause-still
+returns-in-Err-enter-2-clause-still g t c = keeps-trans _ _ _ c.in-Ok-open_node.ensures.keeps c.in-Err-enter-2.ensures.still
+
+pub with_right-requires-clause-at : goal.with_right-requires-clause-at
+with_right-requires-clause-at g t c = c.in-Ok-enter-2.ensures.held.nodes _ (c.in-Ok-open_node.ensures.grows.nodes _ (subst (λ i. IfSome i (IsNode c.args.sw.now)) c.in-Some.is c.requires.root))
 
 pub returns-in-Ok-clause-spares : goal.returns-in-Ok-clause-spares
 returns-in-Ok-clause-spares g t c = spares_made _ _ _ _ _ _ _ c.in-Ok.ensures.keeps c.in-Ok.ensures.made
@@ -201,14 +201,29 @@ returns-in-Ok-clause-spares g t c = spares_made _ _ _ _ _ _ _ c.in-Ok.ensures.ke
 pub returns-in-Equal-clause-spares : goal.returns-in-Equal-clause-spares
 returns-in-Equal-clause-spares g t c = spares_then _ _ _ _ _ _ (spares_touched _ _ _ _ c.in-Ok-open_node.ensures.keeps c.in-Ok-open_node.ensures.grows) c.put.ensures.spares
 
-pub returns-in-Ok-balance-clause-spares : goal.returns-in-Ok-balance-clause-spares
-returns-in-Ok-balance-clause-spares g t c = spares_then _ _ _ _ _ _ (spares_touched _ _ _ _ c.in-Ok-open_node.ensures.keeps c.in-Ok-open_node.ensures.grows) (spares_then _ _ _ _ _ _ c.in-Ok-enter.ensures.spares c.in-Ok-balance.ensures.spares)
+pub returns-in-Ok-clause-brings : goal.returns-in-Ok-clause-brings
+returns-in-Ok-clause-brings g t c = brings_more _ _ 1 _ (omega (arith, c.requires.some)) c.make_node.ensures.brings
 
-pub returns-in-Ok-balance-2-clause-spares : goal.returns-in-Ok-balance-2-clause-spares
-returns-in-Ok-balance-2-clause-spares g t c = spares_then _ _ _ _ _ _ (spares_touched _ _ _ _ c.in-Ok-open_node.ensures.keeps c.in-Ok-open_node.ensures.grows) (spares_then _ _ _ _ _ _ c.in-Ok-enter-2.ensures.spares c.in-Ok-balance-2.ensures.spares)
+pub returns-in-Err-clause-brings : goal.returns-in-Err-clause-brings
+returns-in-Err-clause-brings g t c = brings_more _ _ 1 _ (omega (arith, c.requires.some)) c.make_node.ensures.brings
 
-pub balance-requires-clause-at : goal.balance-requires-clause-at
-balance-requires-clause-at g t c = c.in-Ok-enter.ensures.held.nodes _ (c.in-Ok-open_node.ensures.grows.nodes _ (subst (λ i. IfSome i (IsNode c.args.sw.now)) c.in-Some.is c.requires.root))
+pub returns-in-Err-clause-still : goal.returns-in-Err-clause-still
+returns-in-Err-clause-still g t c = subst (Keeps c.args.sw.now) (sym c.in-Err.ensures.made.stays) (keeps-refl c.args.sw.now)
 
-pub balance-requires-in-Ok-enter-2-clause-at : goal.balance-requires-in-Ok-enter-2-clause-at
-balance-requires-in-Ok-enter-2-clause-at g t c = c.in-Ok-enter-2.ensures.held.nodes _ (c.in-Ok-open_node.ensures.grows.nodes _ (subst (λ i. IfSome i (IsNode c.args.sw.now)) c.in-Some.is c.requires.root))
+pub returns-then-height-eq0-clause-brings : goal.returns-then-height-eq0-clause-brings
+returns-then-height-eq0-clause-brings g t c = brings_none c.args.sw.now _
+
+pub returns-then-height-eq0-clause-still : goal.returns-then-height-eq0-clause-still
+returns-then-height-eq0-clause-still g t c = keeps-refl c.args.sw.now
+
+pub returns-in-Err-open_node-clause-brings : goal.returns-in-Err-open_node-clause-brings
+returns-in-Err-open_node-clause-brings g t c = brings_more _ _ 2 _ (omega (arith, c.requires.some)) c.open_node.ensures.brings
+
+pub returns-in-Equal-clause-brings : goal.returns-in-Equal-clause-brings
+returns-in-Equal-clause-brings g t c = brings_written _ _ _ _ 2 0 _ (keeps_lasts _ _ (keeps-refl _)) c.put.ensures.spares.lasts c.put.ensures.none (omega (arith, c.requires.some)) c.open_node.ensures.brings (brings_none _ 0)
+
+pub with_left-requires-clause-other : goal.with_left-requires-clause-other
+with_left-requires-clause-other g t c = side_map (IsNode c.open_node.new.sw) (IsNode c.enter.new.sw) c.in-Ok-enter.ensures.held.nodes c.in-Ok-open_node.opened.right c.in-Ok-open_node.ensures.right
+
+pub with_right-requires-clause-other : goal.with_right-requires-clause-other
+with_right-requires-clause-other g t c = side_map (IsNode c.open_node.new.sw) (IsNode c.enter-in-Greater.new.sw) c.in-Ok-enter-2.ensures.held.nodes c.in-Ok-open_node.opened.left c.in-Ok-open_node.ensures.left

@@ -1,9 +1,10 @@
 -- The least key of the tree is that of the part that is left, which is lower than the bound, or else that of the last node.
-use Rattle.std.proofs.Common.{◌<◌, IfSome}
+use Rattle.std.proofs.Common.{◌-◌, ◌≤◌, ◌<◌, IfSome}
 use Rattle.std.specs.declared.cmp.Ordering.TheVariants.{Less}
 use Rattle.heap_places.specs.swizzle.Touch.{Keeps}
 use Rattle.avl_trees.specs.Trees.{Tree, height}
 use Rattle.table_nodes.specs.Keys.{Keys}
+use Rattle.table_nodes.specs.Bringing.{Brings}
 use Rattle.table_nodes.specs.Nodes.{IsNode, Grows}
 use Rattle.table_nodes.specs.Searching.{IsTree}
 use Rattle.table_nodes.specs.Steps.{I, place}
@@ -19,6 +20,9 @@ invariant-loop-at g l =
       last : IfSome l.last (IsNode l.sw);
       keeps : Keeps l.initial.sw l.sw;
       grows : Grows l.initial.sw l.sw (g.V.Vault.outside l.initial.vault) (g.V.Vault.outside l.vault);
+      some : 1 ≤ l.bound;
+      within : l.bound ≤ l.initial.bound;
+      brings : Brings l.initial.sw l.sw (l.initial.bound - l.bound);
       alive : g.V.Vault.alive l.vault;
       begins : (ks : Keys) (t : Tree (I ks)) → IsTree ks old l.fn.root t → height t < l.initial.bound → Following ks (λ a. Less) now l.at l.last l.bound t;
     }

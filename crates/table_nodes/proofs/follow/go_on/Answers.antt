@@ -8,6 +8,8 @@ use Rattle.table_nodes.specs.Sought.{kind_of}
 use Rattle.table_nodes.specs.Steps.{place, rows_of}
 use Rattle.table_nodes.proofs.NodeLaws.{fetch_back}
 use Rattle.table_nodes.proofs.StepLaws.{is_side, touches_then}
+use Rattle.heap_places.proofs.of_swizzle.TouchLaws.{keeps-trans}
+use Rattle.table_nodes.proofs.BringLaws.{brings_touched}
 use Rattle.table_nodes.proofs.follow.go_on.Goals as goal
 
 pub returns-in-Err-clause-turns : goal.returns-in-Err-clause-turns
@@ -54,3 +56,21 @@ returns-in-Ok-side-clause-grows g c = touches_then (place c.args.sw.now (g.V.Vau
 
 pub returns-in-Ok-side-2-clause-grows : goal.returns-in-Ok-side-2-clause-grows
 returns-in-Ok-side-2-clause-grows g c = touches_then (place c.args.sw.now (g.V.Vault.outside c.args.vault.now)) (place c.order.new.sw (g.V.Vault.outside c.order.new.vault)) (place c.side-2.new.sw (g.V.Vault.outside c.side-2.new.vault)) c.in-Ok.ensures.grows c.in-Ok-side-2.ensures.grows
+
+pub returns-in-Ok-side-clause-brings : goal.returns-in-Ok-side-clause-brings
+returns-in-Ok-side-clause-brings g c = brings_touched _ _ _ 0 1 1 c.in-Ok-side.ensures.keeps (omega arith) c.in-Ok.ensures.brings c.side.ensures.brings
+
+pub returns-in-Err-side-clause-brings : goal.returns-in-Err-side-clause-brings
+returns-in-Err-side-clause-brings g c = brings_touched _ _ _ 0 1 1 c.in-Err-side.ensures.still (omega arith) c.in-Ok.ensures.brings c.side.ensures.brings
+
+pub returns-in-Err-side-clause-still : goal.returns-in-Err-side-clause-still
+returns-in-Err-side-clause-still g c = keeps-trans _ _ _ c.in-Ok.ensures.keeps c.in-Err-side.ensures.still
+
+pub returns-in-Ok-side-2-clause-brings : goal.returns-in-Ok-side-2-clause-brings
+returns-in-Ok-side-2-clause-brings g c = brings_touched _ _ _ 0 1 1 c.in-Ok-side-2.ensures.keeps (omega arith) c.in-Ok.ensures.brings c.side-2.ensures.brings
+
+pub returns-in-Err-side-2-clause-brings : goal.returns-in-Err-side-2-clause-brings
+returns-in-Err-side-2-clause-brings g c = brings_touched _ _ _ 0 1 1 c.in-Err-side-2.ensures.still (omega arith) c.in-Ok.ensures.brings c.side-2.ensures.brings
+
+pub returns-in-Err-side-2-clause-still : goal.returns-in-Err-side-2-clause-still
+returns-in-Err-side-2-clause-still g c = keeps-trans _ _ _ c.in-Ok.ensures.keeps c.in-Err-side-2.ensures.still

@@ -1,10 +1,11 @@
-use Rattle.std.proofs.Common.{◌∙◌, Option, ℕ, subst}
+use Rattle.std.proofs.Common.{◌-◌, arith, ◌∙◌, Option, ℕ, subst}
 use Rattle.heap_places.proofs.of_swizzle.TouchLaws.{keeps-trans}
 use Rattle.avl_trees.specs.Standing.{seek}
 use Rattle.table_nodes.specs.Keys.{order_by}
 use Rattle.table_nodes.specs.Sought.{kind_of, key_in}
 use Rattle.table_nodes.specs.Steps.{place}
 use Rattle.table_nodes.specs.Following.{IsTurn}
+use Rattle.table_nodes.proofs.BringLaws.{brings_more, brings_touched}
 use Rattle.table_nodes.proofs.NodeLaws.{fetch_back}
 use Rattle.table_nodes.proofs.SoughtLaws.{key_held_kept, key_in_kept}
 use Rattle.table_nodes.proofs.StepLaws.{touches_then}
@@ -33,6 +34,9 @@ loop-at-preserved g c =
       same = key_in_kept now.heap m.heap c.args.key c.in-Ok.ensures.keeps c.loop-at.invariant.key ∙ c.loop-at.invariant.same;
       keeps = keeps-trans old.heap now.heap m.heap c.loop-at.invariant.keeps c.in-Ok.ensures.keeps;
       grows = touches_then old now m c.loop-at.invariant.grows c.in-Ok.ensures.grows;
+      some = omega (arith, c.if-height-eq0.false);
+      within = omega (arith, c.if-height-bound.false, c.loop-at.invariant.within);
+      brings = brings_touched old.heap now.heap m.heap (c.args.bound - c.loop-at.bound) 1 _ c.in-Ok.ensures.keeps (omega (arith, c.if-height-bound.false, c.loop-at.invariant.within)) c.loop-at.invariant.brings c.go_on.ensures.brings;
       alive = c.in-Ok.ensures.alive;
       follows = λ t h low.
           let s = at_turn ks (seek (order_by ks) wanted) now c.in-Some.node c.loop-at.last c.loop-at.bound t (subst (λ (i : Option ℕ). Following ks (seek (order_by ks) wanted) now i c.loop-at.last c.loop-at.bound t) c.in-Some.is (c.loop-at.invariant.follows t h low)) in
@@ -47,3 +51,25 @@ returns-clause-follows g c t h low =
     let wanted = key_in c.args.sw.now c.args.key in
     let now = place c.loop-at.sw (g.V.Vault.outside c.loop-at.vault) in
     following_none ks (seek (order_by ks) wanted) now c.loop-at.last c.loop-at.bound t (subst (λ (i : Option ℕ). Following ks (seek (order_by ks) wanted) now i c.loop-at.last c.loop-at.bound t) c.in_default.is (c.loop-at.invariant.follows t h low))
+
+pub returns-then-height-eq0-clause-follows : goal.returns-then-height-eq0-clause-follows
+returns-then-height-eq0-clause-follows g c t h low =
+    let ks = kind_of c.args.key in
+    let wanted = key_in c.args.sw.now c.args.key in
+    let now = place c.loop-at.sw (g.V.Vault.outside c.loop-at.vault) in
+    let s = at_turn ks (seek (order_by ks) wanted) now c.in-Some.node c.loop-at.last c.loop-at.bound t (subst (λ (i : Option ℕ). Following ks (seek (order_by ks) wanted) now i c.loop-at.last c.loop-at.bound t) c.in-Some.is (c.loop-at.invariant.follows t h low)) in
+    let e = height_at ks (seek (order_by ks) wanted) now c.in-Some.node c.loop-at.last c.loop-at.bound t s c.height-height.result (c.height-height.ensures.some ks) in
+    let lower = s.lower in
+    absurd (grind (arith, e, lower, c.then-height-eq0.either))
+
+pub returns-then-height-eq0-clause-brings : goal.returns-then-height-eq0-clause-brings
+returns-then-height-eq0-clause-brings g c = brings_more _ _ _ _ (omega (arith, c.loop-at.invariant.some, c.loop-at.invariant.within)) c.loop-at.invariant.brings
+
+pub returns-in-Err-clause-brings : goal.returns-in-Err-clause-brings
+returns-in-Err-clause-brings g c = brings_touched _ _ _ (c.args.bound - c.loop-at.bound) 1 _ c.in-Err.ensures.still (omega (arith, c.if-height-eq0.false, c.if-height-bound.false, c.loop-at.invariant.within)) c.loop-at.invariant.brings c.go_on.ensures.brings
+
+pub returns-in-Err-clause-still : goal.returns-in-Err-clause-still
+returns-in-Err-clause-still g c = keeps-trans _ _ _ c.loop-at.invariant.keeps c.in-Err.ensures.still
+
+pub returns-clause-brings : goal.returns-clause-brings
+returns-clause-brings g c = brings_more _ _ _ _ (omega (arith, c.loop-at.invariant.some, c.loop-at.invariant.within)) c.loop-at.invariant.brings

@@ -1,9 +1,10 @@
 -- The next key of the tree is that of the part that is left, which is lower than the bound, or else the last one above.
-use Rattle.std.proofs.Common.{◌≡◌, ◌<◌, IfSome}
+use Rattle.std.proofs.Common.{◌≡◌, ◌-◌, ◌≤◌, ◌<◌, IfSome}
 use Rattle.heap_places.specs.swizzle.Touch.{Keeps}
 use Rattle.avl_trees.specs.Trees.{Tree, height}
 use Rattle.avl_trees.specs.Standing.{seek}
 use Rattle.table_nodes.specs.Keys.{order_by}
+use Rattle.table_nodes.specs.Bringing.{Brings}
 use Rattle.table_nodes.specs.Nodes.{IsNode, Grows}
 use Rattle.table_nodes.specs.Sought.{IsKeyHeld, kind_of, key_in}
 use Rattle.table_nodes.specs.Searching.{IsTree}
@@ -24,6 +25,9 @@ invariant-loop-at g l =
       same : key_in l.sw l.key ≡ wanted;
       keeps : Keeps l.initial.sw l.sw;
       grows : Grows l.initial.sw l.sw (g.V.Vault.outside l.initial.vault) (g.V.Vault.outside l.vault);
+      some : 1 ≤ l.bound;
+      within : l.bound ≤ l.initial.bound;
+      brings : Brings l.initial.sw l.sw (l.initial.bound - l.bound);
       alive : g.V.Vault.alive l.vault;
       follows : (t : Tree (I ks)) → IsTree ks old l.fn.root t → height t < l.initial.bound → Following ks (seek (order_by ks) wanted) now l.at l.last l.bound t;
     }

@@ -2,6 +2,8 @@ use Rattle.std.proofs.Common.{Ok, Err, subst}
 use Rattle.table_nodes.specs.Sought.{IsKeyHeld}
 use Rattle.table_nodes.specs.declared.keys.Key.TheVariants.{Int, Text}
 use Rattle.table_nodes.proofs.SoughtLaws.{orders_key, orders_int, orders_no_int, orders_text}
+use Rattle.table_nodes.proofs.BringLaws.{brings_none}
+use Rattle.heap_places.proofs.of_swizzle.TouchLaws.{keeps-refl}
 use Rattle.table_nodes.proofs.keys.order.Goals as goal
 
 pub returns-in-Ok-clause-ordered : goal.returns-in-Ok-clause-ordered
@@ -24,3 +26,12 @@ pub returns-in-Err-text_key-clause-ordered : goal.returns-in-Err-text_key-clause
 returns-in-Err-text_key-clause-ordered g c =
     let a = g.V.Vault.outside c.args.vault.now in
     orders_key c.args.sw.now a c.args.at c.args.key (Text c.in-Text.text) (Err c.in-Err-text_key.fault) c.in-Text.is c.in-Err-text_key.ensures.read
+
+pub returns-in-Ok-clause-brings : goal.returns-in-Ok-clause-brings
+returns-in-Ok-clause-brings g c = brings_none _ 0
+
+pub returns-in-Err-clause-brings : goal.returns-in-Err-clause-brings
+returns-in-Err-clause-brings g c = brings_none _ 1
+
+pub returns-in-Err-clause-still : goal.returns-in-Err-clause-still
+returns-in-Err-clause-still g c = keeps-refl _

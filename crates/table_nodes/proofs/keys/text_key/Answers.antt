@@ -1,10 +1,12 @@
-use Rattle.std.proofs.Common.{ℕ, Option, subst, arith}
+use Rattle.std.proofs.Common.{◌≡◌, ℕ, Option, Some, subst, arith}
 use Rattle.std.proofs.lemmas.Grind.{common_steps}
-use Rattle.heap_places.specs.swizzle.Heap.{ref_at}
+use Rattle.heap_places.specs.obj_layout.declared.kind.Kind.TheVariants.{Text as TextKind}
+use Rattle.heap_places.specs.swizzle.Heap.{header_at, ref_at}
 use Rattle.heap_places.specs.swizzle.Joint.{name_of}
 use Rattle.heap_places.specs.swizzle.Touch.{Denotes}
 use Rattle.table_nodes.proofs.NodeLaws.{grows_touch}
 use Rattle.table_nodes.proofs.SoughtLaws.{text_of_key, text_not_nil}
+use Rattle.table_nodes.proofs.BringLaws.{brings_only, brings_other, brings_same, keeps_same}
 use Rattle.table_nodes.proofs.keys.text_key.Goals as goal
 
 pub returns-then-eq-clause-read : goal.returns-then-eq-clause-read
@@ -25,3 +27,21 @@ pub returns-in-Ok-None-clause-read : goal.returns-in-Ok-None-clause-read
 returns-in-Ok-None-clause-read g c n row named r =
     let nil = subst (λ (t : Option ℕ). Denotes c.touch_slot.new.self t (name_of c.args.sw.now (ref_at c.args.sw.now c.args.at 2))) c.in-Ok-None.field-0-is c.in-Ok-None.ensures.target in
     absurd (text_not_nil c.args.sw.now (g.V.Vault.outside c.args.vault.now) c.args.at n row c.sound.ensures nil named r)
+
+pub returns-then-eq-clause-brings : goal.returns-then-eq-clause-brings
+returns-then-eq-clause-brings g c =
+    let kind : (header_at c.touch_slot.new.self c.in-Ok-Some.text).kind ≡ TextKind = grind (arith, common_steps) in
+    brings_other c.args.sw.now c.touch_slot.new.self (Some c.in-Ok-Some.text) (ref_at c.args.sw.now c.args.at 2) 0 c.sound-in-Ok-Some.ensures c.in-Ok-Some.ensures.only (λ near e. (c.touch_slot.ensures.still near e).0)
+    (subst (λ (t : Option ℕ). Denotes c.touch_slot.new.self t (name_of c.args.sw.now (ref_at c.args.sw.now c.args.at 2))) c.in-Ok-Some.field-0-is c.in-Ok-Some.ensures.target) (λ at e k. absurd (cc (e, k, kind)))
+
+pub returns-else-eq-clause-brings : goal.returns-else-eq-clause-brings
+returns-else-eq-clause-brings g c = brings_only _ _ _ 1 (omega arith) c.in-Ok-Some.ensures.only
+
+pub returns-in-Ok-None-clause-brings : goal.returns-in-Ok-None-clause-brings
+returns-in-Ok-None-clause-brings g c = brings_only _ _ _ 1 (omega arith) c.in-Ok-None.ensures.only
+
+pub returns-in-Err-clause-brings : goal.returns-in-Err-clause-brings
+returns-in-Err-clause-brings g c = brings_same _ _ 1 c.in-Err.ensures.refused
+
+pub returns-in-Err-clause-still : goal.returns-in-Err-clause-still
+returns-in-Err-clause-still g c = keeps_same _ _ c.in-Err.ensures.refused

@@ -1,6 +1,7 @@
 use Rattle.std.proofs.Common.{ap, ◌∙◌, arith}
 use Rattle.heap_places.proofs.of_swizzle.MadeLaws.{made-held, made-object}
 use Rattle.table_nodes.proofs.MakeLaws.{node_made, node_makes, made_keeps}
+use Rattle.table_nodes.proofs.BringLaws.{brings_made, brings_same}
 use Rattle.table_nodes.proofs.make.make_node.Goals as goal
 
 pub set_key-requires-clause-held : goal.set_key-requires-clause-held
@@ -38,4 +39,8 @@ returns g c = record {
       (node_made c.args.sw.now c.make.new.self c.set_key.new.sw c.set_ref.new.self c.set_num.new.self c.in-Ok.at c.args.value c.args.key c.in-Ok.ensures.made c.set_key.ensures.written c.set_ref.ensures.written c.set_num.ensures.written);
   keeps = made_keeps c.args.sw.now c.set_num.new.self c.in-Ok.at _ c.sound.ensures
       (node_made c.args.sw.now c.make.new.self c.set_key.new.sw c.set_ref.new.self c.set_num.new.self c.in-Ok.at c.args.value c.args.key c.in-Ok.ensures.made c.set_key.ensures.written c.set_ref.ensures.written c.set_num.ensures.written);
+  brings = brings_made c.args.sw.now c.set_num.new.self c.in-Ok.at _ 1 (omega arith) (node_made c.args.sw.now c.make.new.self c.set_key.new.sw c.set_ref.new.self c.set_num.new.self c.in-Ok.at c.args.value c.args.key c.in-Ok.ensures.made c.set_key.ensures.written c.set_ref.ensures.written c.set_num.ensures.written);
 }
+
+pub returns-in-Err-clause-brings : goal.returns-in-Err-clause-brings
+returns-in-Err-clause-brings g c = brings_same _ _ 1 c.in-Err.ensures.made.stays

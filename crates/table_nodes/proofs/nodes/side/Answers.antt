@@ -1,6 +1,8 @@
+use Rattle.std.proofs.Common.{arith}
 use Rattle.heap_places.specs.swizzle.Heap.{ref_at}
 use Rattle.heap_places.specs.swizzle.Joint.{name_of}
 use Rattle.table_nodes.proofs.NodeLaws.{seat_at, side_seen, linked_some, linked_none, grows_touch, side_kind, side_row}
+use Rattle.table_nodes.proofs.BringLaws.{brings_only, brings_same, keeps_same}
 use Rattle.table_nodes.proofs.nodes.side.Goals as goal
 
 pub returns-then-is_node-clause-side : goal.returns-then-is_node-clause-side
@@ -32,3 +34,18 @@ returns-else-is_node-clause-sound g c ks n row named r known =
 
 pub returns-in-Ok-None-clause-grows : goal.returns-in-Ok-None-clause-grows
 returns-in-Ok-None-clause-grows g c = grows_touch c.args.sw.now c.touch_slot.new.self (g.V.Vault.outside c.args.vault.now) (g.V.Vault.outside c.touch_slot.new.vault) _ c.sound.ensures c.sound-in-Ok-None.ensures c.in-Ok-None.ensures.call.contents c.in-Ok-None.ensures.keeps c.in-Ok-None.ensures.joint
+
+pub returns-then-is_node-clause-brings : goal.returns-then-is_node-clause-brings
+returns-then-is_node-clause-brings g c = brings_only _ _ _ 1 (omega arith) c.in-Ok-Some.ensures.only
+
+pub returns-else-is_node-clause-brings : goal.returns-else-is_node-clause-brings
+returns-else-is_node-clause-brings g c = brings_only _ _ _ 1 (omega arith) c.in-Ok-Some.ensures.only
+
+pub returns-in-Ok-None-clause-brings : goal.returns-in-Ok-None-clause-brings
+returns-in-Ok-None-clause-brings g c = brings_only _ _ _ 1 (omega arith) c.in-Ok-None.ensures.only
+
+pub returns-in-Err-clause-brings : goal.returns-in-Err-clause-brings
+returns-in-Err-clause-brings g c = brings_same _ _ 1 c.in-Err.ensures.refused
+
+pub returns-in-Err-clause-still : goal.returns-in-Err-clause-still
+returns-in-Err-clause-still g c = keeps_same _ _ c.in-Err.ensures.refused

@@ -3,6 +3,7 @@ use Rattle.std.proofs.Common.{sym, subst}
 use Rattle.heap_places.specs.swizzle.Heap.{Heap, IsListed}
 use Rattle.table_nodes.proofs.MarkingLaws.{marked_listed}
 use Rattle.table_nodes.proofs.Sparing.{spares_value}
+use Rattle.table_nodes.proofs.BringLaws.{none_mark, none_ref}
 use Rattle.table_nodes.proofs.nodes.write_value.Goals as goal
 
 pub returns-clause-put : goal.returns-clause-put
@@ -19,3 +20,10 @@ pub returns-clause-spares : goal.returns-clause-spares
 returns-clause-spares g c =
     spares_value c.args.sw.now c.set_ref.new.self c.mark.new.self (g.V.Vault.outside c.args.vault.now) c.args.node 3 _
     c.requires.node c.sound.ensures c.sound-2.ensures c.sound-3.ensures c.set_ref.ensures.written c.mark.ensures.written c.set_ref.ensures.stands c.mark.ensures.stands
+
+pub returns-clause-none : goal.returns-clause-none
+returns-clause-none g c at held =
+    let there = c.requires.node.held in
+    let there1 = (c.set_ref.ensures.stands c.args.node there).held in
+    none_ref c.args.sw.now c.set_ref.new.self c.args.node 3 _ there c.set_ref.ensures.written at
+    (none_mark c.set_ref.new.self c.mark.new.self c.args.node there1 c.mark.ensures.written at held)

@@ -1,3 +1,4 @@
+use Rattle.std.proofs.Common.{arith}
 use Rattle.avl_trees.specs.Trees.{node}
 use Rattle.avl_trees.specs.Standing.{row_of, root_of}
 use Rattle.avl_trees.proofs.Standing.{stands_grown}
@@ -5,6 +6,8 @@ use Rattle.table_nodes.specs.Sought.{kind_of}
 use Rattle.table_nodes.specs.Steps.{place, rows_of}
 use Rattle.table_nodes.proofs.NodeLaws.{fetch_back}
 use Rattle.table_nodes.proofs.StepLaws.{is_side, linked_kept, touches_then}
+use Rattle.heap_places.proofs.of_swizzle.TouchLaws.{keeps-trans}
+use Rattle.table_nodes.proofs.BringLaws.{brings_more, brings_touched}
 use Rattle.table_nodes.proofs.opening.open_node.Goals as goal
 
 pub returns-in-Err-clause-opens : goal.returns-in-Err-clause-opens
@@ -47,3 +50,21 @@ returns-clause-opens g c x b y s named =
 pub returns-clause-grows : goal.returns-clause-grows
 returns-clause-grows g c =
     touches_then (place c.args.sw.now (g.V.Vault.outside c.args.vault.now)) (place c.side.new.sw (g.V.Vault.outside c.side.new.vault)) (place c.side-2.new.sw (g.V.Vault.outside c.side-2.new.vault)) (touches_then (place c.args.sw.now (g.V.Vault.outside c.args.vault.now)) (place c.order.new.sw (g.V.Vault.outside c.order.new.vault)) (place c.side.new.sw (g.V.Vault.outside c.side.new.vault)) c.in-Ok.ensures.grows c.in-Ok-side.ensures.grows) c.in-Ok-side-2.ensures.grows
+
+pub returns-in-Err-clause-brings : goal.returns-in-Err-clause-brings
+returns-in-Err-clause-brings g c = brings_more _ _ 1 2 (omega arith) c.in-Err.ensures.brings
+
+pub returns-in-Err-side-clause-brings : goal.returns-in-Err-side-clause-brings
+returns-in-Err-side-clause-brings g c = brings_touched _ _ _ 0 1 2 c.in-Err-side.ensures.still (omega arith) c.in-Ok.ensures.brings c.side.ensures.brings
+
+pub returns-in-Err-side-2-clause-brings : goal.returns-in-Err-side-2-clause-brings
+returns-in-Err-side-2-clause-brings g c = brings_touched _ _ _ 1 1 2 c.in-Err-side-2.ensures.still (omega arith) (brings_touched _ _ _ 0 1 1 c.in-Ok-side.ensures.keeps (omega arith) c.in-Ok.ensures.brings c.side.ensures.brings) c.side-2.ensures.brings
+
+pub returns-clause-brings : goal.returns-clause-brings
+returns-clause-brings g c = brings_touched _ _ _ 1 1 2 c.in-Ok-side-2.ensures.keeps (omega arith) (brings_touched _ _ _ 0 1 1 c.in-Ok-side.ensures.keeps (omega arith) c.in-Ok.ensures.brings c.side.ensures.brings) c.side-2.ensures.brings
+
+pub returns-in-Err-side-clause-still : goal.returns-in-Err-side-clause-still
+returns-in-Err-side-clause-still g c = keeps-trans _ _ _ c.in-Ok.ensures.keeps c.in-Err-side.ensures.still
+
+pub returns-in-Err-side-2-clause-still : goal.returns-in-Err-side-2-clause-still
+returns-in-Err-side-2-clause-still g c = keeps-trans _ _ _ (keeps-trans _ _ _ c.in-Ok.ensures.keeps c.in-Ok-side.ensures.keeps) c.in-Err-side-2.ensures.still

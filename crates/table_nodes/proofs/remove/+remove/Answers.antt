@@ -1,29 +1,34 @@
-use Rattle.std.proofs.Common.{Ok, refl, sym, ◌∙◌, arith}
+use Rattle.std.proofs.Common.{◌+◌, ◌*◌, ◌-◌, Ok, Some, IfSome, refl, sym, ◌∙◌, subst, arith}
 use Rattle.avl_trees.specs.Trees.{leaf, node}
 use Rattle.avl_trees.specs.Standing.{row_of}
+use Rattle.avl_trees.proofs.Standing.{stands_grown}
+use Rattle.heap_places.proofs.of_swizzle.TouchLaws.{keeps-refl, keeps-trans}
+use Rattle.table_nodes.specs.Nodes.{IsNode}
 use Rattle.table_nodes.specs.Sought.{kind_of, key_in}
-use Rattle.table_nodes.specs.Steps.{place}
+use Rattle.table_nodes.specs.Steps.{place, rows_of}
+use Rattle.table_nodes.proofs.BringLaws.{brings_more, brings_none, brings_then, brings_touched, brings_written, keeps_lasts}
 use Rattle.table_nodes.proofs.NodeLaws.{fetch_back}
 use Rattle.table_nodes.proofs.SoughtLaws.{key_in_kept}
-use Rattle.table_nodes.proofs.StepLaws.{place_touched}
+use Rattle.table_nodes.proofs.StepLaws.{place_touched, touches_then}
 use Rattle.table_nodes.proofs.Putting.{root_named, no_root, tree_left, tree_right}
-use Rattle.table_nodes.proofs.Removal.{removed_as, remove_leaf, left_sides, left_done, right_sides, right_done, here_done, here_fault, gone_leaf, gone_left, gone_right, gone_here}
+use Rattle.table_nodes.proofs.Removal.{removed_as, remove_leaf, opened_kept, left_sides, left_known, left_done, right_sides, right_known, right_done, here_done, here_fault, gone_leaf, gone_left, gone_right, gone_here}
 use Rattle.table_nodes.proofs.Sparing.{spares_none, spares_then, spares_touched}
+use Rattle.table_nodes.proofs.WingLaws.{wing_held_kept}
 use Rattle.table_nodes.proofs.remove.+remove.Goals as goal
 
 pub returns-in_default-clause-removed : goal.returns-in_default-clause-removed
 returns-in_default-clause-removed g t c tree p h lower =
     remove_leaf (kind_of c.args.key) (key_in c.args.sw.now c.args.key) (place c.args.sw.now (g.V.Vault.outside c.args.vault.now)) c.args.root c.in_default.is tree p h
 
-pub returns-then-height-bound-clause-removed : goal.returns-then-height-bound-clause-removed
-returns-then-height-bound-clause-removed g t c leaf p h lower = absurd (no_root c.args.sw.now c.args.root c.in-Some.at c.in-Some.is h.root_is)
-returns-then-height-bound-clause-removed g t c (node x b y) p h lower =
+pub returns-then-height-eq0-clause-removed : goal.returns-then-height-eq0-clause-removed
+returns-then-height-eq0-clause-removed g t c leaf p h lower = absurd (no_root c.args.sw.now c.args.root c.in-Some.at c.in-Some.is h.root_is)
+returns-then-height-eq0-clause-removed g t c (node x b y) p h lower =
     let ks = kind_of c.args.key in
     let key = key_in c.args.sw.now c.args.key in
     let old = place c.args.sw.now (g.V.Vault.outside c.args.vault.now) in
     let named = root_named old.heap c.args.root c.in-Some.at b.name c.in-Some.is h.root_is in
     let e = c.height-height.ensures.some ks c.in-Some.at b.name (row_of x b y) refl named h.stands.0 in
-    absurd (omega (arith, e, lower, c.if-height-bound.true))
+    absurd (grind (arith, e, lower, c.then-height-eq0.either))
 
 pub returns-in-Err-clause-removed : goal.returns-in-Err-clause-removed
 returns-in-Err-clause-removed g t c leaf p h lower = absurd (no_root c.args.sw.now c.args.root c.in-Some.at c.in-Some.is h.root_is)
@@ -35,41 +40,44 @@ returns-in-Err-clause-removed g t c (node x b y) p h lower =
     let e = c.height-height.ensures.some ks c.in-Some.at b.name (row_of x b y) refl named h.stands.0 in
     c.in-Err.ensures.opens x b y h.stands named
 
-pub returns-in-Ok-balance-clause-removed : goal.returns-in-Ok-balance-clause-removed
-returns-in-Ok-balance-clause-removed g t c leaf p h lower = absurd (no_root c.args.sw.now c.args.root c.in-Some.at c.in-Some.is h.root_is)
-returns-in-Ok-balance-clause-removed g t c (node x b y) p h lower =
+pub returns-in-Err-open_right-clause-removed : goal.returns-in-Err-open_right-clause-removed
+returns-in-Err-open_right-clause-removed g t c leaf p h lower = absurd (no_root c.args.sw.now c.args.root c.in-Some.at c.in-Some.is h.root_is)
+returns-in-Err-open_right-clause-removed g t c (node x b y) p h lower =
     let ks = kind_of c.args.key in
     let key = key_in c.args.sw.now c.args.key in
     let old = place c.args.sw.now (g.V.Vault.outside c.args.vault.now) in
     let named = root_named old.heap c.args.root c.in-Some.at b.name c.in-Some.is h.root_is in
     let e = c.height-height.ensures.some ks c.in-Some.at b.name (row_of x b y) refl named h.stands.0 in
-    let m = place c.open_node.new.sw (g.V.Vault.outside c.open_node.new.vault) in
-    let o = c.in-Ok.ensures.opens x b y h.stands named in
-    let here = place_touched old m c.in-Ok.ensures.grows p in
-    let same = key_in_kept old.heap m.heap c.args.key c.in-Ok.ensures.keeps c.requires.key in
-    let m1 = place c.remove.new.sw (g.V.Vault.outside c.remove.new.vault) in
-    let m2 = place c.balance.new.sw (g.V.Vault.outside c.balance.new.vault) in
-    let w = removed_as ks m m1 c.in-Ok.opened.left c.height-height.result (key_in m.heap c.args.key) key (Ok c.in-Ok-remove.left) same c.in-Ok-remove.ensures.removed x here (tree_left ks old m c.args.root c.in-Ok.opened.left c.in-Ok.ensures.grows x b y h o.left) (omega (arith, e)) in
-    let sides = left_sides ks key old m m1 c.in-Some.at c.args.root c.in-Ok.opened c.in-Ok.ensures.grows p x b y h named o c.in-Ok-remove.left.root c.in-Ok-remove.ensures.held (omega (arith, e, lower, c.requires.bound)) c.in-Less.is w in
-    left_done ks key old m m1 c.in-Some.at c.args.root c.in-Ok.opened c.in-Ok.ensures.grows p x b y h named o m2 c.in-Ok-remove.left.root c.in-Ok-balance.root c.in-Less.is w (c.in-Ok-balance.ensures.balanced ks _ _ _ sides)
+    let m0 = place c.open_node.new.sw (g.V.Vault.outside c.open_node.new.vault) in
+    let o0 = c.in-Ok.ensures.opens x b y h.stands named in
+    let s = stands_grown (rows_of ks old) (rows_of ks m0) (c.in-Ok.ensures.grows.rows ks) (node x b y) h.stands in
+    fetch_back old.outside m0.outside c.in-Err-open_right.fault c.in-Ok.ensures.grows.contents (c.in-Err-open_right.ensures.wing ks x y s.1 s.2 o0.left o0.right (omega (arith, e)) (omega (arith, e)))
 
-pub returns-in-Err-balance-clause-removed : goal.returns-in-Err-balance-clause-removed
-returns-in-Err-balance-clause-removed g t c leaf p h lower = absurd (no_root c.args.sw.now c.args.root c.in-Some.at c.in-Some.is h.root_is)
-returns-in-Err-balance-clause-removed g t c (node x b y) p h lower =
+pub returns-in-Ok-remove-clause-removed : goal.returns-in-Ok-remove-clause-removed
+returns-in-Ok-remove-clause-removed g t c leaf p h lower = absurd (no_root c.args.sw.now c.args.root c.in-Some.at c.in-Some.is h.root_is)
+returns-in-Ok-remove-clause-removed g t c (node x b y) p h lower =
     let ks = kind_of c.args.key in
     let key = key_in c.args.sw.now c.args.key in
     let old = place c.args.sw.now (g.V.Vault.outside c.args.vault.now) in
     let named = root_named old.heap c.args.root c.in-Some.at b.name c.in-Some.is h.root_is in
     let e = c.height-height.ensures.some ks c.in-Some.at b.name (row_of x b y) refl named h.stands.0 in
-    let m = place c.open_node.new.sw (g.V.Vault.outside c.open_node.new.vault) in
-    let o = c.in-Ok.ensures.opens x b y h.stands named in
-    let here = place_touched old m c.in-Ok.ensures.grows p in
-    let same = key_in_kept old.heap m.heap c.args.key c.in-Ok.ensures.keeps c.requires.key in
+    let m0 = place c.open_node.new.sw (g.V.Vault.outside c.open_node.new.vault) in
+    let o0 = c.in-Ok.ensures.opens x b y h.stands named in
+    let s = stands_grown (rows_of ks old) (rows_of ks m0) (c.in-Ok.ensures.grows.rows ks) (node x b y) h.stands in
+    let m = place c.open_right.new.sw (g.V.Vault.outside c.open_right.new.vault) in
+    let grows = touches_then old m0 m c.in-Ok.ensures.grows c.in-Ok-open_right.ensures.grows in
+    let o = opened_kept ks m0.heap m.heap c.in-Ok-open_right.ensures.grows.named key x b y c.in-Ok.opened o0 in
+    let ready = c.in-Ok-open_right.ensures.wing ks x y s.1 s.2 o0.left o0.right (omega (arith, e)) (omega (arith, e)) in
+    let here = place_touched old m grows p in
+    let keeps = keeps-trans old.heap m0.heap m.heap c.in-Ok.ensures.keeps c.in-Ok-open_right.ensures.keeps in
+    let same = key_in_kept old.heap m.heap c.args.key keeps c.requires.key in
+    let side = tree_left ks old m c.args.root c.in-Ok.opened.left grows x b y h o.left in
     let m1 = place c.remove.new.sw (g.V.Vault.outside c.remove.new.vault) in
-    let w = removed_as ks m m1 c.in-Ok.opened.left c.height-height.result (key_in m.heap c.args.key) key (Ok c.in-Ok-remove.left) same c.in-Ok-remove.ensures.removed x here (tree_left ks old m c.args.root c.in-Ok.opened.left c.in-Ok.ensures.grows x b y h o.left) (omega (arith, e)) in
-    let sides = left_sides ks key old m m1 c.in-Some.at c.args.root c.in-Ok.opened c.in-Ok.ensures.grows p x b y h named o c.in-Ok-remove.left.root c.in-Ok-remove.ensures.held (omega (arith, e, lower, c.requires.bound)) c.in-Less.is w in
-    fetch_back old.outside m.outside c.in-Err-balance.fault c.in-Ok.ensures.grows.contents
-    (fetch_back m.outside m1.outside c.in-Err-balance.fault c.in-Ok-remove.ensures.contents (c.in-Err-balance.ensures.balanced ks _ _ _ sides))
+    let m2 = place c.balance-root.new.sw (g.V.Vault.outside c.remove.new.vault) in
+    let w = removed_as ks m m1 c.in-Ok.opened.left c.in-Ok-open_right.ready.bound (key_in m.heap c.args.key) key (Ok c.in-Ok-remove.left) same c.in-Ok-remove.ensures.removed x here side ready.1 in
+    let sides = left_sides ks key old m m1 c.in-Some.at c.args.root c.in-Ok.opened grows p x b y h named o c.in-Ok-remove.left.root c.in-Ok-remove.ensures.held (omega (arith, e, lower, c.requires.bound)) c.in-Less.is w in
+    let known = left_known ks key old m m1 c.in-Some.at c.args.root c.in-Ok.opened grows p x b y h named o c.in-Ok-open_right.ready.wing c.in-Ok-remove.ensures.held ready.0 in
+    left_done ks key old m m1 c.in-Some.at c.args.root c.in-Ok.opened grows p x b y h named o m2 c.in-Ok-remove.left.root c.balance-root.result c.in-Less.is w (c.balance-root.ensures.balanced ks _ _ _ sides known.0 known.1)
 
 pub returns-in-Err-remove-clause-removed : goal.returns-in-Err-remove-clause-removed
 returns-in-Err-remove-clause-removed g t c leaf p h lower = absurd (no_root c.args.sw.now c.args.root c.in-Some.at c.in-Some.is h.root_is)
@@ -79,48 +87,57 @@ returns-in-Err-remove-clause-removed g t c (node x b y) p h lower =
     let old = place c.args.sw.now (g.V.Vault.outside c.args.vault.now) in
     let named = root_named old.heap c.args.root c.in-Some.at b.name c.in-Some.is h.root_is in
     let e = c.height-height.ensures.some ks c.in-Some.at b.name (row_of x b y) refl named h.stands.0 in
-    let m = place c.open_node.new.sw (g.V.Vault.outside c.open_node.new.vault) in
-    let o = c.in-Ok.ensures.opens x b y h.stands named in
-    let here = place_touched old m c.in-Ok.ensures.grows p in
-    let same = key_in_kept old.heap m.heap c.args.key c.in-Ok.ensures.keeps c.requires.key in
-    fetch_back old.outside m.outside c.in-Err-remove.fault c.in-Ok.ensures.grows.contents
-    (c.in-Err-remove.ensures.removed x here (tree_left ks old m c.args.root c.in-Ok.opened.left c.in-Ok.ensures.grows x b y h o.left) (omega (arith, e)))
+    let m0 = place c.open_node.new.sw (g.V.Vault.outside c.open_node.new.vault) in
+    let o0 = c.in-Ok.ensures.opens x b y h.stands named in
+    let s = stands_grown (rows_of ks old) (rows_of ks m0) (c.in-Ok.ensures.grows.rows ks) (node x b y) h.stands in
+    let m = place c.open_right.new.sw (g.V.Vault.outside c.open_right.new.vault) in
+    let grows = touches_then old m0 m c.in-Ok.ensures.grows c.in-Ok-open_right.ensures.grows in
+    let o = opened_kept ks m0.heap m.heap c.in-Ok-open_right.ensures.grows.named key x b y c.in-Ok.opened o0 in
+    let ready = c.in-Ok-open_right.ensures.wing ks x y s.1 s.2 o0.left o0.right (omega (arith, e)) (omega (arith, e)) in
+    let here = place_touched old m grows p in
+    let keeps = keeps-trans old.heap m0.heap m.heap c.in-Ok.ensures.keeps c.in-Ok-open_right.ensures.keeps in
+    let same = key_in_kept old.heap m.heap c.args.key keeps c.requires.key in
+    let side = tree_left ks old m c.args.root c.in-Ok.opened.left grows x b y h o.left in
+    fetch_back old.outside m.outside c.in-Err-remove.fault grows.contents (c.in-Err-remove.ensures.removed x here side ready.1)
 
-pub returns-in-Ok-balance-2-clause-removed : goal.returns-in-Ok-balance-2-clause-removed
-returns-in-Ok-balance-2-clause-removed g t c leaf p h lower = absurd (no_root c.args.sw.now c.args.root c.in-Some.at c.in-Some.is h.root_is)
-returns-in-Ok-balance-2-clause-removed g t c (node x b y) p h lower =
+pub returns-in-Err-open_left-clause-removed : goal.returns-in-Err-open_left-clause-removed
+returns-in-Err-open_left-clause-removed g t c leaf p h lower = absurd (no_root c.args.sw.now c.args.root c.in-Some.at c.in-Some.is h.root_is)
+returns-in-Err-open_left-clause-removed g t c (node x b y) p h lower =
     let ks = kind_of c.args.key in
     let key = key_in c.args.sw.now c.args.key in
     let old = place c.args.sw.now (g.V.Vault.outside c.args.vault.now) in
     let named = root_named old.heap c.args.root c.in-Some.at b.name c.in-Some.is h.root_is in
     let e = c.height-height.ensures.some ks c.in-Some.at b.name (row_of x b y) refl named h.stands.0 in
-    let m = place c.open_node.new.sw (g.V.Vault.outside c.open_node.new.vault) in
-    let o = c.in-Ok.ensures.opens x b y h.stands named in
-    let here = place_touched old m c.in-Ok.ensures.grows p in
-    let same = key_in_kept old.heap m.heap c.args.key c.in-Ok.ensures.keeps c.requires.key in
-    let m1 = place c.remove-in-Greater.new.sw (g.V.Vault.outside c.remove-in-Greater.new.vault) in
-    let m2 = place c.balance-in-Ok-remove-2.new.sw (g.V.Vault.outside c.balance-in-Ok-remove-2.new.vault) in
-    let w = removed_as ks m m1 c.in-Ok.opened.right c.height-height.result (key_in m.heap c.args.key) key (Ok c.in-Ok-remove-2.right) same c.in-Ok-remove-2.ensures.removed y here (tree_right ks old m c.args.root c.in-Ok.opened.right c.in-Ok.ensures.grows x b y h o.right) (omega (arith, e)) in
-    let sides = right_sides ks key old m m1 c.in-Some.at c.args.root c.in-Ok.opened c.in-Ok.ensures.grows p x b y h named o c.in-Ok-remove-2.right.root c.in-Ok-remove-2.ensures.held (omega (arith, e, lower, c.requires.bound)) c.in-Greater.is w in
-    right_done ks key old m m1 c.in-Some.at c.args.root c.in-Ok.opened c.in-Ok.ensures.grows p x b y h named o m2 c.in-Ok-remove-2.right.root c.in-Ok-balance-2.root c.in-Greater.is w (c.in-Ok-balance-2.ensures.balanced ks _ _ _ sides)
+    let m0 = place c.open_node.new.sw (g.V.Vault.outside c.open_node.new.vault) in
+    let o0 = c.in-Ok.ensures.opens x b y h.stands named in
+    let s = stands_grown (rows_of ks old) (rows_of ks m0) (c.in-Ok.ensures.grows.rows ks) (node x b y) h.stands in
+    fetch_back old.outside m0.outside c.in-Err-open_left.fault c.in-Ok.ensures.grows.contents (c.in-Err-open_left.ensures.wing ks y x s.2 s.1 o0.right o0.left (omega (arith, e)) (omega (arith, e)))
 
-pub returns-in-Err-balance-2-clause-removed : goal.returns-in-Err-balance-2-clause-removed
-returns-in-Err-balance-2-clause-removed g t c leaf p h lower = absurd (no_root c.args.sw.now c.args.root c.in-Some.at c.in-Some.is h.root_is)
-returns-in-Err-balance-2-clause-removed g t c (node x b y) p h lower =
+pub returns-in-Ok-remove-2-clause-removed : goal.returns-in-Ok-remove-2-clause-removed
+returns-in-Ok-remove-2-clause-removed g t c leaf p h lower = absurd (no_root c.args.sw.now c.args.root c.in-Some.at c.in-Some.is h.root_is)
+returns-in-Ok-remove-2-clause-removed g t c (node x b y) p h lower =
     let ks = kind_of c.args.key in
     let key = key_in c.args.sw.now c.args.key in
     let old = place c.args.sw.now (g.V.Vault.outside c.args.vault.now) in
     let named = root_named old.heap c.args.root c.in-Some.at b.name c.in-Some.is h.root_is in
     let e = c.height-height.ensures.some ks c.in-Some.at b.name (row_of x b y) refl named h.stands.0 in
-    let m = place c.open_node.new.sw (g.V.Vault.outside c.open_node.new.vault) in
-    let o = c.in-Ok.ensures.opens x b y h.stands named in
-    let here = place_touched old m c.in-Ok.ensures.grows p in
-    let same = key_in_kept old.heap m.heap c.args.key c.in-Ok.ensures.keeps c.requires.key in
+    let m0 = place c.open_node.new.sw (g.V.Vault.outside c.open_node.new.vault) in
+    let o0 = c.in-Ok.ensures.opens x b y h.stands named in
+    let s = stands_grown (rows_of ks old) (rows_of ks m0) (c.in-Ok.ensures.grows.rows ks) (node x b y) h.stands in
+    let m = place c.open_left.new.sw (g.V.Vault.outside c.open_left.new.vault) in
+    let grows = touches_then old m0 m c.in-Ok.ensures.grows c.in-Ok-open_left.ensures.grows in
+    let o = opened_kept ks m0.heap m.heap c.in-Ok-open_left.ensures.grows.named key x b y c.in-Ok.opened o0 in
+    let ready = c.in-Ok-open_left.ensures.wing ks y x s.2 s.1 o0.right o0.left (omega (arith, e)) (omega (arith, e)) in
+    let here = place_touched old m grows p in
+    let keeps = keeps-trans old.heap m0.heap m.heap c.in-Ok.ensures.keeps c.in-Ok-open_left.ensures.keeps in
+    let same = key_in_kept old.heap m.heap c.args.key keeps c.requires.key in
+    let side = tree_right ks old m c.args.root c.in-Ok.opened.right grows x b y h o.right in
     let m1 = place c.remove-in-Greater.new.sw (g.V.Vault.outside c.remove-in-Greater.new.vault) in
-    let w = removed_as ks m m1 c.in-Ok.opened.right c.height-height.result (key_in m.heap c.args.key) key (Ok c.in-Ok-remove-2.right) same c.in-Ok-remove-2.ensures.removed y here (tree_right ks old m c.args.root c.in-Ok.opened.right c.in-Ok.ensures.grows x b y h o.right) (omega (arith, e)) in
-    let sides = right_sides ks key old m m1 c.in-Some.at c.args.root c.in-Ok.opened c.in-Ok.ensures.grows p x b y h named o c.in-Ok-remove-2.right.root c.in-Ok-remove-2.ensures.held (omega (arith, e, lower, c.requires.bound)) c.in-Greater.is w in
-    fetch_back old.outside m.outside c.in-Err-balance-2.fault c.in-Ok.ensures.grows.contents
-    (fetch_back m.outside m1.outside c.in-Err-balance-2.fault c.in-Ok-remove-2.ensures.contents (c.in-Err-balance-2.ensures.balanced ks _ _ _ sides))
+    let m2 = place c.balance-root-in-Ok-remove-2.new.sw (g.V.Vault.outside c.remove-in-Greater.new.vault) in
+    let w = removed_as ks m m1 c.in-Ok.opened.right c.in-Ok-open_left.ready.bound (key_in m.heap c.args.key) key (Ok c.in-Ok-remove-2.right) same c.in-Ok-remove-2.ensures.removed y here side ready.1 in
+    let sides = right_sides ks key old m m1 c.in-Some.at c.args.root c.in-Ok.opened grows p x b y h named o c.in-Ok-remove-2.right.root c.in-Ok-remove-2.ensures.held (omega (arith, e, lower, c.requires.bound)) c.in-Greater.is w in
+    let known = right_known ks key old m m1 c.in-Some.at c.args.root c.in-Ok.opened grows p x b y h named o c.in-Ok-open_left.ready.wing c.in-Ok-remove-2.ensures.held ready.0 in
+    right_done ks key old m m1 c.in-Some.at c.args.root c.in-Ok.opened grows p x b y h named o m2 c.in-Ok-remove-2.right.root c.balance-root-in-Ok-remove-2.result c.in-Greater.is w (c.balance-root-in-Ok-remove-2.ensures.balanced ks _ _ _ sides known.0 known.1)
 
 pub returns-in-Err-remove-2-clause-removed : goal.returns-in-Err-remove-2-clause-removed
 returns-in-Err-remove-2-clause-removed g t c leaf p h lower = absurd (no_root c.args.sw.now c.args.root c.in-Some.at c.in-Some.is h.root_is)
@@ -130,12 +147,18 @@ returns-in-Err-remove-2-clause-removed g t c (node x b y) p h lower =
     let old = place c.args.sw.now (g.V.Vault.outside c.args.vault.now) in
     let named = root_named old.heap c.args.root c.in-Some.at b.name c.in-Some.is h.root_is in
     let e = c.height-height.ensures.some ks c.in-Some.at b.name (row_of x b y) refl named h.stands.0 in
-    let m = place c.open_node.new.sw (g.V.Vault.outside c.open_node.new.vault) in
-    let o = c.in-Ok.ensures.opens x b y h.stands named in
-    let here = place_touched old m c.in-Ok.ensures.grows p in
-    let same = key_in_kept old.heap m.heap c.args.key c.in-Ok.ensures.keeps c.requires.key in
-    fetch_back old.outside m.outside c.in-Err-remove-2.fault c.in-Ok.ensures.grows.contents
-    (c.in-Err-remove-2.ensures.removed y here (tree_right ks old m c.args.root c.in-Ok.opened.right c.in-Ok.ensures.grows x b y h o.right) (omega (arith, e)))
+    let m0 = place c.open_node.new.sw (g.V.Vault.outside c.open_node.new.vault) in
+    let o0 = c.in-Ok.ensures.opens x b y h.stands named in
+    let s = stands_grown (rows_of ks old) (rows_of ks m0) (c.in-Ok.ensures.grows.rows ks) (node x b y) h.stands in
+    let m = place c.open_left.new.sw (g.V.Vault.outside c.open_left.new.vault) in
+    let grows = touches_then old m0 m c.in-Ok.ensures.grows c.in-Ok-open_left.ensures.grows in
+    let o = opened_kept ks m0.heap m.heap c.in-Ok-open_left.ensures.grows.named key x b y c.in-Ok.opened o0 in
+    let ready = c.in-Ok-open_left.ensures.wing ks y x s.2 s.1 o0.right o0.left (omega (arith, e)) (omega (arith, e)) in
+    let here = place_touched old m grows p in
+    let keeps = keeps-trans old.heap m0.heap m.heap c.in-Ok.ensures.keeps c.in-Ok-open_left.ensures.keeps in
+    let same = key_in_kept old.heap m.heap c.args.key keeps c.requires.key in
+    let side = tree_right ks old m c.args.root c.in-Ok.opened.right grows x b y h o.right in
+    fetch_back old.outside m.outside c.in-Err-remove-2.fault grows.contents (c.in-Err-remove-2.ensures.removed y here side ready.1)
 
 pub returns-in-Ok-merge_sides-clause-removed : goal.returns-in-Ok-merge_sides-clause-removed
 returns-in-Ok-merge_sides-clause-removed g t c leaf p h lower = absurd (no_root c.args.sw.now c.args.root c.in-Some.at c.in-Some.is h.root_is)
@@ -167,31 +190,43 @@ pub returns-in_default-clause-counted : goal.returns-in_default-clause-counted
 returns-in_default-clause-counted g t c tree h lower =
     gone_leaf (kind_of c.args.key) (key_in c.args.sw.now c.args.key) (place c.args.sw.now (g.V.Vault.outside c.args.vault.now)) c.args.root c.in_default.is tree h
 
-pub returns-in-Ok-balance-clause-counted : goal.returns-in-Ok-balance-clause-counted
-returns-in-Ok-balance-clause-counted g t c leaf h lower = absurd (no_root c.args.sw.now c.args.root c.in-Some.at c.in-Some.is h.root_is)
-returns-in-Ok-balance-clause-counted g t c (node x b y) h lower =
+pub returns-in-Ok-remove-clause-counted : goal.returns-in-Ok-remove-clause-counted
+returns-in-Ok-remove-clause-counted g t c leaf h lower = absurd (no_root c.args.sw.now c.args.root c.in-Some.at c.in-Some.is h.root_is)
+returns-in-Ok-remove-clause-counted g t c (node x b y) h lower =
     let ks = kind_of c.args.key in
     let key = key_in c.args.sw.now c.args.key in
     let old = place c.args.sw.now (g.V.Vault.outside c.args.vault.now) in
     let named = root_named old.heap c.args.root c.in-Some.at b.name c.in-Some.is h.root_is in
     let e = c.height-height.ensures.some ks c.in-Some.at b.name (row_of x b y) refl named h.stands.0 in
-    let m = place c.open_node.new.sw (g.V.Vault.outside c.open_node.new.vault) in
-    let o = c.in-Ok.ensures.opens x b y h.stands named in
-    let same = key_in_kept old.heap m.heap c.args.key c.in-Ok.ensures.keeps c.requires.key in
-    gone_left ks key old m c.args.root c.in-Ok.opened.left c.height-height.result c.in-Ok.ensures.grows x b y h e (key_in m.heap c.args.key) same c.in-Ok-remove.left c.in-Ok-remove.ensures.counted o.left (sym o.order ∙ c.in-Less.is)
+    let m0 = place c.open_node.new.sw (g.V.Vault.outside c.open_node.new.vault) in
+    let o0 = c.in-Ok.ensures.opens x b y h.stands named in
+    let s = stands_grown (rows_of ks old) (rows_of ks m0) (c.in-Ok.ensures.grows.rows ks) (node x b y) h.stands in
+    let m = place c.open_right.new.sw (g.V.Vault.outside c.open_right.new.vault) in
+    let grows = touches_then old m0 m c.in-Ok.ensures.grows c.in-Ok-open_right.ensures.grows in
+    let o = opened_kept ks m0.heap m.heap c.in-Ok-open_right.ensures.grows.named key x b y c.in-Ok.opened o0 in
+    let ready = c.in-Ok-open_right.ensures.wing ks x y s.1 s.2 o0.left o0.right (omega (arith, e)) (omega (arith, e)) in
+    let keeps = keeps-trans old.heap m0.heap m.heap c.in-Ok.ensures.keeps c.in-Ok-open_right.ensures.keeps in
+    let same = key_in_kept old.heap m.heap c.args.key keeps c.requires.key in
+    gone_left ks key old m c.args.root c.in-Ok.opened.left c.in-Ok-open_right.ready.bound grows x b y h ready.1 (key_in m.heap c.args.key) same c.in-Ok-remove.left c.in-Ok-remove.ensures.counted o.left (sym o.order ∙ c.in-Less.is)
 
-pub returns-in-Ok-balance-2-clause-counted : goal.returns-in-Ok-balance-2-clause-counted
-returns-in-Ok-balance-2-clause-counted g t c leaf h lower = absurd (no_root c.args.sw.now c.args.root c.in-Some.at c.in-Some.is h.root_is)
-returns-in-Ok-balance-2-clause-counted g t c (node x b y) h lower =
+pub returns-in-Ok-remove-2-clause-counted : goal.returns-in-Ok-remove-2-clause-counted
+returns-in-Ok-remove-2-clause-counted g t c leaf h lower = absurd (no_root c.args.sw.now c.args.root c.in-Some.at c.in-Some.is h.root_is)
+returns-in-Ok-remove-2-clause-counted g t c (node x b y) h lower =
     let ks = kind_of c.args.key in
     let key = key_in c.args.sw.now c.args.key in
     let old = place c.args.sw.now (g.V.Vault.outside c.args.vault.now) in
     let named = root_named old.heap c.args.root c.in-Some.at b.name c.in-Some.is h.root_is in
     let e = c.height-height.ensures.some ks c.in-Some.at b.name (row_of x b y) refl named h.stands.0 in
-    let m = place c.open_node.new.sw (g.V.Vault.outside c.open_node.new.vault) in
-    let o = c.in-Ok.ensures.opens x b y h.stands named in
-    let same = key_in_kept old.heap m.heap c.args.key c.in-Ok.ensures.keeps c.requires.key in
-    gone_right ks key old m c.args.root c.in-Ok.opened.right c.height-height.result c.in-Ok.ensures.grows x b y h e (key_in m.heap c.args.key) same c.in-Ok-remove-2.right c.in-Ok-remove-2.ensures.counted o.right (sym o.order ∙ c.in-Greater.is)
+    let m0 = place c.open_node.new.sw (g.V.Vault.outside c.open_node.new.vault) in
+    let o0 = c.in-Ok.ensures.opens x b y h.stands named in
+    let s = stands_grown (rows_of ks old) (rows_of ks m0) (c.in-Ok.ensures.grows.rows ks) (node x b y) h.stands in
+    let m = place c.open_left.new.sw (g.V.Vault.outside c.open_left.new.vault) in
+    let grows = touches_then old m0 m c.in-Ok.ensures.grows c.in-Ok-open_left.ensures.grows in
+    let o = opened_kept ks m0.heap m.heap c.in-Ok-open_left.ensures.grows.named key x b y c.in-Ok.opened o0 in
+    let ready = c.in-Ok-open_left.ensures.wing ks y x s.2 s.1 o0.right o0.left (omega (arith, e)) (omega (arith, e)) in
+    let keeps = keeps-trans old.heap m0.heap m.heap c.in-Ok.ensures.keeps c.in-Ok-open_left.ensures.keeps in
+    let same = key_in_kept old.heap m.heap c.args.key keeps c.requires.key in
+    gone_right ks key old m c.args.root c.in-Ok.opened.right c.in-Ok-open_left.ready.bound grows x b y h ready.1 (key_in m.heap c.args.key) same c.in-Ok-remove-2.right c.in-Ok-remove-2.ensures.counted o.right (sym o.order ∙ c.in-Greater.is)
 
 pub returns-in-Ok-merge_sides-clause-counted : goal.returns-in-Ok-merge_sides-clause-counted
 returns-in-Ok-merge_sides-clause-counted g t c leaf h lower = absurd (no_root c.args.sw.now c.args.root c.in-Some.at c.in-Some.is h.root_is)
@@ -205,26 +240,91 @@ returns-in-Ok-merge_sides-clause-counted g t c (node x b y) h lower =
     let o = c.in-Ok.ensures.opens x b y h.stands named in
     gone_here ks key x b y (sym o.order ∙ c.in-Equal.is)
 
-pub returns-in-Ok-balance-clause-held : goal.returns-in-Ok-balance-clause-held
-returns-in-Ok-balance-clause-held g t c = record {
-  nodes = λ at h. c.in-Ok-balance.ensures.held.nodes at (c.in-Ok-remove.ensures.held.nodes at (c.in-Ok.ensures.grows.nodes at h));
-  named = λ at n h. c.in-Ok-balance.ensures.held.named at n (c.in-Ok-remove.ensures.held.named at n (c.in-Ok.ensures.grows.named at n h));
-}
-
-pub returns-in-Ok-balance-2-clause-held : goal.returns-in-Ok-balance-2-clause-held
-returns-in-Ok-balance-2-clause-held g t c = record {
-  nodes = λ at h. c.in-Ok-balance-2.ensures.held.nodes at (c.in-Ok-remove-2.ensures.held.nodes at (c.in-Ok.ensures.grows.nodes at h));
-  named = λ at n h. c.in-Ok-balance-2.ensures.held.named at n (c.in-Ok-remove-2.ensures.held.named at n (c.in-Ok.ensures.grows.named at n h));
-}
-
 pub returns-in_default-clause-spares : goal.returns-in_default-clause-spares
 returns-in_default-clause-spares g t c = spares_none c.args.sw.now (g.V.Vault.outside c.args.vault.now)
 
 pub returns-in-Ok-merge_sides-clause-spares : goal.returns-in-Ok-merge_sides-clause-spares
 returns-in-Ok-merge_sides-clause-spares g t c = spares_then _ _ _ _ _ _ (spares_touched _ _ _ _ c.in-Ok.ensures.keeps c.in-Ok.ensures.grows) c.in-Ok-merge_sides.ensures.spares
 
-pub returns-in-Ok-balance-clause-spares : goal.returns-in-Ok-balance-clause-spares
-returns-in-Ok-balance-clause-spares g t c = spares_then _ _ _ _ _ _ (spares_touched _ _ _ _ c.in-Ok.ensures.keeps c.in-Ok.ensures.grows) (spares_then _ _ _ _ _ _ c.in-Ok-remove.ensures.spares c.in-Ok-balance.ensures.spares)
+pub returns-in_default-clause-brings : goal.returns-in_default-clause-brings
+returns-in_default-clause-brings g t c = brings_none c.args.sw.now _
 
-pub returns-in-Ok-balance-2-clause-spares : goal.returns-in-Ok-balance-2-clause-spares
-returns-in-Ok-balance-2-clause-spares g t c = spares_then _ _ _ _ _ _ (spares_touched _ _ _ _ c.in-Ok.ensures.keeps c.in-Ok.ensures.grows) (spares_then _ _ _ _ _ _ c.in-Ok-remove-2.ensures.spares c.in-Ok-balance-2.ensures.spares)
+pub returns-then-height-eq0-clause-brings : goal.returns-then-height-eq0-clause-brings
+returns-then-height-eq0-clause-brings g t c = brings_none c.args.sw.now _
+
+pub returns-then-height-eq0-clause-still : goal.returns-then-height-eq0-clause-still
+returns-then-height-eq0-clause-still g t c = keeps-refl c.args.sw.now
+
+pub returns-in-Err-clause-brings : goal.returns-in-Err-clause-brings
+returns-in-Err-clause-brings g t c = brings_more _ _ 2 _ (omega (arith, c.if-height-bound.false)) c.open_node.ensures.brings
+
+pub returns-in-Ok-merge_sides-clause-brings : goal.returns-in-Ok-merge_sides-clause-brings
+returns-in-Ok-merge_sides-clause-brings g t c = brings_then _ _ _ 2 (3 * c.height-height.result + 1) _ c.in-Ok-merge_sides.ensures.spares.lasts (omega (arith, c.if-height-bound.false)) c.open_node.ensures.brings c.merge_sides.ensures.brings
+
+pub returns-in-Err-merge_sides-clause-brings : goal.returns-in-Err-merge_sides-clause-brings
+returns-in-Err-merge_sides-clause-brings g t c = brings_touched _ _ _ 2 (3 * c.height-height.result + 1) _ c.in-Err-merge_sides.ensures.still (omega (arith, c.if-height-bound.false)) c.open_node.ensures.brings c.merge_sides.ensures.brings
+
+pub returns-in-Err-merge_sides-clause-still : goal.returns-in-Err-merge_sides-clause-still
+returns-in-Err-merge_sides-clause-still g t c = keeps-trans _ _ _ c.in-Ok.ensures.keeps c.in-Err-merge_sides.ensures.still
+
+pub returns-in-Ok-remove-clause-held : goal.returns-in-Ok-remove-clause-held
+returns-in-Ok-remove-clause-held g t c = record {
+  nodes = λ at h. c.balance-root.ensures.held.nodes at (c.in-Ok-remove.ensures.held.nodes at (c.in-Ok-open_right.ensures.grows.nodes at (c.in-Ok.ensures.grows.nodes at h)));
+  named = λ at n h. c.balance-root.ensures.held.named at n (c.in-Ok-remove.ensures.held.named at n (c.in-Ok-open_right.ensures.grows.named at n (c.in-Ok.ensures.grows.named at n h)));
+}
+
+pub returns-in-Ok-remove-clause-spares : goal.returns-in-Ok-remove-clause-spares
+returns-in-Ok-remove-clause-spares g t c = spares_then _ _ _ _ _ _ (spares_then _ _ _ _ _ _ (spares_touched _ _ _ _ c.in-Ok.ensures.keeps c.in-Ok.ensures.grows) (spares_touched _ _ _ _ c.in-Ok-open_right.ensures.keeps c.in-Ok-open_right.ensures.grows)) (spares_then _ _ _ _ _ _ c.in-Ok-remove.ensures.spares c.balance-root.ensures.spares)
+
+pub returns-in-Err-open_right-clause-brings : goal.returns-in-Err-open_right-clause-brings
+returns-in-Err-open_right-clause-brings g t c = brings_touched _ _ _ 2 4 _ c.in-Err-open_right.ensures.still (omega (arith, c.if-height-eq0.false, c.if-height-bound.false)) c.open_node.ensures.brings c.in-Err-open_right.ensures.brings
+
+pub returns-in-Ok-remove-clause-brings : goal.returns-in-Ok-remove-clause-brings
+returns-in-Ok-remove-clause-brings g t c =
+    brings_written _ _ _ _ (2 + (3 * c.height-height.result + 1 - 3 * c.in-Ok-open_right.ready.bound)) (3 * c.in-Ok-open_right.ready.bound) _ c.in-Ok-remove.ensures.spares.lasts c.balance-root.ensures.spares.lasts c.balance-root.ensures.none (omega (arith, c.if-height-bound.false, c.in-Ok-open_right.ensures.bound))
+    (brings_touched _ _ _ 2 (3 * c.height-height.result + 1 - 3 * c.in-Ok-open_right.ready.bound) (2 + (3 * c.height-height.result + 1 - 3 * c.in-Ok-open_right.ready.bound)) c.in-Ok-open_right.ensures.keeps (omega arith) c.open_node.ensures.brings c.in-Ok-open_right.ensures.brings) c.remove.ensures.brings
+
+pub returns-in-Err-remove-clause-brings : goal.returns-in-Err-remove-clause-brings
+returns-in-Err-remove-clause-brings g t c =
+    brings_then _ _ _ (2 + (3 * c.height-height.result + 1 - 3 * c.in-Ok-open_right.ready.bound)) (3 * c.in-Ok-open_right.ready.bound) _ (keeps_lasts _ _ c.in-Err-remove.ensures.still) (omega (arith, c.if-height-bound.false, c.in-Ok-open_right.ensures.bound))
+    (brings_touched _ _ _ 2 (3 * c.height-height.result + 1 - 3 * c.in-Ok-open_right.ready.bound) (2 + (3 * c.height-height.result + 1 - 3 * c.in-Ok-open_right.ready.bound)) c.in-Ok-open_right.ensures.keeps (omega arith) c.open_node.ensures.brings c.in-Ok-open_right.ensures.brings) c.remove.ensures.brings
+
+pub returns-in-Err-open_right-clause-still : goal.returns-in-Err-open_right-clause-still
+returns-in-Err-open_right-clause-still g t c = keeps-trans _ _ _ c.in-Ok.ensures.keeps c.in-Err-open_right.ensures.still
+
+pub returns-in-Err-remove-clause-still : goal.returns-in-Err-remove-clause-still
+returns-in-Err-remove-clause-still g t c = keeps-trans _ _ _ (keeps-trans _ _ _ c.in-Ok.ensures.keeps c.in-Ok-open_right.ensures.keeps) c.in-Err-remove.ensures.still
+
+pub returns-in-Ok-remove-2-clause-held : goal.returns-in-Ok-remove-2-clause-held
+returns-in-Ok-remove-2-clause-held g t c = record {
+  nodes = λ at h. c.balance-root-in-Ok-remove-2.ensures.held.nodes at (c.in-Ok-remove-2.ensures.held.nodes at (c.in-Ok-open_left.ensures.grows.nodes at (c.in-Ok.ensures.grows.nodes at h)));
+  named = λ at n h. c.balance-root-in-Ok-remove-2.ensures.held.named at n (c.in-Ok-remove-2.ensures.held.named at n (c.in-Ok-open_left.ensures.grows.named at n (c.in-Ok.ensures.grows.named at n h)));
+}
+
+pub returns-in-Ok-remove-2-clause-spares : goal.returns-in-Ok-remove-2-clause-spares
+returns-in-Ok-remove-2-clause-spares g t c = spares_then _ _ _ _ _ _ (spares_then _ _ _ _ _ _ (spares_touched _ _ _ _ c.in-Ok.ensures.keeps c.in-Ok.ensures.grows) (spares_touched _ _ _ _ c.in-Ok-open_left.ensures.keeps c.in-Ok-open_left.ensures.grows)) (spares_then _ _ _ _ _ _ c.in-Ok-remove-2.ensures.spares c.balance-root-in-Ok-remove-2.ensures.spares)
+
+pub returns-in-Err-open_left-clause-brings : goal.returns-in-Err-open_left-clause-brings
+returns-in-Err-open_left-clause-brings g t c = brings_touched _ _ _ 2 4 _ c.in-Err-open_left.ensures.still (omega (arith, c.if-height-eq0.false, c.if-height-bound.false)) c.open_node.ensures.brings c.in-Err-open_left.ensures.brings
+
+pub returns-in-Ok-remove-2-clause-brings : goal.returns-in-Ok-remove-2-clause-brings
+returns-in-Ok-remove-2-clause-brings g t c =
+    brings_written _ _ _ _ (2 + (3 * c.height-height.result + 1 - 3 * c.in-Ok-open_left.ready.bound)) (3 * c.in-Ok-open_left.ready.bound) _ c.in-Ok-remove-2.ensures.spares.lasts c.balance-root-in-Ok-remove-2.ensures.spares.lasts c.balance-root-in-Ok-remove-2.ensures.none (omega (arith, c.if-height-bound.false, c.in-Ok-open_left.ensures.bound))
+    (brings_touched _ _ _ 2 (3 * c.height-height.result + 1 - 3 * c.in-Ok-open_left.ready.bound) (2 + (3 * c.height-height.result + 1 - 3 * c.in-Ok-open_left.ready.bound)) c.in-Ok-open_left.ensures.keeps (omega arith) c.open_node.ensures.brings c.in-Ok-open_left.ensures.brings) c.remove-in-Greater.ensures.brings
+
+pub returns-in-Err-remove-2-clause-brings : goal.returns-in-Err-remove-2-clause-brings
+returns-in-Err-remove-2-clause-brings g t c =
+    brings_then _ _ _ (2 + (3 * c.height-height.result + 1 - 3 * c.in-Ok-open_left.ready.bound)) (3 * c.in-Ok-open_left.ready.bound) _ (keeps_lasts _ _ c.in-Err-remove-2.ensures.still) (omega (arith, c.if-height-bound.false, c.in-Ok-open_left.ensures.bound))
+    (brings_touched _ _ _ 2 (3 * c.height-height.result + 1 - 3 * c.in-Ok-open_left.ready.bound) (2 + (3 * c.height-height.result + 1 - 3 * c.in-Ok-open_left.ready.bound)) c.in-Ok-open_left.ensures.keeps (omega arith) c.open_node.ensures.brings c.in-Ok-open_left.ensures.brings) c.remove-in-Greater.ensures.brings
+
+pub returns-in-Err-open_left-clause-still : goal.returns-in-Err-open_left-clause-still
+returns-in-Err-open_left-clause-still g t c = keeps-trans _ _ _ c.in-Ok.ensures.keeps c.in-Err-open_left.ensures.still
+
+pub returns-in-Err-remove-2-clause-still : goal.returns-in-Err-remove-2-clause-still
+returns-in-Err-remove-2-clause-still g t c = keeps-trans _ _ _ (keeps-trans _ _ _ c.in-Ok.ensures.keeps c.in-Ok-open_left.ensures.keeps) c.in-Err-remove-2.ensures.still
+
+pub balance-root-requires-clause-wing : goal.balance-root-requires-clause-wing
+balance-root-requires-clause-wing g t c = wing_held_kept c.open_right.new.sw c.remove.new.sw c.in-Ok-remove.ensures.held.nodes c.in-Ok-open_right.ready.wing c.in-Ok-open_right.ensures.held
+
+pub balance-root-requires-in-Ok-remove-2-clause-wing : goal.balance-root-requires-in-Ok-remove-2-clause-wing
+balance-root-requires-in-Ok-remove-2-clause-wing g t c = wing_held_kept c.open_left.new.sw c.remove-in-Greater.new.sw c.in-Ok-remove-2.ensures.held.nodes c.in-Ok-open_left.ready.wing c.in-Ok-open_left.ensures.held

@@ -1,4 +1,4 @@
-use Rattle.std.proofs.Common.{sym, ◌∙◌, inl, inr}
+use Rattle.std.proofs.Common.{sym, ◌∙◌, arith, inl, inr}
 use Rattle.avl_trees.specs.Trees.{node}
 use Rattle.avl_trees.specs.Standing.{row_of}
 use Rattle.avl_trees.proofs.Standing.{stands_grown}
@@ -6,6 +6,8 @@ use Rattle.table_nodes.specs.Sought.{kind_of}
 use Rattle.table_nodes.specs.Steps.{place, rows_of}
 use Rattle.table_nodes.proofs.NodeLaws.{fetch_back}
 use Rattle.table_nodes.proofs.StepLaws.{is_side}
+use Rattle.heap_places.proofs.of_swizzle.TouchLaws.{keeps-trans}
+use Rattle.table_nodes.proofs.BringLaws.{brings_touched}
 use Rattle.table_nodes.proofs.search.look.Goals as goal
 
 pub returns-in-Err-clause-steps : goal.returns-in-Err-clause-steps
@@ -45,3 +47,21 @@ returns-in-Err-side-2-clause-steps g c x b y s named =
     let t = stands_grown (rows_of ks p) (rows_of ks m) (c.in-Ok.ensures.grows.rows ks) (node x b y) s in
     fetch_back p.outside m.outside c.in-Err-side-2.fault c.in-Ok.ensures.grows.contents
     (c.in-Err-side-2.ensures.sound ks b.name (row_of x b y) (c.in-Ok.ensures.grows.named c.args.at b.name named) t.0 (is_side ks m y t.2))
+
+pub returns-in-Ok-side-clause-brings : goal.returns-in-Ok-side-clause-brings
+returns-in-Ok-side-clause-brings g c = brings_touched _ _ _ 0 1 1 c.in-Ok-side.ensures.keeps (omega arith) c.in-Ok.ensures.brings c.side.ensures.brings
+
+pub returns-in-Err-side-clause-brings : goal.returns-in-Err-side-clause-brings
+returns-in-Err-side-clause-brings g c = brings_touched _ _ _ 0 1 1 c.in-Err-side.ensures.still (omega arith) c.in-Ok.ensures.brings c.side.ensures.brings
+
+pub returns-in-Err-side-clause-still : goal.returns-in-Err-side-clause-still
+returns-in-Err-side-clause-still g c = keeps-trans _ _ _ c.in-Ok.ensures.keeps c.in-Err-side.ensures.still
+
+pub returns-in-Ok-side-2-clause-brings : goal.returns-in-Ok-side-2-clause-brings
+returns-in-Ok-side-2-clause-brings g c = brings_touched _ _ _ 0 1 1 c.in-Ok-side-2.ensures.keeps (omega arith) c.in-Ok.ensures.brings c.side-in-Greater.ensures.brings
+
+pub returns-in-Err-side-2-clause-brings : goal.returns-in-Err-side-2-clause-brings
+returns-in-Err-side-2-clause-brings g c = brings_touched _ _ _ 0 1 1 c.in-Err-side-2.ensures.still (omega arith) c.in-Ok.ensures.brings c.side-in-Greater.ensures.brings
+
+pub returns-in-Err-side-2-clause-still : goal.returns-in-Err-side-2-clause-still
+returns-in-Err-side-2-clause-still g c = keeps-trans _ _ _ c.in-Ok.ensures.keeps c.in-Err-side-2.ensures.still

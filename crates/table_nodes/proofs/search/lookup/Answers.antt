@@ -1,8 +1,10 @@
-use Rattle.std.proofs.Common.{◌∙◌, Option, Ok, Err, ℕ, subst, arith}
+use Rattle.std.proofs.Common.{◌∙◌, ◌-◌, Option, Ok, Err, ℕ, subst, arith}
 use Rattle.heap_places.proofs.of_swizzle.TouchLaws.{keeps-trans}
 use Rattle.table_nodes.specs.Sought.{kind_of, key_in}
 use Rattle.table_nodes.specs.Steps.{place}
-use Rattle.table_nodes.specs.Searching.{IsDown, IsStep}
+use Rattle.table_nodes.specs.Bringing.{Brings}
+use Rattle.table_nodes.specs.Searching.{IsDown, IsStep, came_by}
+use Rattle.table_nodes.proofs.BringLaws.{brings_more, brings_touched}
 use Rattle.table_nodes.specs.declared.search.Step.{Step}
 use Rattle.table_nodes.specs.declared.search.Step.TheVariants.{Found, Down}
 use Rattle.table_nodes.proofs.NodeLaws.{fetch_back}
@@ -80,6 +82,9 @@ loop-at-preserved g c =
       same = key_in_kept now.heap m.heap c.args.key c.in-Ok-Down.ensures.keeps c.loop-at.invariant.key ∙ c.loop-at.invariant.same;
       keeps = keeps-trans old.heap now.heap m.heap c.loop-at.invariant.keeps c.in-Ok-Down.ensures.keeps;
       grows = touches_then old now m c.loop-at.invariant.grows c.in-Ok-Down.ensures.grows;
+      more = omega (arith, c.tick.ensures, c.loop-at.invariant.more);
+      brings = brings_touched old.heap now.heap m.heap _ 1 _ c.in-Ok-Down.ensures.keeps (omega (arith, c.tick.ensures, c.loop-at.invariant.more)) c.loop-at.invariant.brings
+          (subst (λ (w : Step). Brings now.heap m.heap (came_by w)) c.in-Ok-Down.field-0-is c.in-Ok-Down.ensures.brings);
       alive = c.in-Ok-Down.ensures.alive;
       sought = λ t h low.
           let s = at_node ks wanted now c.in-Some.node c.loop-at.bound c.args.steps.now c.loop-at.steps t (subst (λ (i : Option ℕ). Sought ks wanted now i c.loop-at.bound c.args.steps.now c.loop-at.steps t) c.in-Some.is (c.loop-at.invariant.sought t h low)) in
@@ -113,3 +118,27 @@ returns-clause-charged g c t h low =
     let wanted = key_in c.args.sw.now c.args.key in
     let now = place c.loop-at.sw (g.V.Vault.outside c.loop-at.vault) in
     looked_none ks wanted now c.loop-at.bound c.args.steps.now c.loop-at.steps t (subst (λ (i : Option ℕ). Sought ks wanted now i c.loop-at.bound c.args.steps.now c.loop-at.steps t) c.in_default.is (c.loop-at.invariant.sought t h low))
+
+pub returns-then-height-eq0-clause-brings : goal.returns-then-height-eq0-clause-brings
+returns-then-height-eq0-clause-brings g c = brings_more _ _ _ _ (omega (arith, c.tick.ensures, c.loop-at.invariant.more)) c.loop-at.invariant.brings
+
+pub returns-in-Ok-clause-brings : goal.returns-in-Ok-clause-brings
+returns-in-Ok-clause-brings g c =
+    let found = subst (λ (w : Step). Brings c.loop-at.sw c.look.new.sw (came_by w)) c.in-Ok-Found.field-0-is c.in-Ok-Found.ensures.brings in
+    brings_touched _ _ _ (c.loop-at.steps - c.args.steps.now) 1 _ c.in-Ok.ensures.keeps (omega (arith, c.tick.ensures, c.loop-at.invariant.more))
+    (brings_touched _ _ _ (c.loop-at.steps - c.args.steps.now) 0 _ c.in-Ok-Found.ensures.keeps (omega arith) c.loop-at.invariant.brings found) c.value.ensures.brings
+
+pub returns-in-Err-value-clause-brings : goal.returns-in-Err-value-clause-brings
+returns-in-Err-value-clause-brings g c =
+    let found = subst (λ (w : Step). Brings c.loop-at.sw c.look.new.sw (came_by w)) c.in-Ok-Found.field-0-is c.in-Ok-Found.ensures.brings in
+    brings_touched _ _ _ (c.loop-at.steps - c.args.steps.now) 1 _ c.in-Err-value.ensures.still (omega (arith, c.tick.ensures, c.loop-at.invariant.more))
+    (brings_touched _ _ _ (c.loop-at.steps - c.args.steps.now) 0 _ c.in-Ok-Found.ensures.keeps (omega arith) c.loop-at.invariant.brings found) c.value.ensures.brings
+
+pub returns-in-Err-clause-brings : goal.returns-in-Err-clause-brings
+returns-in-Err-clause-brings g c = brings_touched _ _ _ (c.loop-at.steps - c.args.steps.now) 1 _ c.in-Err.ensures.still (omega (arith, c.tick.ensures, c.loop-at.invariant.more)) c.loop-at.invariant.brings c.in-Err.ensures.brings
+
+pub returns-in-Err-value-clause-still : goal.returns-in-Err-value-clause-still
+returns-in-Err-value-clause-still g c = keeps-trans _ _ _ (keeps-trans _ _ _ c.loop-at.invariant.keeps c.in-Ok-Found.ensures.keeps) c.in-Err-value.ensures.still
+
+pub returns-in-Err-clause-still : goal.returns-in-Err-clause-still
+returns-in-Err-clause-still g c = keeps-trans _ _ _ c.loop-at.invariant.keeps c.in-Err.ensures.still

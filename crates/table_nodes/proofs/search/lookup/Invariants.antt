@@ -1,7 +1,8 @@
 -- What is sought in the tree is sought in the part that is left, which is lower than the bound; each step lowers it.
-use Rattle.std.proofs.Common.{◌≡◌, ◌+◌, ◌≤◌, ◌<◌, IfSome}
+use Rattle.std.proofs.Common.{◌≡◌, ◌+◌, ◌-◌, ◌≤◌, ◌<◌, IfSome}
 use Rattle.heap_places.specs.swizzle.Touch.{Keeps}
 use Rattle.avl_trees.specs.Trees.{Tree, height}
+use Rattle.table_nodes.specs.Bringing.{Brings}
 use Rattle.table_nodes.specs.Nodes.{IsNode, Grows}
 use Rattle.table_nodes.specs.Sought.{IsKeyHeld, kind_of, key_in}
 use Rattle.table_nodes.specs.Searching.{IsTree}
@@ -23,6 +24,8 @@ invariant-loop-at g l =
       same : key_in l.sw l.key ≡ wanted;
       keeps : Keeps l.initial.sw l.sw;
       grows : Grows l.initial.sw l.sw (g.V.Vault.outside l.initial.vault) (g.V.Vault.outside l.vault);
+      more : l.initial.steps ≤ l.steps;
+      brings : Brings l.initial.sw l.sw (l.steps - l.initial.steps);
       alive : g.V.Vault.alive l.vault;
       sought : (t : Tree (I ks)) → IsTree ks old l.fn.root t → height t < l.initial.bound → Sought ks wanted now l.at l.bound l.initial.steps l.steps t;
     }

@@ -1,73 +1,36 @@
-use Rattle.std.proofs.Common.{IfSome, subst, arith}
+use Rattle.std.proofs.Common.{ℕ, Option, Some, IfSome, subst, arith}
 use Rattle.avl_trees.specs.Trees.{leaf, node}
-use Rattle.avl_trees.specs.Standing.{root_of, row_of}
-use Rattle.avl_trees.proofs.Standing.{stands_grown}
-use Rattle.table_nodes.specs.Nodes.{IsNode}
-use Rattle.table_nodes.specs.Steps.{place, rows_of, AreTurnedOut}
-use Rattle.table_nodes.proofs.NodeLaws.{fetch_back}
-use Rattle.table_nodes.proofs.StepLaws.{side_map, is_side, touches_then}
+use Rattle.avl_trees.specs.Standing.{root_of}
+use Rattle.table_nodes.specs.Nodes.{IsLinked}
+use Rattle.table_nodes.specs.Steps.{place, AreTurnedOut}
+use Rattle.table_nodes.proofs.StepLaws.{touches_none}
+use Rattle.table_nodes.proofs.WingLaws.{no_ends, the_ends}
 use Rattle.table_nodes.proofs.TurnLaws.{double_outer}
-use Rattle.table_nodes.proofs.Sparing.{spares_then, spares_touched}
+use Rattle.table_nodes.proofs.Sparing.{spares_then}
 use Rattle.table_nodes.proofs.turns.turn_outer.Goals as goal
 
-pub returns-in-Err-clause-turned : goal.returns-in-Err-clause-turned
-returns-in-Err-clause-turned g c ks l a leaf b y s = absurd (omega (arith, s.lower))
-returns-in-Err-clause-turned g c ks l a (node u d v) b y s =
-    let p0 = place c.args.sw.now (g.V.Vault.outside c.args.vault.now) in
-    let t = subst (λ i. AreTurnedOut ks p0 c.args.at c.args.right c.args.left i c.args.outer l a (node u d v) b y) c.in-Some.is s in
-    c.in-Err.ensures.sound ks d.name (row_of u d v) t.inner_is s.given.right.1.0 (is_side ks p0 u s.given.right.1.1)
+pub returns-in_default-clause-turned : goal.returns-in_default-clause-turned
+returns-in_default-clause-turned g c ks l a leaf b y s w = absurd (omega (arith, s.lower))
+returns-in_default-clause-turned g c ks l a (node u d v) b y s w = absurd (subst (λ (i : Option ℕ). IsLinked c.args.sw.now i (Some d.name)) c.in_default.is s.inner_is)
 
-pub returns-in-Err-side-clause-turned : goal.returns-in-Err-side-clause-turned
-returns-in-Err-side-clause-turned g c ks l a leaf b y s = absurd (omega (arith, s.lower))
-returns-in-Err-side-clause-turned g c ks l a (node u d v) b y s =
-    let p0 = place c.args.sw.now (g.V.Vault.outside c.args.vault.now) in
-    let p1 = place c.side.new.sw (g.V.Vault.outside c.side.new.vault) in
-    let t = subst (λ i. AreTurnedOut ks p0 c.args.at c.args.right c.args.left i c.args.outer l a (node u d v) b y) c.in-Some.is s in
-    let n = stands_grown (rows_of ks p0) (rows_of ks p1) (c.in-Ok.ensures.grows.rows ks) (node u d v) s.given.right.1 in
-    fetch_back p0.outside p1.outside _ c.in-Ok.ensures.grows.contents (c.in-Err-side.ensures.sound ks d.name (row_of u d v) (c.in-Ok.ensures.grows.named _ _ t.inner_is) n.0 (is_side ks p1 v n.2))
-
-pub set_sides-requires-3-clause-at : goal.set_sides-requires-3-clause-at
-set_sides-requires-3-clause-at g c =
-    c.set_sides-2.ensures.held.nodes _ (c.set_sides.ensures.held.nodes _ (c.in-Ok-side.ensures.grows.nodes _ (c.in-Ok.ensures.grows.nodes _ (subst (λ i. IfSome i (IsNode c.args.sw.now)) c.in-Some.is c.requires.inner))))
-
-pub set_sides-requires-3-clause-left : goal.set_sides-requires-3-clause-left
-set_sides-requires-3-clause-left g c =
-    c.set_sides-2.ensures.held.nodes _ (c.set_sides.ensures.held.nodes _ (c.in-Ok-side.ensures.grows.nodes _ (c.in-Ok.ensures.grows.nodes _ c.requires.at)))
-
-pub set_sides-requires-3-clause-right : goal.set_sides-requires-3-clause-right
-set_sides-requires-3-clause-right g c =
-    c.set_sides-2.ensures.held.nodes _ (c.set_sides.ensures.held.nodes _ (c.in-Ok-side.ensures.grows.nodes _ (c.in-Ok.ensures.grows.nodes _ c.requires.right)))
-
-pub set_sides-requires-2-clause-at : goal.set_sides-requires-2-clause-at
-set_sides-requires-2-clause-at g c = c.set_sides.ensures.held.nodes _ (c.in-Ok-side.ensures.grows.nodes _ (c.in-Ok.ensures.grows.nodes _ c.requires.right))
+pub returns-in_default-ends-clause-turned : goal.returns-in_default-ends-clause-turned
+returns-in_default-ends-clause-turned g c ks l a leaf b y s w = absurd (omega (arith, s.lower))
+returns-in_default-ends-clause-turned g c ks l a (node u d v) b y s w = absurd (no_ends c.args.sw.now c.args.ends u d v c.in_default-ends.is w)
 
 pub returns-clause-turned : goal.returns-clause-turned
-returns-clause-turned g c ks l a leaf b y s = absurd (omega (arith, s.lower))
-returns-clause-turned g c ks l a (node u d v) b y s =
-    let p0 = place c.args.sw.now (g.V.Vault.outside c.args.vault.now) in
-    let p1 = place c.side.new.sw (g.V.Vault.outside c.side.new.vault) in
-    let p2 = place c.side-2.new.sw (g.V.Vault.outside c.side-2.new.vault) in
-    let t = subst (λ i. AreTurnedOut ks p0 c.args.at c.args.right c.args.left i c.args.outer l a (node u d v) b y) c.in-Some.is s in
-    let n = stands_grown (rows_of ks p0) (rows_of ks p1) (c.in-Ok.ensures.grows.rows ks) (node u d v) s.given.right.1 in
-    let ub = c.in-Ok.ensures.side ks d.name (row_of u d v) t.inner_is s.given.right.1.0 in
-    let ub2 = Rattle.table_nodes.proofs.StepLaws.linked_kept p1.heap p2.heap c.in-Ok-side.ensures.grows.named c.in-Ok.before (root_of u) ub in
-    let vb = c.in-Ok-side.ensures.side ks d.name (row_of u d v) (c.in-Ok.ensures.grows.named _ _ t.inner_is) n.0 in
-    double_outer ks p0 p2 (place c.set_sides.new.sw p2.outside) (place c.set_sides-2.new.sw p2.outside) (place c.set_sides-3.new.sw p2.outside) c.args.at c.args.right c.in-Some.middle c.args.left c.in-Ok.before c.in-Ok-side.after c.args.outer
-    (touches_then p0 p1 p2 c.in-Ok.ensures.grows c.in-Ok-side.ensures.grows) c.set_sides.ensures.set c.set_sides-2.ensures.set c.set_sides-3.ensures.set l a u d v b y t ub2 vb
+returns-clause-turned g c ks l a leaf b y s w = absurd (omega (arith, s.lower))
+returns-clause-turned g c ks l a (node u d v) b y s w =
+    let p = place c.args.sw.now (g.V.Vault.outside c.args.vault.now) in
+    let t = subst (λ (i : Option ℕ). AreTurnedOut ks p c.args.at c.args.right c.args.left i c.args.sides.right l a (node u d v) b y) c.in-Some.is s in
+    let known = the_ends c.args.sw.now c.args.ends c.in-Some-ends.ends (node u d v) c.in-Some-ends.is w in
+    double_outer ks p p (place c.set_sides-2.new.sw (g.V.Vault.outside c.args.vault.now)) (place c.set_sides-3.new.sw (g.V.Vault.outside c.args.vault.now)) (place c.set_sides-4.new.sw (g.V.Vault.outside c.args.vault.now)) c.args.at c.args.right c.in-Some.middle c.args.left c.in-Some-ends.ends.left c.in-Some-ends.ends.right c.args.sides.right
+    (touches_none p s.here.heap) c.set_sides-2.ensures.set c.set_sides-3.ensures.set c.set_sides-4.ensures.set l a u d v b y t known.0 known.1
 
-pub returns-clause-root : goal.returns-clause-root
-returns-clause-root g c =
-    c.set_sides-3.ensures.held.nodes _ (c.set_sides-2.ensures.held.nodes _ (c.set_sides.ensures.held.nodes _ (c.in-Ok-side.ensures.grows.nodes _ (c.in-Ok.ensures.grows.nodes _ (subst (λ i. IfSome i (IsNode c.args.sw.now)) c.in-Some.is c.requires.inner)))))
+pub returns-clause-spares : goal.returns-clause-spares
+returns-clause-spares g c = spares_then _ _ _ _ _ _ c.set_sides-2.ensures.spares (spares_then _ _ _ _ _ _ c.set_sides-3.ensures.spares c.set_sides-4.ensures.spares)
 
 pub returns-clause-held : goal.returns-clause-held
 returns-clause-held g c = record {
-  nodes = λ at h. c.set_sides-3.ensures.held.nodes _ (c.set_sides-2.ensures.held.nodes _ (c.set_sides.ensures.held.nodes _ (c.in-Ok-side.ensures.grows.nodes _ (c.in-Ok.ensures.grows.nodes _ h))));
-  named = λ at n h. c.set_sides-3.ensures.held.named _ _ (c.set_sides-2.ensures.held.named _ _ (c.set_sides.ensures.held.named _ _ (c.in-Ok-side.ensures.grows.named _ _ (c.in-Ok.ensures.grows.named _ _ h))));
+  nodes = λ at h. c.set_sides-4.ensures.held.nodes at (c.set_sides-3.ensures.held.nodes at (c.set_sides-2.ensures.held.nodes at h));
+  named = λ at n h. c.set_sides-4.ensures.held.named at n (c.set_sides-3.ensures.held.named at n (c.set_sides-2.ensures.held.named at n h));
 }
-
-pub set_sides-requires-2-clause-right : goal.set_sides-requires-2-clause-right
-set_sides-requires-2-clause-right g c =
-    side_map (IsNode c.args.sw.now) (IsNode c.set_sides.new.sw) (λ n h. c.set_sides.ensures.held.nodes n (c.in-Ok-side.ensures.grows.nodes n (c.in-Ok.ensures.grows.nodes n h))) c.args.outer c.requires.outer
-
-pub returns-clause-spares : goal.returns-clause-spares
-returns-clause-spares g c = spares_then _ _ _ _ _ _ (spares_then _ _ _ _ _ _ (spares_touched _ _ _ _ c.in-Ok.ensures.keeps c.in-Ok.ensures.grows) (spares_touched _ _ _ _ c.in-Ok-side.ensures.keeps c.in-Ok-side.ensures.grows)) (spares_then _ _ _ _ _ _ c.set_sides.ensures.spares (spares_then _ _ _ _ _ _ c.set_sides-2.ensures.spares c.set_sides-3.ensures.spares))

@@ -24,7 +24,8 @@ returns-in-Ok-clause-ok g c =
     let is = subst (λ (n : Note). Switches {T = Unit {0}} {E = VolumeFault} (seen v.table (o v.host)) (seen z.table (o z.host)) v.table.committed.pages n.used n.directory (Ok tt))
     c.note-note.ensures c.in-Ok.ensures.switches in
     subst (λ (h : g.row.H.Denot). IsMigrated (o c.args.host) (o h) true) (sym c.release-in-Ok.ensures)
-    (committed_once (o c.args.host) (o v.host) v.live v.table c.in_ok-volume.ensures.ok (o z.host) z.table c.switch.ensures.past is.told is.images is.counts is.output is.kept)
+    (committed_once (o c.args.host) (o v.host) v.live v.table c.in_ok-volume.ensures.ok (o z.host) z.table c.switch.ensures.past is.told is.images is.kept is.stays
+    (g.met.H.Host.is_image z.host) (g.met.H.Host.one c.args.host) is.counts is.output)
 
 pub returns-in-Err-clause-err : goal.returns-in-Err-clause-err
 returns-in-Err-clause-err g c =

@@ -1,0 +1,5 @@
+use Rattle.bench_tables.specs.Scene.{IsSet}
+use Rattle.bench_tables.proofs.calls.enter_strings.Given as goal
+
+abbrev pub invariant-loop-number : goal.invariant-loop-number
+invariant-loop-number l = IsSet l.scene

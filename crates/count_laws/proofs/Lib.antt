@@ -1,0 +1,3 @@
+mod Like
+mod Calls
+mod Clauses

@@ -1,0 +1,5 @@
+pub mod Directories
+pub mod Entries
+pub mod Found
+pub mod Answers
+pub use Rattle.joint_ops.specs as joint_ops

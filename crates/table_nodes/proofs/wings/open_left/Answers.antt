@@ -1,0 +1,100 @@
+use Rattle.std.proofs.Common.{ℕ, ◌+◌, ◌*◌, ◌-◌, Option, Some, arith, subst}
+use Rattle.avl_trees.specs.Trees.{leaf, node}
+use Rattle.avl_trees.proofs.Standing.{stands_grown}
+use Rattle.heap_places.proofs.of_swizzle.TouchLaws.{keeps-refl, keeps-trans}
+use Rattle.table_nodes.specs.Nodes.{IsLinked}
+use Rattle.table_nodes.specs.Steps.{place, rows_of}
+use Rattle.table_nodes.specs.Wings.{IsLeftWing, IsRightWing}
+use Rattle.table_nodes.specs.declared.wing.Wing.{Wing}
+use Rattle.table_nodes.proofs.BringLaws.{brings_more, brings_none, brings_touched}
+use Rattle.table_nodes.proofs.NodeLaws.{fetch_back}
+use Rattle.table_nodes.proofs.Putting.{root_named, no_root}
+use Rattle.table_nodes.proofs.StepLaws.{height_is, touches_none, touches_then}
+use Rattle.table_nodes.proofs.WingLaws.{ends_kept, held_kept}
+use Rattle.table_nodes.proofs.wings.open_left.Goals as goal
+
+pub returns-then-above-height-clause-wing : goal.returns-then-above-height-clause-wing
+returns-then-above-height-clause-wing g c ks l r s t e f low high =
+    let p = place c.args.sw.now (g.V.Vault.outside c.args.vault.now) in
+    let hl = height_is ks p c.args.low c.height.result c.height.ensures.none (c.height.ensures.some ks) l s e in
+    let hr = height_is ks p c.args.high c.height-above.result c.height-above.ensures.none (c.height-above.ensures.some ks) r t f in
+    (λ lower. absurd (omega (arith, hl, hr, lower, c.if-above-height.true)), low)
+
+pub returns-in_default-clause-wing : goal.returns-in_default-clause-wing
+returns-in_default-clause-wing g c ks l leaf s t e f low high = (λ lower. tt, low)
+returns-in_default-clause-wing g c ks l (node u d v) s t e f low high = absurd (subst (λ (i : Option ℕ). IsLinked c.args.sw.now i (Some d.name)) c.in_default.is f)
+
+pub returns-then-above-bound-clause-wing : goal.returns-then-above-bound-clause-wing
+returns-then-above-bound-clause-wing g c ks l r s t e f low high =
+    let p = place c.args.sw.now (g.V.Vault.outside c.args.vault.now) in
+    let hr = height_is ks p c.args.high c.height-above.result c.height-above.ensures.none (c.height-above.ensures.some ks) r t f in
+    absurd (omega (arith, hr, high, c.if-above-bound.true))
+
+pub returns-in-Err-clause-wing : goal.returns-in-Err-clause-wing
+returns-in-Err-clause-wing g c ks l leaf s t e f low high = absurd (no_root c.args.sw.now c.args.high c.in-Some.at c.in-Some.is f)
+returns-in-Err-clause-wing g c ks l (node x b y) s t e f low high = c.in-Err.ensures.ends ks x b y t (root_named c.args.sw.now c.args.high c.in-Some.at b.name c.in-Some.is f)
+
+pub returns-in-Err-open_inner-clause-wing : goal.returns-in-Err-open_inner-clause-wing
+returns-in-Err-open_inner-clause-wing g c ks l leaf s t e f low high = absurd (no_root c.args.sw.now c.args.high c.in-Some.at c.in-Some.is f)
+returns-in-Err-open_inner-clause-wing g c ks l (node x b y) s t e f low high =
+    let p = place c.args.sw.now (g.V.Vault.outside c.args.vault.now) in
+    let m = place c.open_sides.new.sw (g.V.Vault.outside c.open_sides.new.vault) in
+    let ends = c.in-Ok.ensures.ends ks x b y t (root_named c.args.sw.now c.args.high c.in-Some.at b.name c.in-Some.is f) in
+    let s2 = stands_grown (rows_of ks p) (rows_of ks m) (c.in-Ok.ensures.grows.rows ks) (node x b y) t in
+    fetch_back p.outside m.outside c.in-Err-open_inner.fault c.in-Ok.ensures.grows.contents (c.in-Err-open_inner.ensures.ends ks x y s2.1 s2.2 ends.0 ends.1)
+
+pub returns-in-Ok-open_inner-clause-wing : goal.returns-in-Ok-open_inner-clause-wing
+returns-in-Ok-open_inner-clause-wing g c ks l leaf s t e f low high = absurd (no_root c.args.sw.now c.args.high c.in-Some.at c.in-Some.is f)
+returns-in-Ok-open_inner-clause-wing g c ks l (node x b y) s t e f low high =
+    let p = place c.args.sw.now (g.V.Vault.outside c.args.vault.now) in
+    let m = place c.open_sides.new.sw (g.V.Vault.outside c.open_sides.new.vault) in
+    let ends = c.in-Ok.ensures.ends ks x b y t (root_named c.args.sw.now c.args.high c.in-Some.at b.name c.in-Some.is f) in
+    let s2 = stands_grown (rows_of ks p) (rows_of ks m) (c.in-Ok.ensures.grows.rows ks) (node x b y) t in
+    let hl = height_is ks p c.args.low c.height.result c.height.ensures.none (c.height.ensures.some ks) l s e in
+    let hr = height_is ks p c.args.high c.height-above.result c.height-above.ensures.none (c.height-above.ensures.some ks) (node x b y) t f in
+    (λ lower. (ends_kept m.heap c.open_inner.new.sw c.in-Ok-open_inner.ensures.grows.named (Some c.in-Ok.sides) (node x b y) ends, c.in-Ok-open_inner.ensures.ends ks x y s2.1 s2.2 ends.0 ends.1), omega (arith, hl, hr, c.if-above-height.false))
+
+pub returns-in-Ok-open_inner-clause-held : goal.returns-in-Ok-open_inner-clause-held
+returns-in-Ok-open_inner-clause-held g c = (held_kept c.open_sides.new.sw c.open_inner.new.sw c.in-Ok-open_inner.ensures.grows.nodes c.in-Ok.sides c.in-Ok.ensures.held, tt, c.in-Ok-open_inner.ensures.held)
+
+pub returns-in-Ok-open_inner-clause-grows : goal.returns-in-Ok-open_inner-clause-grows
+returns-in-Ok-open_inner-clause-grows g c = touches_then (place c.args.sw.now (g.V.Vault.outside c.args.vault.now)) (place c.open_sides.new.sw (g.V.Vault.outside c.open_sides.new.vault)) (place c.open_inner.new.sw (g.V.Vault.outside c.open_inner.new.vault)) c.in-Ok.ensures.grows c.in-Ok-open_inner.ensures.grows
+
+pub returns-in-Ok-open_inner-clause-keeps : goal.returns-in-Ok-open_inner-clause-keeps
+returns-in-Ok-open_inner-clause-keeps g c = keeps-trans _ _ _ c.in-Ok.ensures.keeps c.in-Ok-open_inner.ensures.keeps
+
+pub returns-in-Err-open_inner-clause-still : goal.returns-in-Err-open_inner-clause-still
+returns-in-Err-open_inner-clause-still g c = keeps-trans _ _ _ c.in-Ok.ensures.keeps c.in-Err-open_inner.ensures.still
+
+pub returns-then-above-height-clause-grows : goal.returns-then-above-height-clause-grows
+returns-then-above-height-clause-grows g c = touches_none (place c.args.sw.now (g.V.Vault.outside c.args.vault.now)) c.sound.ensures
+
+pub returns-in_default-clause-grows : goal.returns-in_default-clause-grows
+returns-in_default-clause-grows g c = touches_none (place c.args.sw.now (g.V.Vault.outside c.args.vault.now)) c.sound.ensures
+
+pub returns-then-above-height-clause-keeps : goal.returns-then-above-height-clause-keeps
+returns-then-above-height-clause-keeps g c = keeps-refl c.args.sw.now
+
+pub returns-in_default-clause-keeps : goal.returns-in_default-clause-keeps
+returns-in_default-clause-keeps g c = keeps-refl c.args.sw.now
+
+pub returns-then-above-bound-clause-still : goal.returns-then-above-bound-clause-still
+returns-then-above-bound-clause-still g c = keeps-refl c.args.sw.now
+
+pub returns-then-above-height-clause-brings : goal.returns-then-above-height-clause-brings
+returns-then-above-height-clause-brings g c = brings_none c.args.sw.now _
+
+pub returns-in_default-clause-brings : goal.returns-in_default-clause-brings
+returns-in_default-clause-brings g c = brings_none c.args.sw.now _
+
+pub returns-then-above-bound-clause-brings : goal.returns-then-above-bound-clause-brings
+returns-then-above-bound-clause-brings g c = brings_none c.args.sw.now 4
+
+pub returns-in-Err-clause-brings : goal.returns-in-Err-clause-brings
+returns-in-Err-clause-brings g c = brings_more _ _ 2 4 (omega arith) c.open_sides.ensures.brings
+
+pub returns-in-Err-open_inner-clause-brings : goal.returns-in-Err-open_inner-clause-brings
+returns-in-Err-open_inner-clause-brings g c = brings_touched _ _ _ 2 2 4 c.in-Err-open_inner.ensures.still (omega arith) c.open_sides.ensures.brings c.open_inner.ensures.brings
+
+pub returns-in-Ok-open_inner-clause-brings : goal.returns-in-Ok-open_inner-clause-brings
+returns-in-Ok-open_inner-clause-brings g c = brings_touched _ _ _ 2 2 _ c.in-Ok-open_inner.ensures.keeps (omega (arith, c.if-above-bound.false)) c.open_sides.ensures.brings c.open_inner.ensures.brings

@@ -1,0 +1,148 @@
+-- A worked space in which a node belongs to two tables: under 3 and 5 the root has a table whose root is the node of 3. It stands for no heap, though all else
+-- is as it must be.
+use Rattle.std.proofs.Common.{◌≡◌, inl, inr, ℕ, List, [], ◌∷◌, refl, subst, arith}
+use Rattle.ps_volumes.specs.obj_layout.declared.kind.Kind.TheVariants as kind
+use Rattle.ps_volumes.specs.obj_layout.declared.reference.Reference.TheVariants.{Nil, Pid}
+use Rattle.ps_volumes.specs.obj_layout.Objects.{Placed, IsAmong}
+use Rattle.ps_volumes.specs.obj_layout.Objects as contents
+use Rattle.ps_volumes.specs.obj_layout.Stored.{Space}
+use Rattle.heap_meaning.specs.swizzle.Objects.{header_in, reference_at, object_in}
+use Rattle.heap_meaning.specs.swizzle.Joint.{Shown, shown_words}
+use Rattle.heap_meaning.specs.Standing.{Pairing}
+use Rattle.heap_meaning.specs.Paired.{paired}
+use Rattle.heap_fit.specs.ps_heap.Databases.{Database}
+use Rattle.heap_fit.specs.ps_heap.Held.{StoredHeap}
+use Rattle.volume_meaning.specs.Space.{IsStored, SeenIn}
+use Rattle.volume_meaning.specs.Tables.{IsIntKey, IsNodeOf}
+use Rattle.volume_meaning.specs.Stands.{IsThing, AreNamed, IsDirectoryOf, SpaceStands}
+use Rattle.volume_meaning.proofs.Seen.{seen-one}
+use Rattle.volume_meaning.proofs.Cutting.{pid, at, space_with, is-object, Follow, seen-there}
+use Rattle.volume_meaning.proofs.Trees.{node_shown, sides-of}
+use Rattle.volume_meaning.proofs.TableRows.{table, name, password, table_shown, table-in, ints-in}
+
+-- The words.
+
+-- a node: its left side, its key and its height
+abbrev node : ℕ → ℕ → ℕ → List ℕ
+node left key high = 0x0000000400000008 ∷ 0 ∷ 3 ∷ 0 ∷ left ∷ 0 ∷ 0 ∷ pid 31 ∷ 0 ∷ key ∷ high ∷ []
+
+abbrev second : List ℕ
+second = 0x0000000100000007 ∷ 0 ∷ 3 ∷ 0 ∷ pid 20 ∷ 1 ∷ 2 ∷ 1 ∷ []
+
+abbrev directory : List ℕ
+directory = 0x0000000300000009 ∷ 0 ∷ 1 ∷ 0 ∷ pid 39 ∷ pid 45 ∷ pid 1 ∷ 0 ∷ []
+
+abbrev objects : List Placed
+objects =
+    at 1 (table 2) ∷ at 9 (node (pid 20) 5 2) ∷ at 20 (node 0 3 1) ∷ at 31 second ∷ at 39 name ∷ at 45 password ∷ at 50 directory ∷ []
+
+space : Space
+space = space_with objects 50
+
+they-follow : Follow 1 objects
+they-follow = (
+  refl,
+  is-object kind.Table 1 3 0 contents.table (table 2) (omega arith) (omega arith) refl refl refl refl tt,
+  (
+    refl,
+    is-object kind.Node 4 3 0 contents.node (node (pid 20) 5 2) (omega arith) (omega arith) refl refl refl refl tt,
+    (
+      refl,
+      is-object kind.Node 4 3 0 contents.node (node 0 3 1) (omega arith) (omega arith) refl refl refl refl tt,
+      (
+        refl,
+        is-object kind.Table 1 3 0 contents.table second (omega arith) (omega arith) refl refl refl refl tt,
+        (
+          refl,
+          is-object kind.Text 0 2 1 (contents.text 1) name (omega arith) (omega arith) refl refl refl refl tt,
+          (
+            refl,
+            is-object kind.Text 0 1 0 (contents.text 0) password (omega arith) (omega arith) refl refl refl refl tt,
+            (
+              refl,
+              is-object kind.Directory 3 1 0 (contents.directory 1) directory (omega arith) (omega arith) refl refl refl refl (omega arith, omega arith),
+              tt,
+            ),
+          ),
+        ),
+      ),
+    ),
+  ),
+)
+
+-- What is seen of them.
+
+seen-in : (n : ℕ) (words : List ℕ) (it : Shown) → IsAmong (at n words) objects → IsStored words → it ≡ shown_words words → SeenIn space (Pid n) it
+unfolding space
+seen-in n words it among stored is = seen-there objects 50 n words it they-follow among stored is
+
+table-seen : SeenIn space (Pid 1) (table_shown 2)
+unfolding header_in reference_at object_in
+table-seen = seen-in 1 (table 2) (table_shown 2) (inl refl) (record { flags = refl; pid = refl; chain = refl; refs = (inr (omega arith), tt) }) refl
+
+upper-seen : SeenIn space (Pid 9) (node_shown (Pid 20) Nil Nil (Pid 31) 5 2)
+unfolding header_in reference_at object_in
+upper-seen = seen-in 9 (node (pid 20) 5 2) (node_shown (Pid 20) Nil Nil (Pid 31) 5 2) (inr (inl refl))
+    (record { flags = refl; pid = refl; chain = refl; refs = (inr (omega arith), (inl refl, (inl refl, (inr (omega arith), tt)))) }) refl
+
+shared-seen : SeenIn space (Pid 20) (node_shown Nil Nil Nil (Pid 31) 3 1)
+unfolding header_in reference_at object_in
+shared-seen = seen-in 20 (node 0 3 1) (node_shown Nil Nil Nil (Pid 31) 3 1) (inr (inr (inl refl)))
+    (record { flags = refl; pid = refl; chain = refl; refs = (inl refl, (inl refl, (inl refl, (inr (omega arith), tt)))) }) refl
+
+abbrev second_shown : Shown
+second_shown = record { kind = kind.Table; refs = Pid 20 ∷ []; nums = 1 ∷ 2 ∷ 1 ∷ []; bytes = 0 }
+
+second-seen : SeenIn space (Pid 31) second_shown
+unfolding header_in reference_at object_in
+second-seen = seen-in 31 second second_shown (inr (inr (inr (inl refl))))
+    (record { flags = refl; pid = refl; chain = refl; refs = (inr (omega arith), tt) }) refl
+
+abbrev directory_shown : Shown
+directory_shown = record { kind = kind.Directory; refs = Pid 39 ∷ Pid 45 ∷ Pid 1 ∷ []; nums = 0 ∷ []; bytes = 0 }
+
+directory-seen : SeenIn space (Pid 50) directory_shown
+unfolding header_in reference_at object_in
+directory-seen = seen-in 50 directory directory_shown (inr (inr (inr (inr (inr (inr (inl refl)))))))
+    (record { flags = refl; pid = refl; chain = refl; refs = (inr (omega arith), (inr (omega arith), (inr (omega arith), tt))) }) refl
+
+-- The node of 3 is one of the root, on the left of its root, and one of the other table.
+
+of_the_root : IsNodeOf (SeenIn space) (Pid 1) (Pid 20)
+of_the_root = record {
+  it = table_shown 2;
+  there = table-seen;
+  kind_is = refl;
+  steps = 1;
+  below = (node_shown (Pid 20) Nil Nil (Pid 31) 5 2, upper-seen, refl, inl refl);
+  is_node = record { it = node_shown Nil Nil Nil (Pid 31) 3 1; there = shared-seen; kind_is = refl };
+}
+
+of_the_second : IsNodeOf (SeenIn space) (Pid 31) (Pid 20)
+of_the_second = record {
+  it = second_shown;
+  there = second-seen;
+  kind_is = refl;
+  steps = 0;
+  below = refl;
+  is_node = record { it = node_shown Nil Nil Nil (Pid 31) 3 1; there = shared-seen; kind_is = refl };
+}
+
+paired-root : (pair : Pairing) (ds : List Database) → IsDirectoryOf (SeenIn space) pair 50 ds → (d : Database) × pair (Pid 1) d.root
+paired-root pair [] is = absurd (omega (arith, is))
+paired-root pair (d ∷ ds) is =
+    let same = seen-one space (Pid 50) is.it directory_shown is.there directory-seen in
+    (d, (subst (λ (it : Shown). AreNamed (SeenIn space) pair it.refs (d ∷ ds)) same is.names).2.0)
+
+a_node_of_two_tables : (heap : StoredHeap) → SpaceStands space heap → ⊥
+unfolding space
+a_node_of_two_tables heap s =
+    let seen = SeenIn space in
+    let root = paired-root (paired s.names) heap.directory s.stands.directory in
+    let both = s.stands.both 1 root.0.root root.1 in
+    let same = seen-one space (Pid 1) both.it (table_shown 2) both.there table-seen in
+    let of = table-in space (paired s.names) 2 both.object (subst (λ (it : Shown). IsThing seen (paired s.names) it both.object) same both.like) in
+    let tree = (ints-in space (paired s.names) 2 of.0 of.1).1 in
+    let sides = sides-of space (paired s.names) IsIntKey 9 (Pid 20) Nil Nil (Pid 31) 5 2 tree.tree upper-seen tree.stands in
+    let one : 1 ≡ 31 = s.stands.apart 1 31 root.0.root sides.entry.object (Pid 20) root.1 sides.value_is.0 of_the_root of_the_second in
+    absurd (omega (arith, one))

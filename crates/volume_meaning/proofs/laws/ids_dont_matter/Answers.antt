@@ -1,0 +1,5 @@
+use Rattle.volume_meaning.proofs.SameHeaps.{stands-same}
+use Rattle.volume_meaning.proofs.laws.ids_dont_matter.Goals as goal
+
+pub returns : goal.returns
+returns c = stands-same
