@@ -57,7 +57,7 @@ fn overwrite_one<V: Vault>(
         (λ stored. (stored ≡ is_changed sw.now first object) × Overwrites sw.now (filter (is_changed sw.now first) (object ∷ [])) (V.outside vault.old) (V.outside vault.new))
         (FailsOverwrite sw.now (filter (is_changed sw.now first) (object ∷ [])) (V.outside vault.old) (V.outside vault.new)) }
     ensures stages { Stages (V.outside vault.old) (V.outside vault.new) }
-    ensures numbers { SameNumbers V.used_words V.directory_at V.most_words vault.old vault.new }
+    ensures numbers { SameNumbers V.used_words V.directory_at V.most_words V.access vault.old vault.new }
     ensures alive { OnOk result (V.alive vault.new) }
     ensures dead { DeadIfErr (V.alive vault.new) result }
     ensures buffer { length buffer.new ≡ length buffer.old }
@@ -88,7 +88,7 @@ pub fn overwrite_all<V: Vault>(
         (λ count. (count ≡ length (changed_in sw.now first)) × Overwrites sw.now (changed_in sw.now first) (V.outside vault.old) (V.outside vault.new))
         (FailsOverwrite sw.now (changed_in sw.now first) (V.outside vault.old) (V.outside vault.new)) }
     ensures stages { Stages (V.outside vault.old) (V.outside vault.new) }
-    ensures numbers { SameNumbers V.used_words V.directory_at V.most_words vault.old vault.new }
+    ensures numbers { SameNumbers V.used_words V.directory_at V.most_words V.access vault.old vault.new }
     ensures alive { OnOk result (V.alive vault.new) }
     ensures dead { DeadIfErr (V.alive vault.new) result }
     ensures buffer { length buffer.new ≡ length buffer.old }

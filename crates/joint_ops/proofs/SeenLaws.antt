@@ -10,7 +10,7 @@ use Rattle.heap_meaning.specs.obj_layout.declared.kind.Kind.{Kind}
 use Rattle.heap_meaning.specs.obj_layout.declared.kind.Kind.TheVariants as kind
 use Rattle.heap_meaning.specs.obj_layout.declared.reference.Reference as reference
 use Rattle.heap_meaning.specs.obj_layout.declared.reference.Reference.TheVariants as name
-use Rattle.heap_meaning.specs.obj_layout.declared.vault.VaultFault.TheVariants.{Device, Output, Full, Damaged}
+use Rattle.heap_meaning.specs.obj_layout.declared.vault.VaultFault.TheVariants.{Device, Output, Full, NoPages, Damaged}
 use Rattle.heap_meaning.specs.swizzle.declared.fault.SwizzleFault.{SwizzleFault}
 use Rattle.heap_meaning.specs.swizzle.declared.fault.SwizzleFault.TheVariants.{AreaFull, Vault}
 use Rattle.heap_meaning.specs.swizzle.Objects.{words_before}
@@ -376,6 +376,7 @@ caused-touch old new before after at slot (AreaFull top wanted size) h k t =
 caused-touch old new before after at slot (Vault Device) h k t = tt
 caused-touch old new before after at slot (Vault Output) h k t = tt
 caused-touch old new before after at slot (Vault (Full used wanted capacity)) h k t = tt
+caused-touch old new before after at slot (Vault (NoPages held wanted pages)) h k t = tt
 caused-touch old new before after at slot (Vault (Damaged where_at found wanted)) h k t =
     let a = away-stored old old new before after (slot_of (shown_at old at) slot) (t.0) h (keeps-refl old) k (slot-name old at slot ∙ ap (name_of old) (t.1)) (t.2) in
     far-held before t.0 (record { found = found; wanted = wanted }) a.words a.stored.header (t.3 where_at found wanted refl).1 a.stored.there a.stored.far
@@ -389,6 +390,7 @@ caused-later old mid new before after n (AreaFull top wanted size) h keeps k t =
 caused-later old mid new before after n (Vault Device) h keeps k t = tt
 caused-later old mid new before after n (Vault Output) h keeps k t = tt
 caused-later old mid new before after n (Vault (Full used wanted capacity)) h keeps k t = tt
+caused-later old mid new before after n (Vault (NoPages held wanted pages)) h keeps k t = tt
 caused-later old mid new before after n (Vault (Damaged where_at found wanted)) h keeps k t =
     let a = away-stored old mid new before after n (t.0) h keeps k (t.1) (t.2) in
     far-held before t.0 (record { found = found; wanted = wanted }) a.words a.stored.header (t.3 where_at found wanted refl).1 a.stored.there a.stored.far
@@ -404,6 +406,7 @@ breaks old new before after (AreaFull top wanted size) f caused = caused
 breaks old new before after (Vault Device) f caused = f.cause refl
 breaks old new before after (Vault Output) f caused = f.other refl
 breaks old new before after (Vault (Full used wanted capacity)) f caused = f.full used wanted capacity refl
+breaks old new before after (Vault (NoPages held wanted pages)) f caused = f.pages held wanted pages refl
 breaks old new before after (Vault (Damaged at found wanted)) f caused = caused
 
 -- An operation broke off that went on after a reading: so did the whole.
@@ -441,6 +444,7 @@ breaks-earlier old mid new start before after (Vault Device) h keeps leaves b =
     rose_more start.device_faults before.device_faults after.device_faults leaves.counts b
 breaks-earlier old mid new start before after (Vault Output) h keeps leaves b = b
 breaks-earlier old mid new start before after (Vault (Full used wanted capacity)) h keeps leaves b = b
+breaks-earlier old mid new start before after (Vault (NoPages held wanted pages)) h keeps leaves b = b
 breaks-earlier old mid new start before after (Vault (Damaged at found wanted)) h keeps leaves b = b
 
 -- What was seen under a name is what is seen, where no object was lost.

@@ -415,6 +415,7 @@ failed-then start before after fault first second = record {
   cause = λ e. rose_more start.device_faults before.device_faults after.device_faults first.counts (second.cause e);
   other = second.other;
   full = second.full;
+  pages = second.pages;
 }
 
 pub get-fails : (mid new : area.Heap) (start before after : Outside Space) (at which : ℕ) (result : Result code.Value SwizzleFault)

@@ -94,7 +94,7 @@ pub(crate) fn field_trapped<V: Vault>(
     ensures traps { TrapsAt (V.outside vault.old) (V.outside vault.new) field row object trap line m.old m.new result }
     ensures fails { FailsAsReading (V.outside vault.old) (V.outside vault.new) result m.new }
     ensures leaves { LeavesOutside (V.outside vault.old) (V.outside vault.new) }
-    ensures numbers { SameNumbers V.used_words V.directory_at V.most_words vault.old vault.new }
+    ensures numbers { SameNumbers V.used_words V.directory_at V.most_words V.access vault.old vault.new }
     ensures alive { UnlessBroken result (V.alive vault.new) }
 {
     if !is_object::<V>(m, object) {

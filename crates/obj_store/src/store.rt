@@ -79,6 +79,7 @@ impl<H: Host> ObjStore<H> {
 
 impl<H: Host> Vault for ObjStore<H> {
     ghost use Rattle.obj_store.specs.Store.{outside_of, used_of, most_of, directory_of};
+    ghost use Rattle.obj_layout.specs.Storing.{unshared};
 
     ghost outside = { λ store. outside_of H.outside store };
 
@@ -89,6 +90,8 @@ impl<H: Host> Vault for ObjStore<H> {
     ghost most_words = { λ store. most_of store };
 
     ghost directory_at = { λ store. directory_of store };
+
+    ghost access = { λ store. unshared };
 
     fn length(&mut self, pid: u64) -> Result<u32, VaultFault> {
         match length_at(&mut self.volume, &mut self.kept, self.used, pid) {
@@ -167,6 +170,10 @@ impl<H: Host> Vault for ObjStore<H> {
 
     fn directory(&self) -> u64 {
         self.volume.note().directory
+    }
+
+    fn writable(&self) -> bool {
+        true
     }
 
     fn is_alive(&self) -> bool {
