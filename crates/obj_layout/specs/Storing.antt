@@ -1,5 +1,5 @@
 -- What each call of a store says of the outside.
-use Rattle.std.specs.Prelude.{◌≡◌, ◌≢◌, ◌⊎◌, ℕ, ◌+◌, ◌*◌, ◌/◌, ◌≤◌, ◌<◌, Bool, true, false, List, Option, Some, None, Result, Err, OnOk, OnErr}
+use Rattle.std.specs.Prelude.{◌≡◌, ◌≢◌, ◌⊎◌, ℕ, ◌+◌, ◌/◌, ◌≤◌, ◌<◌, Bool, true, false, List, Option, Some, None, Result, Err, OnOk, OnErr}
 use Rattle.ps_outside.specs.Outside.{Outside, Leaves, LeavesSame, SameContents, TellsNothing, TellsPrefix, ToldAll, Rose, seen_as}
 use Rattle.ps_outside.specs.Past.{KeepsPast}
 use Rattle.obj_layout.specs.declared.vault.VaultFault.{VaultFault}

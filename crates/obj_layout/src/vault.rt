@@ -18,7 +18,11 @@ pub enum VaultFault {
     },
     /// So many pages are held, by what is committed, by what is staged and by snapshots, so many more are wanted, and there are only so many.
     /// `append`, `overwrite` and `settle` alone answer it, and only beside snapshots (`docs/formats.md`, "Snapshots").
-    NoPages { held: u32, wanted: u32, pages: u32 },
+    NoPages {
+        held: u32,
+        wanted: u32,
+        pages: u32,
+    },
     /// At this PID a test of the object failed: the number that was tested, and its bound (`docs/formats.md`).
     Damaged {
         at: u64,
