@@ -1,8 +1,8 @@
 -- With no database open for writing there is nothing to store.
 use Rattle.std.proofs.Common.{◌≡◌, ◌⊎◌, inl, inr, ℕ, ◌<◌, List, [], length, ap, arith}
-use Rattle.swizzle.specs.Heap.{Heap, num_at}
+use Rattle.swizzle.specs.Heap.{Heap}
 use Rattle.commit_walk.specs.declared.homes.Source.{Source}
-use Rattle.reach_commit.specs.Deciding.{IsWriting, IsMade, AreWritable, HasWork}
+use Rattle.reach_commit.specs.Deciding.{AreWritable, HasWork}
 
 none_below : (writing : List Source) (place : ℕ) → writing ≡ [] → place < length writing → ⊥
 none_below writing place none below = absurd (omega (arith, below, ap length none))
