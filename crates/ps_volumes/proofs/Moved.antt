@@ -22,7 +22,7 @@ use Rattle.obj_store.specs.Opening.{IsOpened}
 use Rattle.obj_store.specs.Spaces.{space_of, words_of}
 use Rattle.obj_store.specs.Store.{Store}
 use Rattle.ps_reports.specs.declared.report.Report.{Report}
-use Rattle.ps_volumes.specs.Attaching.{HasVolume, KeepsHeld, KeepsVolume, IsStored, IsUnattached, attaching_calls, report_for}
+use Rattle.ps_volumes.specs.Attaching.{HasVolume, KeepsHeld, KeepsVolume, CallsFew, IsStored, IsUnattached, attaching_calls, report_for}
 use Rattle.ps_volumes.proofs.Refused.{unattached_by}
 use Rattle.ps_volumes.proofs.Settled.{from_then, held_from}
 
@@ -101,11 +101,13 @@ module _ (a b : Outside (List ℕ)) (is_image : (bytes : List ℕ) → b.content
     then_told : TellsNothing a c
     then_told = along_then is.moves.told told (along_now is.moves.told)
 
-    then_kept_volume : KeepsVolume a c
-    then_kept_volume = record {
+    then_kept_volume : ((bytes : List ℕ) → c.contents bytes → lacks_index bytes ≡ false) → CallsFew a c → KeepsVolume a c
+    then_kept_volume moved calls = record {
       keeps = then_held;
       from = then_kept;
       found = λ bytes at. let by = (is.still bytes at).by in has_volume bytes by.was by.was_found;
+      moved = moved;
+      calls = calls;
     }
 
     pub unattached_after : (cause : OpenFault) (report : Report) → report ≡ report_for cause → IsRefused b c cause → IsUnattached a c report
@@ -126,24 +128,27 @@ module _ (a b : Outside (List ℕ)) (is_image : (bytes : List ℕ) → b.content
   maps_found : {H : Type 0} (outside : H → Outside (List ℕ)) (store : Store H) → IsOpened outside b store → (was now : List ℕ) → IsKeptIn was now → b.contents now → maps_held (held_in was) ≡ map_count store.table.committed
   maps_found outside store opened was now is at = same_maps was now is ∙ maps_opened store.table.committed now (opened.found now at)
 
+  opened_calls : {H : Type 0} (outside : H → Outside (List ℕ)) (store : Store H) → IsOpened outside b store → (committed : Bool) → IsMigrated a b committed
+      → ((bytes : List ℕ) → a.contents bytes → committed ≡ lacks_index bytes) → CallsFew a (outside store.host)
+  opened_calls outside store opened committed is when = record {
+    told = λ bytes at.
+        let now = is.still bytes at in
+        let maps = maps_found outside store opened bytes now.from now.by now.was in
+        let first = is.calls.told bytes at in
+        let next = opened.looks.calls in
+        let moves = ap (λ (c : Bool). moving_calls c (maps_held (held_in bytes))) (when bytes at) in
+        omega arith;
+    most = few_then committed is.calls.most (let next = opened.looks.calls in let few = opened.few in omega arith);
+  }
+
   -- the store of the volume holds what was committed in the file at the start
   pub stored_by : {H : Type 0} (outside : H → Outside (List ℕ)) (committed : Bool) (store : Store H) → IsMigrated a b committed → IsOpened outside b store
       → ((bytes : List ℕ) → a.contents bytes → committed ≡ lacks_index bytes) → ((bytes : List ℕ) → b.contents bytes → lacks_index bytes ≡ false)
       → ((bytes : List ℕ) → (outside store.host).contents bytes → (outside store.host).images (outside store.host).clock bytes) → IsStored outside a store
   stored_by outside committed store is opened when moved law = record {
-    keeps = then_kept_volume committed is (outside store.host) opened.looks.images opened.looks.told opened.looks.counts opened.looks.output law;
+    keeps = then_kept_volume committed is (outside store.host) opened.looks.images opened.looks.told opened.looks.counts opened.looks.output law
+        (λ bytes at. moved bytes (opened.looks.same.no_other bytes at)) (opened_calls outside store opened committed is when);
     told = then_told committed is (outside store.host) opened.looks.images opened.looks.told opened.looks.counts opened.looks.output law;
-    calls = record {
-      told = λ bytes at.
-          let now = is.still bytes at in
-          let maps = maps_found outside store opened bytes now.from now.by now.was in
-          let first = is.calls.told bytes at in
-          let next = opened.looks.calls in
-          let moves = ap (λ (c : Bool). moving_calls c (maps_held (held_in bytes))) (when bytes at) in
-          omega arith;
-      most = few_then committed is.calls.most (let next = opened.looks.calls in let few = opened.few in omega arith);
-    };
-    moved = λ bytes at. moved bytes (opened.looks.same.no_other bytes at);
     counts = let first = is.moves.counts in let next = opened.looks.counts in omega arith;
     output = opened.looks.output ∙ is.moves.output;
     live = opened.live;
