@@ -64,9 +64,9 @@ maps_opened committed bytes is =
     ap (λ (found : Found). maps_held (held_of found)) is.volume ∙ ap (λ (n : Note). map_pages_of (pages_of_words n.used)) is.note
 
 -- few calls, and as many as a look takes
-few_then : {from mid now : ℕ} (committed : Bool) → mid ≤ from + moving_calls committed 488 → now ≤ mid + 496 → now ≤ from + attaching_calls true 488
-few_then true first next = omega arith
-few_then false first next = omega arith
+few_then : (start mid now : ℕ) (committed : Bool) → mid ≤ start + moving_calls committed 488 → now ≤ mid + 496 → now ≤ start + attaching_calls true 488
+few_then start mid now true first next = omega arith
+few_then start mid now false first next = omega arith
 
 -- so attaching it refuses for no other cause than before
 refused_before : (cause : OpenFault) (was now : List ℕ) → IsKeptIn was now → IsNoVolume cause now → IsNoVolume cause was
@@ -120,7 +120,7 @@ module _ (a b : Outside (List ℕ)) (is_image : (bytes : List ℕ) → b.content
       report_is = report_is;
       told = then_told;
       calm = output ∙ is.moves.output;
-      calls = few_then committed is.calls.most refused.looks.calls;
+      calls = few_then _ _ _ committed is.calls.most refused.looks.calls;
       keeps = then_held;
     }
 
@@ -138,7 +138,7 @@ module _ (a b : Outside (List ℕ)) (is_image : (bytes : List ℕ) → b.content
         let next = opened.looks.calls in
         let moves = ap (λ (c : Bool). moving_calls c (maps_held (held_in bytes))) (when bytes at) in
         omega arith;
-    most = few_then committed is.calls.most (let next = opened.looks.calls in let few = opened.few in omega arith);
+    most = few_then _ _ _ committed is.calls.most (let next = opened.looks.calls in let few = opened.few in omega arith);
   }
 
   -- the store of the volume holds what was committed in the file at the start

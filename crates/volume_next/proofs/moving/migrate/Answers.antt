@@ -22,8 +22,8 @@ returns-then-pages-lt-LEAST_INDEXED-clause-ok g c =
     subst (λ (h : g.row.H.Denot). IsMigrated (o c.args.host) (o h) false) (sym c.release.ensures) (looked_alone (o c.args.host) (o v.host) v.live v.table c.in_ok-volume.ensures.ok)
 
 -- as many as there are map pages, and six
-switch_calls : {calls from : ℕ} (committed : Committed) (note : Note) → note ≡ committed.note → calls ≤ from + ((note.used + 524287) / 524288 + 6) → calls ≤ from + (map_count committed + 6)
-switch_calls committed note is low =
+switch_calls : (calls before : ℕ) (committed : Committed) (note : Note) → note ≡ committed.note → calls ≤ before + ((note.used + 524287) / 524288 + 6) → calls ≤ before + (map_count committed + 6)
+switch_calls calls before committed note is low =
     let used = ap (λ (n : Note). map_pages_of (pages_of_words n.used)) is in
     omega (arith, few_maps note.used)
 
@@ -45,7 +45,7 @@ returns-in-Ok-clause-ok g c =
     c.note-note.ensures c.in-Ok.ensures.switches in
     subst (λ (h : g.row.H.Denot). IsMigrated (o c.args.host) (o h) true) (sym c.release-in-Ok.ensures)
     (committed_once (o c.args.host) (o v.host) v.live v.table c.in_ok-volume.ensures.ok (o z.host) z.table c.switch.ensures.past is.told is.images is.kept is.stays
-    (g.met.H.Host.is_image z.host) (g.met.H.Host.one c.args.host) is.counts is.output (switch_calls v.table.committed c.note-note.result c.note-note.ensures c.switch.ensures.calls.most))
+    (g.met.H.Host.is_image z.host) (g.met.H.Host.one c.args.host) is.counts is.output (switch_calls _ _ v.table.committed c.note-note.result c.note-note.ensures c.switch.ensures.calls.most))
 
 pub returns-in-Err-clause-err : goal.returns-in-Err-clause-err
 returns-in-Err-clause-err g c =
@@ -60,4 +60,4 @@ returns-in-Err-clause-err g c =
     subst (λ (h : g.row.H.Denot). IsUnmoved (o c.args.host) (o h) Device) (sym c.release-in-Err.ensures)
     (cut refl (rose_then (o c.args.host).device_faults (o v.host).device_faults (o z.host).device_faults attached.looks.counts rose)
     (switched_moves (o c.args.host) (o v.host) v.live v.table attached (o z.host) z.table c.switch.ensures.past is.told is.images is.counts is.output)
-    (committed_few (o c.args.host) (o v.host) v.live v.table attached (o z.host) (switch_calls v.table.committed c.note-note.result c.note-note.ensures c.switch.ensures.calls.most)))
+    (committed_few (o c.args.host) (o v.host) v.live v.table attached (o z.host) (switch_calls _ _ v.table.committed c.note-note.result c.note-note.ensures c.switch.ensures.calls.most)))
