@@ -1,6 +1,6 @@
 -- What is due stays so where the output alone is called after it, so that the end of a command is told last.
-use Rattle.std.proofs.Common.{ℕ, List, Some, None, Option, sym, subst}
-use Rattle.std.specs.Prelude.{Result, Ok, Err}
+use Rattle.std.proofs.Common.{ℕ, List, Some, None, Option, sym, subst, arith}
+use Rattle.std.specs.Prelude.{◌≤◌, ◌+◌, Result, Ok, Err}
 use Rattle.ps_port.specs.ps_outside.Outside.{Outside, Rose}
 use Rattle.ps_port.specs.ps_outside.Past.{KeepsTold}
 use Rattle.ps_port.specs.Telling.{LeavesDevice}
@@ -29,7 +29,13 @@ module _ (old mid new : Outside (List ℕ)) (left : LeavesDevice mid new) (told 
   still_held is = held_then old mid new is (device_kept mid new left)
 
   still_attached : KeepsVolume old mid → KeepsVolume old new
-  still_attached is = record { keeps = still_held is.keeps; from = from_then old mid new is.from left.images told; found = is.found }
+  still_attached is = record {
+    keeps = still_held is.keeps;
+    from = from_then old mid new is.from left.images told;
+    found = is.found;
+    moved = λ bytes at. is.moved bytes (left.contents.no_other bytes at);
+    calls = let same = left.calls in record { told = λ bytes at. let few = is.calls.told bytes at in omega arith; most = let few = is.calls.most in omega arith };
+  }
 
   still_none : (cause : OpenFault) → IsWhyNone old mid cause → IsWhyNone old new cause
   still_none cause is = record { device = λ e. subst (λ (n : ℕ). Rose old.device_faults n) (sym left.faults) (is.device e); found = is.found }

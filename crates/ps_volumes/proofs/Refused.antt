@@ -23,6 +23,7 @@ unattached_by old new cause report is report_is = record {
   report_is = report_is;
   told = is.looks.told;
   calm = is.looks.output;
+  calls = let few = is.looks.calls in omega arith;
   keeps = held_kept old new (record { images = is.looks.images; contents = λ bytes at. is.looks.same.no_other bytes at });
 }
 

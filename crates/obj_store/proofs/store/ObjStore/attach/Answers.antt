@@ -6,6 +6,7 @@ use Rattle.obj_store.specs.Spaces.{IsInOrder, spaces}
 use Rattle.obj_store.specs.Opening.{IsSpaceOf}
 use Rattle.volume_parts.specs.Layout.{pages_of_words}
 use Rattle.paged_volume.specs.Staging.{HasPages}
+use Rattle.paged_volume.proofs.Bounds.{are_low}
 use Rattle.paged_volume.proofs.Tables.{committed_staged}
 use Rattle.obj_store.proofs.KeptLaws.{none_kept}
 use Rattle.obj_store.proofs.OpenLaws.{opened_order, opened_holds, opened_stays}
@@ -21,6 +22,7 @@ returns-in-Ok-attach-clause-ok g c =
     let used : c.note-used.result.used ≡ v.table.committed.note.used = ap (λ (n : Note). n.used) c.note-used.ensures in
     record {
       looks = is.looks;
+      few = (are_low v.table.committed is.alive.is_table.fit).few;
       settles = is.settles;
       found = is.found;
       live = refl;
