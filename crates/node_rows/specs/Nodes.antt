@@ -1,5 +1,5 @@
 -- The nodes of a table's search tree: what is seen of one under a name.
-use Rattle.std.specs.Prelude.{◌≡◌, ◌≢◌, length, Option, Some, None}
+use Rattle.std.specs.Prelude.{◌≡◌, ◌≢◌, ◌⊎◌, List, [], ◌∷◌, length, Option, Some, None}
 use Rattle.heap_places.specs.obj_layout.declared.kind.Kind.TheVariants.{Node}
 use Rattle.heap_places.specs.obj_layout.declared.reference.Reference.{Reference}
 use Rattle.heap_places.specs.obj_layout.declared.reference.Reference.TheVariants.{Nil}
@@ -40,3 +40,8 @@ I ks = Item Reference (KeyOf ks) Reference
 -- no pair has nil for its value
 abbrev pub HasValue : {K : Type 0} → Item Reference K Reference → Type 0
 HasValue a = a.entry.value ≢ Nil
+
+-- the name stands in the list
+abbrev pub IsAmong : Reference → List Reference → Type 0
+IsAmong n [] = ⊥
+IsAmong n (m ∷ ms) = (n ≡ m) ⊎ IsAmong n ms
