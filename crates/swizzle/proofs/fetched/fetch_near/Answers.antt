@@ -30,6 +30,7 @@ returns-in-Err-clause-fault g c = record {
 pub returns-in-Err-far_header-clause-fault : goal.returns-in-Err-far_header-clause-fault
 returns-in-Err-far_header-clause-fault g c = record {
   full = λ used wanted capacity e. cc;
+  pages = λ held wanted pages e. cc;
   damaged = λ at found wanted e. (
     cc,
     inr (record {
