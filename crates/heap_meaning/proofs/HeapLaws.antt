@@ -1,5 +1,5 @@
 -- The pairing goes through readings, writes and new objects.
-use Rattle.std.proofs.Common.{inl, inr, ◌≡◌, ◌≢◌, ℕ, List, refl, sym, ap, ◌∙◌, subst, Some, None}
+use Rattle.std.proofs.Common.{inl, inr, ◌⊎◌, ◌≡◌, ◌≢◌, ℕ, List, refl, sym, ap, ◌∙◌, subst, Some, None}
 use Rattle.std.proofs.lemmas.Bool.{cases_eq}
 use Rattle.proc_values.specs.obj_layout.declared.kind.Kind.TheVariants as kind
 use Rattle.proc_values.specs.obj_layout.declared.reference.Reference as reference
@@ -127,7 +127,7 @@ stands-entered seen now heap pair n id old table after one s p was kinds others 
     }
   where
     stay : (m : reference.Reference) (it : Shown) → m ≢ n → it.kind ≢ kind.Node → seen m it → now m it
-    stay m it ne no j = others m it ne (λ a. let k = s.tables.are_nodes id m a in no (ap (λ (x : Shown). x.kind) (one m it k.it j k.there) ∙ k.kind_is)) j
+    stay m it ne other j = others m it ne (λ a. let k = s.tables.are_nodes id m a in other (ap (λ (x : Shown). x.kind) (one m it k.it j k.there) ∙ k.kind_is)) j
 
     fixed : Fixed seen now
     fixed m it f j =

@@ -8,7 +8,7 @@ use Rattle.proc_values.specs.obj_layout.declared.reference.Reference.TheVariants
 use Rattle.proc_values.specs.swizzle.Joint.{Shown}
 use Rattle.proc_values.specs.swizzle.Changes.{Within}
 use Rattle.proc_values.specs.ps_heap.Values.{Pointer}
-use Rattle.proc_values.specs.ps_heap.Tables.{Entry, Table, without_keys, by_strings, by_ints}
+use Rattle.proc_values.specs.ps_heap.Tables.{Entry, Table, without_keys, by_strings, by_ints, cardinality}
 use Rattle.proc_values.specs.ps_heap.Objects.{Heap, Object, Structure, Elements, Scope, Keyed, object_at, with_object, with_new, new_number}
 use Rattle.heap_ops.specs.heap_places.Shapes.{slot_of}
 use Rattle.node_rows.specs.avl_trees.Trees.{Tree, leaf, node, items}
@@ -154,6 +154,7 @@ table-nodes seen pair m table names n t a = of table t.has
 
 -- a new table
 new-table : (seen : Seen) (pair : Pairing) (n : Reference) (it : Shown) (table : Table) → seen n it → it.kind ≡ kind.Table → IsNewTable it (Keyed table) → IsTable seen pair n table []
+unfolding cardinality
 new-table seen pair n it without_keys there is new =
     record { it = it; there = there; kind_is = is; root = name.Nil; home = new.1; refs = new.0; nums = new.2; has = (refl, refl) }
 new-table seen pair n it (by_strings es) there is new = absurd new
