@@ -87,7 +87,7 @@ pub fn pop_object<V: Vault>(m: &mut Machine) -> Option<Option<u32>>
     m.objects.sound();
     match m.objects.sort_of::<V>(object(word)) {
         Sort::Nil => Some(None),
-        Sort::Structure => Some(object(word)),
+        Sort::Pointer => Some(object(word)),
         _ => None,
     }
 }
@@ -107,7 +107,7 @@ pub fn pop_denoting<V: Vault>(m: &mut Machine) -> Option<Option<u32>>
     m.objects.sound();
     match m.objects.sort_of::<V>(object(word)) {
         Sort::Nil => Some(None),
-        Sort::Structure => Some(object(word)),
+        Sort::Pointer => Some(object(word)),
         Sort::Vector => Some(object(word)),
         _ => None,
     }

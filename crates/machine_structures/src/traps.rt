@@ -41,7 +41,7 @@ fn is_object<V: Vault>(m: &Machine, object: Option<u32>) -> bool
     requires { IfSome object (IsHeld m.now.objects) }
     ensures { (v : V) → MatchBool result (IsObject m.now.objects (V.outside v) object) (IsNoObject m.now.objects (V.outside v) object) }
 {
-    matches!(m.objects.sort_of::<V>(object), Sort::Nil | Sort::Structure)
+    matches!(m.objects.sort_of::<V>(object), Sort::Nil | Sort::Pointer)
 }
 
 // Whether a field of this form lies in a row.
