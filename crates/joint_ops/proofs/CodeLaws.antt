@@ -340,6 +340,7 @@ damage-fails before after fault at found wanted is leaves = record {
   cause = λ e. let both = sym is ∙ e in absurd (cc);
   other = λ e. let both = sym is ∙ e in cc;
   full = λ used more capacity e. let both = sym is ∙ e in cc;
+  pages = λ held more all e. let both = sym is ∙ e in cc;
 }
 
 pub constant-fails : (old new : area.Heap) (before after : Outside Space) (code index : ℕ) (r : Result ℕ SwizzleFault)
