@@ -77,7 +77,7 @@ module _ (outside : Outside Space) (old new : Machine) (w : ℕ) (s : Sort) (p :
   abbrev IsObject : Value → Type 0
   IsObject v = (d : Config) (next : Value → Config → Step) → object_of v d next ≡ next v d
 
-  -- nil, or a structure
+  -- nil, a structure or a table
   pub object-popped : (to : Option ℕ) → object_in w ≡ to → ((v : Value) → IsOfSort v s → (d : Config) (next : Value → Config → Step) → object_of v d next ≡ next v d) → PopsObject outside old new (Some to)
   object-popped to is object = record {
     gives = λ names c h.
@@ -90,7 +90,7 @@ module _ (outside : Outside Space) (old new : Machine) (w : ℕ) (s : Sort) (p :
     gives = λ names c h next. let g = p.gives names c h in g.2 (λ v d. object_of v d next) ∙ stuck g.1 (sorted names g.1 g.4) g.0 next;
   }
 
-  -- nil, a structure or a vector
+  -- nil, a structure, a table or a vector
   pub denoting-popped : (to : Option ℕ) → object_in w ≡ to → ((v : Value) → IsOfSort v s → IsByObject v × ((d : Config) (next : Value → Config → Step) → denoting_of v d next ≡ next v d)) → PopsDenoting outside old new (Some to)
   denoting-popped to is object = record {
     gives = λ names c h.

@@ -255,11 +255,11 @@ stands-same_under space a b s names fit stands = record {
         of (Keyed u) means e =
             let same : renamed_table s.new u ≡ table = cc in
             let there = listed-in a x.old x.among in
-            let was = stands.tables.each n x.old u (subst (λ (m : Reference). paired names m x.old) (sym p.2) x.named, (p.1, p.2)) means in
+            let was = stands.tables.each n x.old u (subst (λ (m : Reference). paired names m x.old) (sym p.2) x.named, p.1, p.2) means in
             subst (IsTable (SeenIn space) (stored (names_same a b s names)) n table) (sym (nodes-new x.old j there x.is_new))
             (subst (λ (v : Table). IsTable (SeenIn space) (stored (names_same a b s names)) n v (stands.tables.nodes x.old)) same
             (table-renamed (SeenIn space) (stored names) (stored (names_same a b s names)) s.new n u (stands.tables.nodes x.old)
-            (λ m id l q. (on m id (referred a x.old (Keyed u) there means id l) q.0, q.1)) was))
+            (λ m id l q. (on m id (referred a x.old (Keyed u) there means id l) q.0, q.1, q.2)) was))
 
     both : (pid j : ℕ) → Old s.new names (listed a) j pid → Both (SeenIn space) b (paired (names_same a b s names)) (Pid pid) j
     both pid j x =

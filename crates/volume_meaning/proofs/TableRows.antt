@@ -1,6 +1,6 @@
 -- Worked tables of ints. One with the keys 3, 5 and 8 has a tree whose root is 5; one has the keys -1 and 5. Their entries stand in the order of their
 -- keys, and in no other. A space in which the root of such a tree has another height stands for no heap, and neither does one in which all is to the right.
-use Rattle.std.proofs.Common.{◌≡◌, ◌≢◌, inl, inr, ℕ, List, [], ◌∷◌, refl, sym, ◌∙◌, ap, subst, arith, pos, Option, Some, None}
+use Rattle.std.proofs.Common.{◌≡◌, ◌≢◌, inl, inr, ℕ, List, [], ◌∷◌, ◌++◌, refl, sym, ◌∙◌, ap, subst, arith, pos, Option, Some, None}
 use Rattle.std.specs.Prelude.{negsuc, ℤ}
 use Rattle.std.specs.Ordering.{int_cmp}
 use Rattle.ps_volumes.specs.obj_layout.declared.kind.Kind.TheVariants as kind
@@ -17,8 +17,8 @@ use Rattle.heap_meaning.specs.avl_trees.Trees as trees
 use Rattle.heap_meaning.specs.avl_trees.Standing.{root_of, Stands as TreeStands}
 use Rattle.heap_meaning.specs.node_rows.Keys.{by_ints as int_keys}
 use Rattle.heap_meaning.specs.node_rows.Nodes.{I, HasNode, link_of}
-use Rattle.heap_meaning.specs.Tables.{key_kind, HasEntries, HasNodes, IsTable}
-use Rattle.heap_meaning.specs.Standing.{Pairing, StandsFor}
+use Rattle.heap_meaning.specs.Tables.{key_kind, ArePairs, HasEntries, HasNodes, IsTable}
+use Rattle.heap_meaning.specs.Standing.{Seen, Pairing, StandsFor}
 use Rattle.heap_meaning.specs.Paired.{paired}
 use Rattle.heap_fit.specs.ps_heap.Tables.{Entry, Table, by_ints, by_strings, without_keys, cardinality}
 use Rattle.heap_fit.specs.ps_heap.Values.{Pointer}
@@ -139,7 +139,7 @@ item n key = record { name = n; entry = record { key = key; value = Pid 42 } }
 
 -- a pntr may name the table
 empty-named : (count : ℕ) (a b c : Spelled) → StandsFor (SeenIn (space count a b c)) (stored names) (Pid 42) (Pointer 0)
-empty-named count a b c = ((refl, (42, refl)), inr (record { it = empty_shown; there = empty-seen count a b c; kind_is = refl }))
+empty-named count a b c = ((refl, 42, refl), inr (record { it = empty_shown; there = empty-seen count a b c; kind_is = refl }))
 
 some-name : Pid 42 ≢ Nil
 some-name e = cc
@@ -252,7 +252,7 @@ table-in at heap names s n id it there is p =
     by (Structure class fields) means like = let of : kind.Table ≡ kind.Structure = sym is ∙ like.0.kind_is in absurd (cc)
     by (Elements ty low elements) means like = let of : kind.Table ≡ kind.Vector = sym is ∙ like.0.rows.kind_is in absurd (cc)
     by (Scope text parent values) means like = let of : kind.Table ≡ kind.Scope = sym is ∙ like.0.kind_is in absurd (cc)
-    by (Keyed of) means like = (of, s.tables.each (Pid n) id of (p, (n, refl)) means)
+    by (Keyed of) means like = (of, s.tables.each (Pid n) id of (p, n, refl) means)
 
 no-heap : (count : ℕ) (a b c : Spelled)
     → ((pair : Pairing) (of : Table) (nodes : List Reference) → IsTable (SeenIn (space count a b c)) pair (Pid 1) of nodes → ⊥)
@@ -386,3 +386,11 @@ another_order nodes table =
     let rise = entries-rise int_cmp (SeenIn two) (stored names) (items has.tree) (under (pos 5) ∷ under (negsuc 0) ∷ []) has.rising has.pairs in
     let below = rise.0.0 in
     absurd (cc)
+
+-- the value of a node's pair stands for an object
+pub pair-under : (seen : Seen) (pair : Pairing) (before : List (I int_keys)) (a : I int_keys) (behind : List (I int_keys)) (entries : List (Entry ℤ))
+    → ArePairs seen pair (before ++ a ∷ behind) entries → (id : ℕ) × StandsFor seen pair a.entry.value (Pointer id)
+pair-under seen pair [] a behind (e ∷ entries) p = (e.object, p.1)
+pair-under seen pair [] a behind [] p = absurd p
+pair-under seen pair (b ∷ before) a behind (e ∷ entries) p = pair-under seen pair before a behind entries p.2
+pair-under seen pair (b ∷ before) a behind [] p = absurd p

@@ -1,6 +1,6 @@
 -- A worked space: a database whose root has one entry, a structure with an int, a string and the root. It stands for its heap. With another home of
 -- the structure, or another number of entries of the table, it doesn't.
-use Rattle.std.proofs.Common.{◌≡◌, ◌⊎◌, inl, inr, ℕ, zero, suc, List, [], ◌∷◌, ◌++◌, ◌^◌, refl, sym, ◌∙◌, ap, subst, arith, pos, Some}
+use Rattle.std.proofs.Common.{◌≡◌, ◌≢◌, ◌⊎◌, inl, inr, ℕ, zero, suc, List, [], ◌∷◌, ◌++◌, ◌^◌, refl, sym, ◌∙◌, ap, subst, arith, pos, Some}
 use Rattle.std.specs.Prelude.{codes}
 use Rattle.ps_volumes.specs.obj_layout.declared.kind.Kind.TheVariants as kind
 use Rattle.ps_volumes.specs.obj_layout.declared.reference.Reference.{Reference}
@@ -16,12 +16,15 @@ use Rattle.heap_meaning.specs.heap_places.Words.{int_in}
 use Rattle.heap_meaning.specs.heap_places.Shapes.{word_in}
 use Rattle.ps_code_laws.specs.text_forms.Forms.{forms_of, forms_from, form_here, begins}
 use Rattle.ps_code_laws.specs.ps_heap.Values.{Num, Text, Pointer}
-use Rattle.heap_meaning.specs.Standing.{IsKindOf}
+use Rattle.heap_meaning.specs.avl_trees.Trees as trees
+use Rattle.heap_meaning.specs.avl_trees.Trees.{Tree, items}
+use Rattle.heap_meaning.specs.node_rows.Keys.{by_texts as text_keys}
+use Rattle.heap_meaning.specs.node_rows.Nodes.{I, IsAmong, link_of}
+use Rattle.heap_meaning.specs.Tables.{ArePairs, IsTable, TablesStand}
+use Rattle.heap_meaning.specs.Standing.{IsKindOf, IsPointed}
 use Rattle.heap_meaning.specs.Paired.{paired}
-use Rattle.heap_fit.specs.ps_heap.Tables.{Entry, by_strings, cardinality}
-use Rattle.heap_fit.specs.ps_heap.avl_trees.Trees as trees
-use Rattle.heap_fit.specs.ps_heap.avl_trees.Trees.{items}
-use Rattle.heap_fit.specs.ps_heap.Objects.{Object, Structure, Keyed}
+use Rattle.heap_fit.specs.ps_heap.Tables.{Table, by_strings, cardinality}
+use Rattle.heap_fit.specs.ps_heap.Objects.{Object, Structure, Keyed, object_at}
 use Rattle.heap_fit.specs.ps_heap.References.{next_in}
 use Rattle.heap_fit.specs.ps_heap.Databases.{every_root}
 use Rattle.heap_fit.specs.ps_heap.Held.{StoredHeap, home_at}
@@ -30,12 +33,11 @@ use Rattle.heap_fit.specs.ps_heap.reaching.Reaching.{IsIn, at_start, by_step}
 use Rattle.heap_fit.specs.ps_soundness.ps_meaning.ps_base.TyView as types
 use Rattle.heap_fit.specs.ps_soundness.ps_type_text.Texts.{Field, IsNamed, is_name_byte}
 use Rattle.heap_fit.specs.Heaps.{at_structure, at_table, IsFitAt, IsFitHeap}
-use Rattle.volume_meaning.specs.Space.{holding, IsStored, SeenIn, with_tables}
-use Rattle.volume_meaning.specs.Tables.{IsStringKey, StandsForTree, IsTable, IsNodeOf}
-use Rattle.volume_meaning.specs.Stands.{IsThing, IsHome, Both, AreNamed, IsDirectory, StandsUnder, SpaceStands, Stands}
+use Rattle.volume_meaning.specs.Space.{holding, IsStored, SeenIn}
+use Rattle.volume_meaning.specs.Stands.{IsThing, IsHome, Both, AreNamed, IsDirectory, stored, StandsUnder, SpaceStands, Stands}
 use Rattle.volume_meaning.proofs.Seen.{seen-one}
 use Rattle.volume_meaning.proofs.Spelled.{space-held, each-below}
-use Rattle.volume_meaning.proofs.Trees.{node_shown, sides-of, one-entry}
+use Rattle.volume_meaning.proofs.Trees.{node_shown, nil-leaf, sides-of, one-value}
 use Rattle.volume_meaning.proofs.Cutting.{pid, at, space_with, is-object, Follow, cut-of, seen-there, of_text, text-is}
 
 -- The words.
@@ -314,7 +316,7 @@ table-is = record {
     rising = (tt, tt);
     balanced = (tt, tt, (omega arith, omega arith));
     values = (some_value, tt);
-    pairs = (refl, ((refl, (45, refl)), inl (record { it = box_shown 1; there = box-seen 1 1; kind_is = refl })), tt);
+    pairs = (refl, ((refl, 45, refl), inl (record { it = box_shown 1; there = box-seen 1 1; kind_is = refl })), tt);
     nodes_are = refl;
   };
 }
@@ -428,7 +430,7 @@ root-paired home count names s =
 -- what stands for the root, and for the structure
 table-of : (home count : ℕ) (names : List Reference) → (s : StandsUnder (space home count) heap names)
     → IsTable (SeenIn (space home count)) (stored names) (Pid 20) (by_strings (record { key = codes "k"; object = 1 } ∷ [])) (s.tables.nodes 0)
-table-of home count names s = s.tables.each (Pid 20) 0 (by_strings (record { key = codes "k"; object = 1 } ∷ [])) (root-paired home count names s, (20, refl)) refl
+table-of home count names s = s.tables.each (Pid 20) 0 (by_strings (record { key = codes "k"; object = 1 } ∷ [])) (root-paired home count names s, 20, refl) refl
 
 box-paired : (home count : ℕ) (names : List Reference) → StandsUnder (space home count) heap names → paired names (Pid 45) 1
 box-paired home count names s =
