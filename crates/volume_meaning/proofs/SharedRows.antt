@@ -11,7 +11,7 @@ use Rattle.heap_meaning.specs.swizzle.Objects.{header_in, reference_at, object_i
 use Rattle.heap_meaning.specs.swizzle.Joint.{Shown, shown_words}
 use Rattle.heap_meaning.specs.avl_trees.Trees.{Tree, node as node_of, items}
 use Rattle.heap_meaning.specs.node_rows.Keys.{by_ints as int_keys}
-use Rattle.heap_meaning.specs.node_rows.Nodes.{I, IsAmong}
+use Rattle.heap_meaning.specs.node_rows.Nodes.{I, IsAmong as IsNameAmong}
 use Rattle.heap_meaning.specs.Tables.{ArePairs, names_of}
 use Rattle.heap_meaning.specs.Standing.{Pairing}
 use Rattle.heap_meaning.specs.Paired.{name_in, paired}
@@ -119,7 +119,7 @@ paired-root pair (d ∷ ds) is =
     (d, (subst (λ (it : Shown). AreNamed (SeenIn space) pair it.refs (d ∷ ds)) same is.names).2.0)
 
 -- a node to the left of a tree's root is one of its nodes
-left-among : (l : Tree (I int_keys)) (a : I int_keys) (r : Tree (I int_keys)) (n : Reference) → IsAmong n (names_of (items l)) → IsAmong n (names_of (items (node_of l a r)))
+left-among : (l : Tree (I int_keys)) (a : I int_keys) (r : Tree (I int_keys)) (n : Reference) → IsNameAmong n (names_of (items l)) → IsNameAmong n (names_of (items (node_of l a r)))
 left-among l a r n there = among-front (items l) (a ∷ items r) n there
 
 -- The node of 3 is on the left of the root of the first table, and it is the root of the second.
@@ -133,15 +133,15 @@ a_node_of_two_tables heap s =
     let ints = ints-in space pair (Pid 1) (Pid 9) 1 2 first.0 (s.stands.tables.nodes id) table-seen first.1 in
     let tree = ints.has in
     let sides = sides-of int_keys space 9 (Pid 20) Nil Nil (Pid 31) 5 2 tree.tree upper-seen tree.root_is tree.stands in
-    let below : IsAmong (Pid 20) (s.stands.tables.nodes id) =
-    subst (IsAmong (Pid 20)) (sym tree.nodes_are) (subst (λ (t : Tree (I int_keys)). IsAmong (Pid 20) (names_of (items t))) (sym sides.tree_is)
+    let below : IsNameAmong (Pid 20) (s.stands.tables.nodes id) =
+    subst (IsNameAmong (Pid 20)) (sym tree.nodes_are) (subst (λ (t : Tree (I int_keys)). IsNameAmong (Pid 20) (names_of (items t))) (sym sides.tree_is)
     (left-among sides.l sides.item sides.r (Pid 20) (root-among int_keys sides.l (Pid 20) sides.left_is refl))) in
     let value = pair-under (SeenIn space) pair (items sides.l) sides.item (items sides.r) ints.entries
     (subst (λ (t : Tree (I int_keys)). ArePairs (SeenIn space) pair (items t) ints.entries) sides.tree_is tree.pairs) in
     let second = table-in space heap s.names s.stands 31 value.0 second_shown second-seen refl (subst (λ (n : Reference). paired s.names n value.0) (sym sides.value_is) value.1.0.0) in
     let other = (ints-in space pair (Pid 31) (Pid 20) 1 1 second.0 (s.stands.tables.nodes value.0) second-seen second.1).has in
-    let also : IsAmong (Pid 20) (s.stands.tables.nodes value.0) = subst (IsAmong (Pid 20)) (sym other.nodes_are) (root-among int_keys other.tree (Pid 20) other.root_is refl) in
+    let also : IsNameAmong (Pid 20) (s.stands.tables.nodes value.0) = subst (IsNameAmong (Pid 20)) (sym other.nodes_are) (root-among int_keys other.tree (Pid 20) other.root_is refl) in
     let one = s.stands.tables.apart id value.0 (Pid 20) below also in
     let names : Some (Pid 1) ≡ Some (Pid 31) = sym root.1 ∙ ap (name_in s.names) one ∙ subst (λ (n : Reference). paired s.names n value.0) (sym sides.value_is) value.1.0.0 in
-    let same : 1 ≡ 31 = cc in
+    let same : ◌≡◌ {A = ℕ} 1 31 = cc in
     absurd (omega (arith, same))

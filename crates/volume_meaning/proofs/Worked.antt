@@ -19,7 +19,7 @@ use Rattle.ps_code_laws.specs.ps_heap.Values.{Num, Text, Pointer}
 use Rattle.heap_meaning.specs.avl_trees.Trees as trees
 use Rattle.heap_meaning.specs.avl_trees.Trees.{Tree, items}
 use Rattle.heap_meaning.specs.node_rows.Keys.{by_texts as text_keys}
-use Rattle.heap_meaning.specs.node_rows.Nodes.{I, IsAmong, link_of}
+use Rattle.heap_meaning.specs.node_rows.Nodes.{I, IsAmong as IsNameAmong, link_of}
 use Rattle.heap_meaning.specs.Tables.{ArePairs, IsTable, TablesStand}
 use Rattle.heap_meaning.specs.Standing.{IsKindOf, IsPointed}
 use Rattle.heap_meaning.specs.Paired.{paired}
@@ -383,12 +383,12 @@ tables-stand = record { nodes = nodes_at; each = each; are_nodes = are_nodes; ap
     each n (suc zero) table p is = absurd (cc)
     each n (suc (suc id)) table p is = absurd (cc)
 
-    are_nodes : (id : ℕ) (n : Reference) → IsAmong n (nodes_at id) → IsKindOf (SeenIn (space 1 1)) n kind.Node
+    are_nodes : (id : ℕ) (n : Reference) → IsNameAmong n (nodes_at id) → IsKindOf (SeenIn (space 1 1)) n kind.Node
     are_nodes zero n (inl is) = subst (λ (m : Reference). IsKindOf (SeenIn (space 1 1)) m kind.Node) (sym is) (record { it = one_node; there = node-seen 1 1; kind_is = refl })
     are_nodes zero n (inr more) = absurd more
     are_nodes (suc id) n a = absurd a
 
-    apart : (i j : ℕ) (n : Reference) → IsAmong n (nodes_at i) → IsAmong n (nodes_at j) → i ≡ j
+    apart : (i j : ℕ) (n : Reference) → IsNameAmong n (nodes_at i) → IsNameAmong n (nodes_at j) → i ≡ j
     apart zero zero n a b = refl
     apart zero (suc j) n a b = absurd b
     apart (suc i) j n a b = absurd a
