@@ -155,7 +155,12 @@ unit-held here at (unit code cs frame) i = i.0.held
 pub no-names : (here : area.Heap) (outside : Outside Space) → IsWorld here outside [] []
 no-names here outside = record {
   row = record {
-    stands = record { both = λ n id p. absurd (cc); one_number = λ n i j p q. absurd (cc); one_name = λ n m id p q. absurd (cc) };
+    stands = record {
+      both = λ n id p. absurd (cc);
+      one_number = λ n i j p q. absurd (cc);
+      one_name = λ n m id p q. absurd (cc);
+      tables = record { nodes = λ id. []; each = λ n id table p is. absurd (cc); are_nodes = λ id n a. absurd a; apart = λ i j n a b. absurd a };
+    };
     long = refl;
   };
 }

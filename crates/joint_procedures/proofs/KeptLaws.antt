@@ -272,6 +272,7 @@ module _ (mid : area.Heap) (before : Outside Space) (of : Heap) (names : List re
             (kind-with t.mid (shown_at t.mid at) index t.stored)
             (subst (λ (k : ℕ). IsScope b (paired names) (shown_with t.mid (shown_at t.mid at) k t.stored) s.text s.parent (set s.values which (kept_as (Some f) v))) (sym place)
             (scope-written t.mid b (paired names) (shown_at t.mid at) s.text s.parent s.values which f t.stored (kept_as (Some f) v) there a.form_is stored))
+            tt
             (rewritten t.mid new at index t.stored t.heap stays.held t.written);
       }
 

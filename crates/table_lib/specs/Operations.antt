@@ -11,9 +11,10 @@ use Rattle.ps_base.specs.declared.trap.Trap.TheVariants.{Nil, WrongClass, KeyKin
 use Rattle.table_nodes.specs.avl_trees.Rising.{find}
 use Rattle.table_nodes.specs.avl_trees.Trees.{Tree, items}
 use Rattle.table_nodes.specs.avl_trees.Standing.{root_of, seek}
-use Rattle.table_nodes.specs.Keys.{Keys, by_ints, by_texts, KeyOf, order_by}
+use Rattle.table_nodes.specs.node_rows.Keys.{Keys, by_ints, by_texts, KeyOf, order_by}
 use Rattle.table_nodes.specs.Nodes.{IsLinked, IsFetchFault}
-use Rattle.table_nodes.specs.Steps.{I, Place}
+use Rattle.table_nodes.specs.node_rows.Nodes.{I}
+use Rattle.table_nodes.specs.Steps.{Place}
 use Rattle.table_nodes.specs.Searching.{IsObject, value_of}
 use Rattle.table_lib.specs.Tables.{IsTableAt, HasKeys, HasPairs, IsUnused, IsTable}
 use Rattle.table_lib.specs.declared.words.KeyKind.{KeyKind as KindOfKeys}

@@ -5,7 +5,7 @@ ghost use Rattle.table_nodes.specs.avl_trees.Trees.{bits as digits};
 ghost use Rattle.table_nodes.specs.Bringing.{Brings};
 ghost use Rattle.table_nodes.specs.heap_places.swizzle.Joint.{name_at};
 ghost use Rattle.table_nodes.specs.heap_places.swizzle.Text.{text_at};
-ghost use Rattle.table_nodes.specs.Keys.{by_ints, by_texts};
+ghost use Rattle.table_nodes.specs.node_rows.Keys.{by_ints, by_texts};
 ghost use Rattle.table_nodes.specs.Sought.{IsKeyHeld, IsTextHeld, kind_of, key_in};
 ghost use Rattle.table_nodes.specs.Steps.{place};
 ghost use Rattle.table_lib.specs.Entries.{Enters, MarksTable, PutsPair, TakesPair, SparesBut};

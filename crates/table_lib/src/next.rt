@@ -6,7 +6,7 @@ ghost use Rattle.table_nodes.specs.heap_places.swizzle.Heap.{IsHeld, num_at};
 ghost use Rattle.table_nodes.specs.avl_trees.Trees.{bits as digits};
 ghost use Rattle.table_nodes.specs.Bringing.{Brings};
 ghost use Rattle.table_nodes.specs.heap_places.swizzle.Touch.{Keeps};
-ghost use Rattle.table_nodes.specs.Keys.{by_ints, by_texts, order_by};
+ghost use Rattle.table_nodes.specs.node_rows.Keys.{by_ints, by_texts, order_by};
 ghost use Rattle.table_nodes.specs.Nodes.{IsNode, Grows};
 ghost use Rattle.table_nodes.specs.Sought.{IsKeyHeld, IsTextHeld, kind_of, key_in};
 ghost use Rattle.table_nodes.specs.Steps.{place};

@@ -3,8 +3,9 @@ ghost use Rattle.table_nodes.specs.heap_places.heap_texts.declared.fault.OpFault
 ghost use Rattle.ps_base.specs.declared.trap.Trap.TheVariants.{Nil, WrongClass};
 ghost use Rattle.table_nodes.specs.avl_trees.Trees.{Tree, items};
 ghost use Rattle.table_nodes.specs.heap_places.swizzle.Heap.{IsFull, IsHeld, IsMade, Stands, blank, header_at};
-ghost use Rattle.table_nodes.specs.Keys.{Keys};
-ghost use Rattle.table_nodes.specs.Steps.{I, place};
+ghost use Rattle.table_nodes.specs.node_rows.Keys.{Keys};
+ghost use Rattle.table_nodes.specs.node_rows.Nodes.{I};
+ghost use Rattle.table_nodes.specs.Steps.{place};
 ghost use Rattle.table_lib.specs.Tables.{IsTable, IsUnused};
 
 use ps_base::trap::Trap;

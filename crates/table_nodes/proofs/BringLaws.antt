@@ -11,7 +11,8 @@ use Rattle.heap_places.specs.swizzle.Touch.{Keeps, Only, Denotes}
 use Rattle.heap_places.proofs.of_swizzle.JointLaws.{held-back, held-cases}
 use Rattle.heap_places.proofs.of_swizzle.TouchLaws.{keeps-refl}
 use Rattle.heap_places.proofs.of_swizzle.NameLaws.{name_at-injective}
-use Rattle.table_nodes.specs.Bringing.{IsAmong, Brings, NoneCome}
+use Rattle.node_rows.specs.Nodes.{IsAmong}
+use Rattle.table_nodes.specs.Bringing.{Brings, NoneCome}
 use Rattle.table_nodes.specs.Sparing.{Lasts}
 
 pub keeps_lasts : (a b : Heap) → Keeps a b → (at : ℕ) → IsHeld a at → Lasts a b at

@@ -7,9 +7,10 @@ use Rattle.avl_trees.specs.Rising.{pick}
 use Rattle.avl_trees.specs.Trees.{Tree, leaf, node, height, next}
 use Rattle.avl_trees.specs.Standing.{Stands, root_of, row_of}
 use Rattle.avl_trees.proofs.Standing.{stands_grown}
-use Rattle.table_nodes.specs.Keys.{Keys}
-use Rattle.table_nodes.specs.Nodes.{Seat, IsNamed, IsLinked}
-use Rattle.table_nodes.specs.Steps.{I, Place, rows_of, Touches}
+use Rattle.node_rows.specs.Keys.{Keys}
+use Rattle.node_rows.specs.Nodes.{Seat, I}
+use Rattle.table_nodes.specs.Nodes.{IsNamed, IsLinked}
+use Rattle.table_nodes.specs.Steps.{Place, rows_of, Touches}
 use Rattle.table_nodes.specs.Searching.{IsTree}
 use Rattle.table_nodes.specs.Following.{IsTurn, item_name}
 use Rattle.table_nodes.specs.declared.follow.Turn.{Turn}

@@ -20,9 +20,10 @@ use Rattle.heap_places.proofs.PlaceLaws.{slot-name}
 use Rattle.avl_trees.specs.Standing.{IsWritten}
 use Rattle.heap_places.specs.Words.{int_in}
 use Rattle.heap_places.specs.Shapes.{slot_of, word_in, IsText}
-use Rattle.table_nodes.specs.Keys.{Keys, by_ints, by_texts, KeyOf, Seen, IsKey}
+use Rattle.node_rows.specs.Keys.{Keys, by_ints, by_texts, KeyOf, Seen, IsKey}
 use Rattle.table_nodes.proofs.KeyLaws.{AreSingle, key_one, key_grows, key_changed, key_back}
-use Rattle.table_nodes.specs.Nodes.{Seat, link_of, IsSeat, HasNode, rows_in, IsSingle, IsNode, IsNamed, IsLinked, Grows, OthersStay, side_of, with_sides, Links, HasSides, IsFetchFault, IsSide}
+use Rattle.node_rows.specs.Nodes.{Seat, link_of, IsSeat, HasNode}
+use Rattle.table_nodes.specs.Nodes.{rows_in, IsSingle, IsNode, IsNamed, IsLinked, Grows, OthersStay, side_of, with_sides, Links, HasSides, IsFetchFault, IsSide}
 use Rattle.heap_places.specs.swizzle.declared.fault.SwizzleFault.{SwizzleFault}
 use Rattle.heap_places.specs.swizzle.declared.fault.SwizzleFault.TheVariants.{AreaFull, Vault}
 

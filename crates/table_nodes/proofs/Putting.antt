@@ -19,14 +19,15 @@ use Rattle.avl_trees.proofs.Ordered.{around, all_front, all_back}
 use Rattle.avl_trees.proofs.Standing.{stands_grown}
 use Rattle.avl_trees.proofs.Turning.{touched}
 use Rattle.avl_trees.proofs.Entering.{apart_left, apart_right, left_given, left_entered, right_given, right_entered, entered_here, entered_leaf, entered_grown, entered_here_is, entered_left_is, entered_right_is}
-use Rattle.table_nodes.specs.Keys.{Keys, KeyOf, order_by}
+use Rattle.node_rows.specs.Keys.{Keys, KeyOf, order_by}
 use Rattle.table_nodes.specs.Nodes.{IsNamed, IsLinked}
-use Rattle.table_nodes.specs.Steps.{I, Place, place, IsPlace, rows_of, AreSides, StandsAt, Holds, Touches}
+use Rattle.node_rows.specs.Nodes.{I, HasValue}
+use Rattle.table_nodes.specs.Steps.{Place, place, IsPlace, rows_of, AreSides, StandsAt, Holds, Touches}
 use Rattle.table_nodes.specs.Turning.{Balances}
 use Rattle.table_nodes.specs.Wings.{AreEnds, IsLeftWing, IsRightWing}
 use Rattle.table_nodes.specs.declared.sides.Sides.{Sides}
 use Rattle.table_nodes.specs.declared.wing.Wing.{Wing}
-use Rattle.table_nodes.specs.Searching.{HasValue, IsTree}
+use Rattle.table_nodes.specs.Searching.{IsTree}
 use Rattle.table_nodes.specs.Entering.{Makes, Puts, with_value, IsOpened, Enters, EntersAt, IsEnterFault, IsCountedAt, is_missing, IsNoRoom}
 use Rattle.table_nodes.specs.declared.enter.Entered.{Entered}
 use Rattle.table_nodes.specs.declared.opening.Opened.{Opened}

@@ -12,9 +12,10 @@ use Rattle.avl_trees.proofs.Turning.{touched}
 use Rattle.avl_trees.proofs.Items.{rest_items}
 use Rattle.avl_trees.proofs.Ordered.{all_back, all_both}
 use Rattle.avl_trees.proofs.Removing.{apart_left, apart_right, taken_here, taken_given, taken_above, merged_left, merged_right, merged_given, merged_both, left_removed_given, left_removed, right_removed_given, right_removed, removed_left_is, removed_right_is, removed_here_is}
-use Rattle.table_nodes.specs.Keys.{Keys, KeyOf, order_by}
+use Rattle.node_rows.specs.Keys.{Keys, KeyOf, order_by}
 use Rattle.table_nodes.specs.Nodes.{IsNamed, IsLinked, IsFetchFault}
-use Rattle.table_nodes.specs.Steps.{I, Place, IsPlace, StayBeside, rows_of, AreSides, StandsAt, Holds, Touches}
+use Rattle.node_rows.specs.Nodes.{I}
+use Rattle.table_nodes.specs.Steps.{Place, IsPlace, StayBeside, rows_of, AreSides, StandsAt, Holds, Touches}
 use Rattle.table_nodes.specs.Searching.{IsTree}
 use Rattle.table_nodes.specs.Entering.{IsOpened, is_missing}
 use Rattle.table_nodes.specs.Wings.{IsLeftWing, IsRightWing}

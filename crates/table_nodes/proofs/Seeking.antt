@@ -10,10 +10,11 @@ use Rattle.avl_trees.specs.Trees.{Tree, leaf, node, height, items, lookup}
 use Rattle.avl_trees.specs.Standing.{Stands, seek, root_of, row_of}
 use Rattle.avl_trees.proofs.Ordered.{all_front, all_back}
 use Rattle.avl_trees.proofs.Standing.{stands_grown}
-use Rattle.table_nodes.specs.Keys.{Keys, KeyOf, order_by}
-use Rattle.table_nodes.specs.Nodes.{Seat, IsNamed, IsLinked, IsFetchFault}
-use Rattle.table_nodes.specs.Steps.{I, Place, rows_of, Touches}
-use Rattle.table_nodes.specs.Searching.{HasValue, IsTree, looks, value_of, IsObject, ReadsValue, IsStep}
+use Rattle.node_rows.specs.Keys.{Keys, KeyOf, order_by}
+use Rattle.node_rows.specs.Nodes.{Seat, I, HasValue}
+use Rattle.table_nodes.specs.Nodes.{IsNamed, IsLinked, IsFetchFault}
+use Rattle.table_nodes.specs.Steps.{Place, rows_of, Touches}
+use Rattle.table_nodes.specs.Searching.{IsTree, looks, value_of, IsObject, ReadsValue, IsStep}
 use Rattle.table_nodes.specs.declared.search.Step.TheVariants.{Found, Down}
 use Rattle.table_nodes.proofs.NodeLaws.{fetch_back}
 

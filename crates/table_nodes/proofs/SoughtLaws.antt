@@ -21,8 +21,9 @@ use Rattle.heap_places.specs.Shapes.{slot_of, word_in, shown_text}
 use Rattle.heap_places.specs.Words.{int_in}
 use Rattle.table_nodes.specs.declared.keys.Key.{Key}
 use Rattle.table_nodes.specs.declared.keys.Key.TheVariants.{Int, Text}
-use Rattle.table_nodes.specs.Keys.{by_ints, by_texts}
-use Rattle.table_nodes.specs.Nodes.{Seat, IsNamed, rows_in}
+use Rattle.node_rows.specs.Keys.{by_ints, by_texts}
+use Rattle.node_rows.specs.Nodes.{Seat}
+use Rattle.table_nodes.specs.Nodes.{IsNamed, rows_in}
 use Rattle.std.specs.Ordering.{int_cmp}
 use Rattle.std.specs.Prelude.{negsuc}
 use Rattle.std.proofs.lemmas.Bool.{cases_lt, ltb-true, lt-ltb}

@@ -13,7 +13,7 @@ use Rattle.heap_places.specs.swizzle.Touch.{Keeps}
 use Rattle.heap_places.proofs.of_swizzle.JointLaws.{joint-ref, joint-num}
 use Rattle.heap_places.proofs.of_swizzle.MarkLaws.{joint-mark}
 use Rattle.heap_places.proofs.of_swizzle.NameLaws.{name_at-injective}
-use Rattle.table_nodes.specs.Keys.{Keys, KeyOf}
+use Rattle.node_rows.specs.Keys.{Keys, KeyOf}
 use Rattle.table_nodes.specs.Nodes.{IsNode, IsSingle, OthersStay, Grows}
 use Rattle.table_nodes.specs.Entering.{Makes}
 use Rattle.table_nodes.specs.Sparing.{Lasts, IsNoted, Spares}

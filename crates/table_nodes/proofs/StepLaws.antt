@@ -12,9 +12,10 @@ use Rattle.avl_trees.specs.Trees.{Tree, leaf, node, height}
 use Rattle.avl_trees.specs.Standing.{Item, root_of, row_of, Stands, IsApart, IsOne, IsWritten}
 use Rattle.avl_trees.proofs.Ordered.{all_front, all_back}
 use Rattle.avl_trees.proofs.Turning.{set_between, touched}
-use Rattle.table_nodes.specs.Keys.{Keys, order_by}
-use Rattle.table_nodes.specs.Nodes.{Seat, IsSeat, IsNamed, IsLinked, IsSide, Links, with_sides}
-use Rattle.table_nodes.specs.Steps.{I, Place, place, rows_of, IsPlace, AreSides, SetsSides, Holds as Keeps, Touches}
+use Rattle.node_rows.specs.Keys.{Keys, order_by}
+use Rattle.node_rows.specs.Nodes.{Seat, IsSeat, I}
+use Rattle.table_nodes.specs.Nodes.{IsNamed, IsLinked, IsSide, Links, with_sides}
+use Rattle.table_nodes.specs.Steps.{Place, place, rows_of, IsPlace, AreSides, SetsSides, Holds as Keeps, Touches}
 use Rattle.table_nodes.proofs.KeyLaws.{total}
 use Rattle.table_nodes.proofs.NodeLaws.{seat_one, joint_one, single_kept, fetch_back}
 

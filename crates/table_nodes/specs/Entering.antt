@@ -12,9 +12,10 @@ use Rattle.heap_places.specs.swizzle.Changes.{Within}
 use Rattle.heap_places.specs.swizzle.Reading.{joint}
 use Rattle.avl_trees.specs.Trees.{Tree, node, height, items, insert, lookup}
 use Rattle.avl_trees.specs.Standing.{Row, Stands, IsWritten, root_of, seek, put, fresh_item}
-use Rattle.table_nodes.specs.Keys.{Keys, KeyOf, order_by}
-use Rattle.table_nodes.specs.Nodes.{Seat, IsNode, IsNamed, IsLinked, IsSingle, IsFetchFault, OthersStay, rows_in}
-use Rattle.table_nodes.specs.Steps.{I, Place, IsPlace, StandsAt, rows_of}
+use Rattle.node_rows.specs.Keys.{Keys, KeyOf, order_by}
+use Rattle.node_rows.specs.Nodes.{Seat, I}
+use Rattle.table_nodes.specs.Nodes.{IsNode, IsNamed, IsLinked, IsSingle, IsFetchFault, OthersStay, rows_in}
+use Rattle.table_nodes.specs.Steps.{Place, IsPlace, StandsAt, rows_of}
 use Rattle.table_nodes.specs.Searching.{IsTree}
 use Rattle.table_nodes.specs.Wings.{IsLeftWing, IsRightWing}
 use Rattle.table_nodes.specs.declared.enter.Entered.{Entered}

@@ -1,7 +1,6 @@
 pub mod Sparing
 pub mod Entering
 pub mod Following
-pub mod Keys
 pub mod Making
 pub mod Nodes
 pub mod Removing
@@ -13,3 +12,4 @@ pub mod Wings
 pub mod Bringing
 pub use Rattle.heap_places.specs as heap_places
 pub use Rattle.avl_trees.specs as avl_trees
+pub use Rattle.node_rows.specs as node_rows

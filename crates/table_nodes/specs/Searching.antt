@@ -13,15 +13,12 @@ use Rattle.heap_places.specs.swizzle.Joint.{name_at}
 use Rattle.avl_trees.specs.Rising.{pick}
 use Rattle.avl_trees.specs.Trees.{Tree, leaf, node, height, items, IsBalanced, lookup}
 use Rattle.avl_trees.specs.Standing.{Item, Stands, IsRising, root_of, seek}
-use Rattle.table_nodes.specs.Keys.{Keys, KeyOf, order_by}
-use Rattle.table_nodes.specs.Nodes.{Seat, IsNode, IsNamed, IsLinked, IsFetchFault, rows_in}
-use Rattle.table_nodes.specs.Steps.{I, Place, rows_of}
+use Rattle.node_rows.specs.Keys.{Keys, KeyOf, order_by}
+use Rattle.node_rows.specs.Nodes.{Seat, I, HasValue}
+use Rattle.table_nodes.specs.Nodes.{IsNode, IsNamed, IsLinked, IsFetchFault, rows_in}
+use Rattle.table_nodes.specs.Steps.{Place, rows_of}
 use Rattle.table_nodes.specs.declared.search.Step.{Step}
 use Rattle.table_nodes.specs.declared.search.Step.TheVariants.{Found, Down}
-
--- no pair has nil for its value
-abbrev pub HasValue : {K : Type 0} → Item Reference K Reference → Type 0
-HasValue a = a.entry.value ≢ Nil
 
 -- From this place on a search tree stands, and each of its keys has a value.
 pub record IsTree (ks : Keys) (p : Place) (root : Option ℕ) (t : Tree (I ks)) : Type 0 where

@@ -11,8 +11,9 @@ use Rattle.heap_places.specs.swizzle.Heap.{Heap, IsHeld, header_at}
 use Rattle.heap_places.specs.swizzle.Text.{text_at}
 use Rattle.table_nodes.specs.declared.keys.Key.{Key}
 use Rattle.table_nodes.specs.declared.keys.Key.TheVariants.{Int, Text}
-use Rattle.table_nodes.specs.Keys.{Keys, by_ints, by_texts, KeyOf, order_by}
-use Rattle.table_nodes.specs.Nodes.{Seat, IsNamed, IsFetchFault, rows_in}
+use Rattle.node_rows.specs.Keys.{Keys, by_ints, by_texts, KeyOf, order_by}
+use Rattle.node_rows.specs.Nodes.{Seat}
+use Rattle.table_nodes.specs.Nodes.{IsNamed, IsFetchFault, rows_in}
 
 abbrev pub kind_of : Key → Keys
 kind_of (Int value) = by_ints

@@ -7,9 +7,10 @@ use Rattle.heap_places.specs.swizzle.declared.fault.SwizzleFault.{SwizzleFault}
 use Rattle.heap_places.specs.swizzle.Heap.{Heap}
 use Rattle.avl_trees.specs.Trees.{Tree, leaf, node, height}
 use Rattle.avl_trees.specs.Standing.{Item, Stands, root_of}
-use Rattle.table_nodes.specs.Keys.{Keys}
+use Rattle.node_rows.specs.Keys.{Keys}
 use Rattle.table_nodes.specs.Nodes.{IsNode, IsNamed, IsLinked, IsFetchFault}
-use Rattle.table_nodes.specs.Steps.{I, Place, rows_of}
+use Rattle.node_rows.specs.Nodes.{I}
+use Rattle.table_nodes.specs.Steps.{Place, rows_of}
 use Rattle.table_nodes.specs.declared.sides.Sides.{Sides}
 use Rattle.table_nodes.specs.declared.wing.Wing.{Wing}
 use Rattle.table_nodes.specs.declared.ready.Ready.{Ready}

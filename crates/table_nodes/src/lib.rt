@@ -18,3 +18,4 @@ pub mod wings;
 pub use avl_trees;
 pub use counted_steps;
 pub use heap_places;
+pub use node_rows;

@@ -3,9 +3,10 @@ ghost use Rattle.heap_places.specs.obj_layout.declared.reference.Reference.{Refe
 ghost use Rattle.heap_places.specs.swizzle.Heap.{IsHeld, IsListed};
 ghost use Rattle.heap_places.specs.swizzle.Touch.{Keeps};
 ghost use Rattle.table_nodes.specs.Bringing.{Brings, NoneCome};
-ghost use Rattle.table_nodes.specs.Nodes.{IsNode, IsNamed, IsLinked, IsSide, IsSlot, HasSides, Seat, Grows, Links, IsFetchFault, rows_in, side_of};
+ghost use Rattle.node_rows.specs.Nodes.{Seat};
+ghost use Rattle.table_nodes.specs.Nodes.{IsNode, IsNamed, IsLinked, IsSide, IsSlot, HasSides, Grows, Links, IsFetchFault, rows_in, side_of};
 ghost use Rattle.table_nodes.specs.Entering.{Puts};
-ghost use Rattle.table_nodes.specs.Keys.{Keys};
+ghost use Rattle.node_rows.specs.Keys.{Keys};
 ghost use Rattle.table_nodes.specs.Searching.{ReadsValue};
 ghost use Rattle.table_nodes.specs.Sparing.{Spares};
 

@@ -1,7 +1,7 @@
 use Rattle.std.proofs.Common.{arith, ◌+◌, ◌*◌, ◌≢◌, Ok, refl, ap, subst}
 use Rattle.table_nodes.specs.avl_trees.Trees.{lookup}
 use Rattle.table_nodes.specs.avl_trees.Standing.{seek}
-use Rattle.table_nodes.specs.Keys.{order_by}
+use Rattle.table_nodes.specs.node_rows.Keys.{order_by}
 use Rattle.table_nodes.specs.Sought.{kind_of, key_in}
 use Rattle.table_nodes.specs.Steps.{place}
 use Rattle.table_nodes.specs.Entering.{is_missing}

@@ -1,5 +1,5 @@
 use Rattle.std.proofs.Common.{Ok, refl, ap, sym, ◌∙◌}
-use Rattle.table_nodes.specs.Keys.{by_ints}
+use Rattle.table_nodes.specs.node_rows.Keys.{by_ints}
 use Rattle.table_nodes.proofs.SoughtLaws.{same_ok, int_key_same}
 use Rattle.table_nodes.proofs.of_heap_places.of_swizzle.TouchLaws.{keeps-refl}
 use Rattle.table_nodes.proofs.BringLaws.{brings_none}

@@ -1,6 +1,6 @@
 use Rattle.std.proofs.Common.{◌*◌, ◌+◌, arith, Option, Ok, subst}
 use Rattle.std.specs.Prelude.{ℕ}
-use Rattle.table_nodes.specs.Keys.{by_ints}
+use Rattle.table_nodes.specs.node_rows.Keys.{by_ints}
 use Rattle.table_nodes.specs.Steps.{place}
 use Rattle.table_lib.specs.Nexts.{IsIntPair, FindsNode, after_key}
 use Rattle.table_lib.proofs.NextLaws.{pairs_refused, pairs_none, pairs_some, pairs_fault}

@@ -1,6 +1,6 @@
 use Rattle.std.proofs.Common.{◌*◌, ◌+◌, arith, Option, Ok, subst}
 use Rattle.std.specs.Prelude.{ℕ}
-use Rattle.table_nodes.specs.Keys.{by_texts}
+use Rattle.table_nodes.specs.node_rows.Keys.{by_texts}
 use Rattle.table_nodes.specs.Steps.{place}
 use Rattle.table_lib.specs.Nexts.{IsTextPair, FindsNode, after_key, string_of}
 use Rattle.table_lib.proofs.NextLaws.{pairs_refused, pairs_none, pairs_some, pairs_fault}

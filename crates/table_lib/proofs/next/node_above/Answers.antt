@@ -2,7 +2,7 @@ use Rattle.std.proofs.Common.{◌∙◌, ◌-◌, ◌≡◌, ◌+◌, ◌*◌, t
 use Rattle.table_nodes.specs.heap_places.heap_texts.declared.fault.OpFault.TheVariants.{Swizzle}
 use Rattle.table_nodes.specs.avl_trees.Trees.{next}
 use Rattle.table_nodes.specs.avl_trees.Standing.{seek}
-use Rattle.table_nodes.specs.Keys.{order_by}
+use Rattle.table_nodes.specs.node_rows.Keys.{order_by}
 use Rattle.table_nodes.specs.Nodes.{IsLinked}
 use Rattle.table_nodes.specs.Following.{item_name}
 use Rattle.table_nodes.specs.Sought.{kind_of, key_in}

@@ -1,6 +1,6 @@
 use Rattle.std.proofs.Common.{arith, ap, sym, ◌∙◌}
 use Rattle.table_nodes.specs.declared.keys.Key.TheVariants.{Text}
-use Rattle.table_nodes.specs.Keys.{by_texts}
+use Rattle.table_nodes.specs.node_rows.Keys.{by_texts}
 use Rattle.table_nodes.specs.Steps.{place}
 use Rattle.table_nodes.proofs.NodeLaws.{fetch_back}
 use Rattle.table_nodes.proofs.SoughtLaws.{key_held_kept, key_in_kept}

@@ -3,11 +3,12 @@ use Rattle.std.proofs.Common.{◌-◌, ◌≤◌, ◌<◌, IfSome}
 use Rattle.std.specs.declared.cmp.Ordering.TheVariants.{Less}
 use Rattle.heap_places.specs.swizzle.Touch.{Keeps}
 use Rattle.avl_trees.specs.Trees.{Tree, height}
-use Rattle.table_nodes.specs.Keys.{Keys}
+use Rattle.node_rows.specs.Keys.{Keys}
 use Rattle.table_nodes.specs.Bringing.{Brings}
 use Rattle.table_nodes.specs.Nodes.{IsNode, Grows}
 use Rattle.table_nodes.specs.Searching.{IsTree}
-use Rattle.table_nodes.specs.Steps.{I, place}
+use Rattle.node_rows.specs.Nodes.{I}
+use Rattle.table_nodes.specs.Steps.{place}
 use Rattle.table_nodes.proofs.FollowLaws.{Following}
 use Rattle.table_nodes.proofs.follow.first.Given as goal
 

@@ -1,7 +1,7 @@
 use Rattle.std.proofs.Common.{◌-◌, arith, ◌∙◌, Option, ℕ, subst}
 use Rattle.heap_places.proofs.of_swizzle.TouchLaws.{keeps-trans}
 use Rattle.avl_trees.specs.Standing.{seek}
-use Rattle.table_nodes.specs.Keys.{order_by}
+use Rattle.node_rows.specs.Keys.{order_by}
 use Rattle.table_nodes.specs.Sought.{kind_of, key_in}
 use Rattle.table_nodes.specs.Steps.{place}
 use Rattle.table_nodes.specs.Following.{IsTurn}

@@ -3,12 +3,13 @@ use Rattle.std.proofs.Common.{◌≡◌, ◌-◌, ◌≤◌, ◌<◌, IfSome}
 use Rattle.heap_places.specs.swizzle.Touch.{Keeps}
 use Rattle.avl_trees.specs.Trees.{Tree, height}
 use Rattle.avl_trees.specs.Standing.{seek}
-use Rattle.table_nodes.specs.Keys.{order_by}
+use Rattle.node_rows.specs.Keys.{order_by}
 use Rattle.table_nodes.specs.Bringing.{Brings}
 use Rattle.table_nodes.specs.Nodes.{IsNode, Grows}
 use Rattle.table_nodes.specs.Sought.{IsKeyHeld, kind_of, key_in}
 use Rattle.table_nodes.specs.Searching.{IsTree}
-use Rattle.table_nodes.specs.Steps.{I, place}
+use Rattle.node_rows.specs.Nodes.{I}
+use Rattle.table_nodes.specs.Steps.{place}
 use Rattle.table_nodes.proofs.FollowLaws.{Following}
 use Rattle.table_nodes.proofs.follow.next.Given as goal
 

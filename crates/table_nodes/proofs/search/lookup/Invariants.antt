@@ -6,7 +6,8 @@ use Rattle.table_nodes.specs.Bringing.{Brings}
 use Rattle.table_nodes.specs.Nodes.{IsNode, Grows}
 use Rattle.table_nodes.specs.Sought.{IsKeyHeld, kind_of, key_in}
 use Rattle.table_nodes.specs.Searching.{IsTree}
-use Rattle.table_nodes.specs.Steps.{I, place}
+use Rattle.node_rows.specs.Nodes.{I}
+use Rattle.table_nodes.specs.Steps.{place}
 use Rattle.table_nodes.proofs.Seeking.{Sought}
 use Rattle.table_nodes.proofs.search.lookup.Given as goal
 
