@@ -3,6 +3,15 @@ pub mod CommitLaws
 pub mod StepLaws
 pub mod KeptLaws
 pub mod CallLaws
+pub mod RenamedObjects
 pub mod SameLaws
 pub mod EntryLaws
 pub mod TableLaws
+pub mod GrownPairs
+pub mod SameStarts
+pub mod SameTouches
+pub mod SameCommits
+pub mod SameAnswers
+pub mod SamePlaces
+pub mod SameTables
+pub mod SameCalls

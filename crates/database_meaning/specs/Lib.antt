@@ -1,5 +1,6 @@
 pub mod Same
 pub mod Sound
+pub mod SameRuns
 pub mod TableLaws
 pub mod Laws
 pub use Rattle.ps_heap.specs as ps_heap

@@ -1,3 +1,10 @@
 pub mod RoundLaws
 pub mod Rows
 mod HeapRows
+pub mod InOrder
+pub mod TypedFits
+pub mod TypedPrograms
+pub mod Mentioned
+pub mod MoreInScope
+pub mod KeptDatabases
+pub mod KeptCalls
