@@ -1,4 +1,4 @@
-ghost use Rattle.std.specs.Prelude.{◌≡◌, ℕ, ◌+◌, ◌*◌, ◌≤◌, IfOk, IfSome, OnOk, OnErr, Some};
+ghost use Rattle.std.specs.Prelude.{◌≡◌, ℕ, ◌+◌, ◌*◌, ◌≤◌, IfOk, IfSome, OnOk, OnErr, Some, IfErr};
 ghost use Rattle.table_nodes.specs.heap_places.swizzle.Heap.{IsHeld, num_at};
 ghost use Rattle.table_nodes.specs.heap_places.swizzle.Touch.{Keeps};
 ghost use Rattle.table_nodes.specs.avl_trees.Trees.{bits as digits};
@@ -9,6 +9,8 @@ ghost use Rattle.table_nodes.specs.Keys.{by_ints, by_texts};
 ghost use Rattle.table_nodes.specs.Sought.{IsKeyHeld, IsTextHeld, kind_of, key_in};
 ghost use Rattle.table_nodes.specs.Steps.{place};
 ghost use Rattle.table_lib.specs.Operations.{LooksUp};
+ghost use Rattle.table_nodes.specs.Faults.{IsNodeFault};
+ghost use Rattle.table_lib.specs.Faults.{IsOpFault};
 
 use crate::bits::bits;
 use crate::words::{counted_root, kind_of_key, open_table};
@@ -39,6 +41,7 @@ pub fn lookup_key<V: Vault, L: Ledger>(
     ensures keeps { OnOk result (Keeps sw.old sw.new) }
     ensures still { OnErr result (Keeps sw.old sw.new) }
     ensures brings { (at : ℕ) → table ≡ Some at → Brings sw.old sw.new (2 * digits (num_at sw.old at 2) + 2) }
+    ensures fault { IfErr result (IsOpFault (IsNodeFault (V.outside vault.old) (V.outside vault.new) sw.new) sw.new table) }
     ensures alive { OnOk result (V.alive vault.new) }
 {
     sw.sound();
@@ -78,6 +81,7 @@ pub fn lookup_text<V: Vault, L: Ledger>(
     ensures keeps { OnOk result (Keeps sw.old sw.new) }
     ensures still { OnErr result (Keeps sw.old sw.new) }
     ensures brings { (at : ℕ) → table ≡ Some at → Brings sw.old sw.new (2 * digits (num_at sw.old at 2) + 2) }
+    ensures fault { IfErr result (IsOpFault (IsNodeFault (V.outside vault.old) (V.outside vault.new) sw.new) sw.new table) }
     ensures alive { OnOk result (V.alive vault.new) }
 {
     lookup_key(sw, vault, Key::Text(key), table, steps)
@@ -100,6 +104,7 @@ pub fn lookup_int<V: Vault, L: Ledger>(
     ensures keeps { OnOk result (Keeps sw.old sw.new) }
     ensures still { OnErr result (Keeps sw.old sw.new) }
     ensures brings { (at : ℕ) → table ≡ Some at → Brings sw.old sw.new (2 * digits (num_at sw.old at 2) + 2) }
+    ensures fault { IfErr result (IsOpFault (IsNodeFault (V.outside vault.old) (V.outside vault.new) sw.new) sw.new table) }
     ensures alive { OnOk result (V.alive vault.new) }
 {
     lookup_key(sw, vault, Key::Int(key), table, steps)

@@ -1,4 +1,4 @@
-ghost use Rattle.std.specs.Prelude.{◌≡◌, true, false, IfOk, IfSome, OnOk, OnErr};
+ghost use Rattle.std.specs.Prelude.{◌≡◌, true, false, IfOk, IfSome, OnOk, OnErr, IfErr};
 ghost use Rattle.table_nodes.specs.heap_places.obj_layout.declared.reference.Reference.{Reference};
 ghost use Rattle.table_nodes.specs.heap_places.swizzle.Heap.{IsHeld, num_at, ref_at};
 ghost use Rattle.table_nodes.specs.heap_places.swizzle.Touch.{Keeps};
@@ -9,6 +9,8 @@ ghost use Rattle.table_nodes.specs.Steps.{place};
 ghost use Rattle.table_lib.specs.Entries.{MarksTable, SparesBut, WritesTable};
 ghost use Rattle.table_lib.specs.Operations.{Opens, ReadsRoot, keys_of};
 ghost use Rattle.table_lib.specs.Tables.{IsTableAt, key_number};
+ghost use Rattle.table_nodes.specs.Faults.{IsNodeFault};
+ghost use Rattle.table_lib.specs.Faults.{IsFaultAt, IsOpenFault};
 
 use ps_base::trap::Trap;
 use table_nodes::heap_places::heap_texts::fault::OpFault;
@@ -80,7 +82,8 @@ fn has_no_root(sw: &Swizzle, at: u32) -> bool
 /// has keys of the other kind.
 pub fn open_table(sw: &Swizzle, keys: KeyKind, table: Option<u32>) -> Result<Opened, OpFault>
     requires held { IfSome table (IsHeld sw.now) }
-    ensures { Opens (keys_of keys) sw.now table result }
+    ensures opens { Opens (keys_of keys) sw.now table result }
+    ensures fault { IfErr result (IsOpenFault sw.now table) }
 {
     let Some(at) = table else {
         return Err(OpFault::Trap(Trap::Nil));
@@ -121,6 +124,7 @@ pub fn root_node<V: Vault>(
     ensures keeps { OnOk result (Keeps sw.old sw.new) }
     ensures still { OnErr result (Keeps sw.old sw.new) }
     ensures brings { Brings sw.old sw.new 1 }
+    ensures fault { IfErr result (IsNodeFault (V.outside vault.old) (V.outside vault.new) sw.new) }
     ensures alive { OnOk result (V.alive vault.new) }
 {
     sw.sound();
@@ -155,6 +159,7 @@ pub fn counted_root<V: Vault>(
     ensures keeps { OnOk result (Keeps sw.old sw.new) }
     ensures still { OnErr result (Keeps sw.old sw.new) }
     ensures brings { Brings sw.old sw.new 1 }
+    ensures fault { IfErr result (IsFaultAt (IsNodeFault (V.outside vault.old) (V.outside vault.new) sw.new) sw.new at) }
     ensures alive { OnOk result (V.alive vault.new) }
 {
     let count = sw.num(at, 2);

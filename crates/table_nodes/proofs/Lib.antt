@@ -13,5 +13,6 @@ pub mod StepLaws
 pub mod TurnLaws
 pub mod WingLaws
 pub mod BringLaws
+pub mod FaultLaws
 pub use Rattle.heap_places.proofs as of_heap_places
 pub use Rattle.avl_trees.proofs as of_avl_trees

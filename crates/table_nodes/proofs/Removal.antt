@@ -231,7 +231,7 @@ module _ (ks : Keys) (key : KeyOf ks) where
         }
 
     pub here_fault : (fault : SwizzleFault) (bound : ℕ) → bound ≡ height (node l a r) → Merges m m1 opened.left opened.right bound (Err fault) → IsFetchFault old.outside fault
-    here_fault fault bound high merges = fetch_back old.outside m.outside fault grows.contents (merges ks at l a r here (tree_grown ks old m at root grows l a r name h) o.left o.right (omega (arith, high)))
+    here_fault fault bound high merges = fetch_back old.outside m.outside fault grows.leaves.contents (merges ks at l a r here (tree_grown ks old m at root grows l a r name h) o.left o.right (omega (arith, high)))
 
 -- what was taken out, by the key of before
 pub removed_as : (ks : Keys) (old new : Place) (root : Option ℕ) (bound : ℕ) (key wanted : KeyOf ks) (result : Result Removed SwizzleFault) → key ≡ wanted → Removes ks old new root bound key result → Removes ks old new root bound wanted result

@@ -114,7 +114,7 @@ module _ (ks : Keys) (key : KeyOf ks) where
         go : (result : Result ℕ SwizzleFault) → MatchResult result (λ value. name_at new.heap value ≡ s.b.entry.value) (IsFetchFault m.outside)
             → MatchResult result (λ value. IsHeld new.heap value → IsObject new.heap (Some value) (value_of (sought_in t))) (IsFetchFault p.outside)
         go (Ok value) e = λ held. subst (λ o. IsObject new.heap (Some value) (value_of o)) (sym (lookup_here s.x s.b s.y found) ∙ s.same) (held, e)
-        go (Err fault) w = fetch_back p.outside m.outside fault grows.contents w
+        go (Err fault) w = fetch_back p.outside m.outside fault grows.leaves.contents w
 
     pub looked_found : (later : ℕ) → later ≡ now + 1 → IsStep ks m.heap key s.x s.b s.y Found → later ≡ before + looks_in t
     looked_found later e found =

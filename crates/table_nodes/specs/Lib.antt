@@ -11,5 +11,6 @@ pub mod Steps
 pub mod Turning
 pub mod Wings
 pub mod Bringing
+pub mod Faults
 pub use Rattle.heap_places.specs as heap_places
 pub use Rattle.avl_trees.specs as avl_trees

@@ -1,4 +1,4 @@
-ghost use Rattle.std.specs.Prelude.{◌≡◌, ◌≤◌, ◌*◌, Some, None, OnOk, OnErr, IfOk, IfSome};
+ghost use Rattle.std.specs.Prelude.{◌≡◌, ◌≤◌, ◌*◌, Some, None, OnOk, OnErr, IfOk, IfSome, IfErr};
 ghost use Rattle.heap_places.specs.ps_outside.Outside.{SameContents};
 ghost use Rattle.heap_places.specs.swizzle.Heap.{IsHeld};
 ghost use Rattle.heap_places.specs.swizzle.Joint.{name_at};
@@ -11,6 +11,7 @@ ghost use Rattle.table_nodes.specs.Sparing.{Spares};
 ghost use Rattle.table_nodes.specs.Steps.{place, Holds};
 ghost use Rattle.table_nodes.specs.Turning.{Balances};
 ghost use Rattle.table_nodes.specs.Wings.{IsWingHeld};
+ghost use Rattle.table_nodes.specs.Faults.{IsChangeFault};
 
 use crate::keys::Key;
 use crate::make::make_node;
@@ -144,6 +145,7 @@ pub fn enter<V: Vault>(
     ensures still { OnErr result (Keeps sw.old sw.new) }
     ensures brings { Brings sw.old sw.new (3 * bound) }
     ensures contents { OnOk result (SameContents (V.outside vault.old) (V.outside vault.new)) }
+    ensures fault { IfErr result (IsChangeFault (V.outside vault.old) (V.outside vault.new) sw.new) }
     ensures alive { OnOk result (V.alive vault.new) }
 {
     let Some(at) = root else {

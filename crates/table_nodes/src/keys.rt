@@ -1,8 +1,9 @@
-ghost use Rattle.std.specs.Prelude.{◌≡◌, OnOk, OnErr, IfOk, MatchResult};
+ghost use Rattle.std.specs.Prelude.{◌≡◌, OnOk, OnErr, IfOk, MatchResult, IfErr};
 ghost use Rattle.heap_places.specs.swizzle.Touch.{Keeps};
 ghost use Rattle.table_nodes.specs.Bringing.{Brings};
 ghost use Rattle.table_nodes.specs.Nodes.{IsNode, Grows};
 ghost use Rattle.table_nodes.specs.Sought.{IsKeyHeld, IsTextHeld, OrdersAt, ReadsInt, ReadsText, kind_of, key_in};
+ghost use Rattle.table_nodes.specs.Faults.{IsNodeFault};
 
 use heap_places::obj_layout::kind::Kind;
 use heap_places::obj_layout::vault::Vault;
@@ -26,7 +27,8 @@ pub enum Key {
 /// The int key of a node.
 pub fn int_key<V: Vault>(sw: &Swizzle, vault: &V, at: u32) -> Result<i32, SwizzleFault>
     requires node { IsNode sw.now at }
-    ensures { ReadsInt sw.now (V.outside vault.now) at result }
+    ensures read { ReadsInt sw.now (V.outside vault.now) at result }
+    ensures fault { IfErr result (IsNodeFault (V.outside vault.now) (V.outside vault.now) sw.now) }
 {
     let _ = vault;
     sw.sound();
@@ -47,6 +49,7 @@ pub fn text_key<V: Vault>(sw: &mut Swizzle, vault: &mut V, at: u32) -> Result<u3
     ensures keeps { OnOk result (Keeps sw.old sw.new) }
     ensures still { OnErr result (Keeps sw.old sw.new) }
     ensures brings { MatchResult result (λ answer. Brings sw.old sw.new 0) (λ fault. Brings sw.old sw.new 1) }
+    ensures fault { IfErr result (IsNodeFault (V.outside vault.old) (V.outside vault.new) sw.new) }
     ensures alive { OnOk result (V.alive vault.new) }
 {
     sw.sound();
@@ -83,6 +86,7 @@ pub fn order<V: Vault>(
     ensures keeps { OnOk result (Keeps sw.old sw.new) }
     ensures still { OnErr result (Keeps sw.old sw.new) }
     ensures brings { MatchResult result (λ answer. Brings sw.old sw.new 0) (λ fault. Brings sw.old sw.new 1) }
+    ensures fault { IfErr result (IsNodeFault (V.outside vault.old) (V.outside vault.new) sw.new) }
     ensures alive { OnOk result (V.alive vault.new) }
 {
     sw.sound();

@@ -1,10 +1,11 @@
-ghost use Rattle.std.specs.Prelude.{OnOk, OnErr, IfOk, IfSome};
+ghost use Rattle.std.specs.Prelude.{OnOk, OnErr, IfOk, IfSome, IfErr};
 ghost use Rattle.heap_places.specs.swizzle.Touch.{Keeps};
 ghost use Rattle.table_nodes.specs.Bringing.{Brings};
 ghost use Rattle.table_nodes.specs.Entering.{OpensAt};
 ghost use Rattle.table_nodes.specs.Nodes.{IsNode, Grows};
 ghost use Rattle.table_nodes.specs.Sought.{IsKeyHeld, kind_of, key_in};
 ghost use Rattle.table_nodes.specs.Steps.{place};
+ghost use Rattle.table_nodes.specs.Faults.{IsNodeFault};
 
 use crate::keys::{Key, order};
 use crate::nodes::side;
@@ -38,6 +39,7 @@ pub fn open_node<V: Vault>(
     ensures keeps { OnOk result (Keeps sw.old sw.new) }
     ensures still { OnErr result (Keeps sw.old sw.new) }
     ensures brings { Brings sw.old sw.new 2 }
+    ensures fault { IfErr result (IsNodeFault (V.outside vault.old) (V.outside vault.new) sw.new) }
     ensures alive { OnOk result (V.alive vault.new) }
 {
     let order = match order(sw, vault, at, key) {

@@ -1,4 +1,4 @@
-ghost use Rattle.std.specs.Prelude.{◌≤◌, ◌+◌, ◌*◌, OnOk, OnErr, IfOk, IfSome};
+ghost use Rattle.std.specs.Prelude.{◌≤◌, ◌+◌, ◌*◌, OnOk, OnErr, IfOk, IfSome, IfErr};
 ghost use Rattle.heap_places.specs.ps_outside.Outside.{SameContents};
 ghost use Rattle.heap_places.specs.swizzle.Touch.{Keeps};
 ghost use Rattle.table_nodes.specs.Bringing.{Brings};
@@ -7,6 +7,7 @@ ghost use Rattle.table_nodes.specs.Removing.{IsGoneAt, Merges, Removes, TakesLea
 ghost use Rattle.table_nodes.specs.Sought.{IsKeyHeld, kind_of, key_in};
 ghost use Rattle.table_nodes.specs.Sparing.{Spares};
 ghost use Rattle.table_nodes.specs.Steps.{place, Holds};
+ghost use Rattle.table_nodes.specs.Faults.{IsNodeFault};
 
 use crate::keys::Key;
 use crate::nodes::height;
@@ -44,6 +45,7 @@ fn take_least<V: Vault>(
     ensures still { OnErr result (Keeps sw.old sw.new) }
     ensures brings { Brings sw.old sw.new (3 * bound) }
     ensures contents { OnOk result (SameContents (V.outside vault.old) (V.outside vault.new)) }
+    ensures fault { IfErr result (IsNodeFault (V.outside vault.old) (V.outside vault.new) sw.new) }
     ensures alive { OnOk result (V.alive vault.new) }
 {
     let height = height(sw, &*vault, Some(at));
@@ -95,6 +97,7 @@ fn merge_sides<V: Vault>(
     ensures still { OnErr result (Keeps sw.old sw.new) }
     ensures brings { Brings sw.old sw.new (3 * bound + 1) }
     ensures contents { OnOk result (SameContents (V.outside vault.old) (V.outside vault.new)) }
+    ensures fault { IfErr result (IsNodeFault (V.outside vault.old) (V.outside vault.new) sw.new) }
     ensures alive { OnOk result (V.alive vault.new) }
 {
     let Some(above) = right else {
@@ -143,6 +146,7 @@ pub fn remove<V: Vault>(
     ensures still { OnErr result (Keeps sw.old sw.new) }
     ensures brings { Brings sw.old sw.new (3 * bound) }
     ensures contents { OnOk result (SameContents (V.outside vault.old) (V.outside vault.new)) }
+    ensures fault { IfErr result (IsNodeFault (V.outside vault.old) (V.outside vault.new) sw.new) }
     ensures alive { OnOk result (V.alive vault.new) }
 {
     let Some(at) = root else {

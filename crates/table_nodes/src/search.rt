@@ -1,4 +1,4 @@
-ghost use Rattle.std.specs.Prelude.{◌≡◌, ◌+◌, ◌-◌, ◌≤◌, OnOk, OnErr, IfOk, IfSome, MatchResult};
+ghost use Rattle.std.specs.Prelude.{◌≡◌, ◌+◌, ◌-◌, ◌≤◌, OnOk, OnErr, IfOk, IfSome, MatchResult, IfErr};
 ghost use Rattle.heap_places.specs.swizzle.Heap.{IsHeld};
 ghost use Rattle.heap_places.specs.swizzle.Touch.{Keeps};
 ghost use Rattle.table_nodes.specs.Nodes.{IsNode, Grows};
@@ -6,6 +6,7 @@ ghost use Rattle.table_nodes.specs.Bringing.{Brings};
 ghost use Rattle.table_nodes.specs.Searching.{Charges, Finds, IsDown, StepsAt, came_by};
 ghost use Rattle.table_nodes.specs.Sought.{IsKeyHeld, kind_of, key_in};
 ghost use Rattle.table_nodes.specs.Steps.{place};
+ghost use Rattle.table_nodes.specs.Faults.{IsNodeFault};
 
 use crate::keys::{Key, order};
 use crate::nodes::{height, side, value};
@@ -35,6 +36,7 @@ fn look<V: Vault>(sw: &mut Swizzle, vault: &mut V, at: u32, key: Key) -> Result<
     ensures keeps { OnOk result (Keeps sw.old sw.new) }
     ensures still { OnErr result (Keeps sw.old sw.new) }
     ensures brings { MatchResult result (λ step. Brings sw.old sw.new (came_by step)) (λ fault. Brings sw.old sw.new 1) }
+    ensures fault { IfErr result (IsNodeFault (V.outside vault.old) (V.outside vault.new) sw.new) }
     ensures alive { OnOk result (V.alive vault.new) }
 {
     let order = match order(sw, vault, at, key) {
@@ -76,6 +78,7 @@ pub fn lookup<V: Vault, L: Ledger>(
     ensures keeps { OnOk result (Keeps sw.old sw.new) }
     ensures still { OnErr result (Keeps sw.old sw.new) }
     ensures brings { Brings sw.old sw.new (steps.new - steps.old) }
+    ensures fault { IfErr result (IsNodeFault (V.outside vault.old) (V.outside vault.new) sw.new) }
     ensures alive { OnOk result (V.alive vault.new) }
 {
     sw.sound();

@@ -1,4 +1,4 @@
-use Rattle.std.proofs.Common.{arith, ◌+◌, ◌*◌, ◌≡◌, Some, Ok, refl, ap, subst}
+use Rattle.std.proofs.Common.{arith, ◌+◌, ◌*◌, ◌≡◌, Some, Ok, refl, ap, subst, inr}
 use Rattle.table_nodes.specs.heap_places.swizzle.Joint.{name_at}
 use Rattle.table_nodes.proofs.of_heap_places.of_swizzle.NameLaws.{name-not_nil}
 use Rattle.table_nodes.specs.avl_trees.Trees.{lookup}
@@ -18,6 +18,8 @@ use Rattle.table_lib.proofs.EnterLaws.{pair_entered}
 use Rattle.table_nodes.specs.avl_trees.Trees.{bits as digits}
 use Rattle.table_nodes.proofs.of_heap_places.of_swizzle.TouchLaws.{keeps-trans}
 use Rattle.table_nodes.proofs.BringLaws.{brings_more, brings_touched, brings_written}
+use Rattle.table_lib.proofs.FaultLaws.{at_change}
+use Rattle.table_nodes.proofs.FaultLaws.{change_fault_back}
 use Rattle.table_lib.proofs.enter.put_pair.Goals as goal
 
 pub returns-in-Err-enter-clause-put : goal.returns-in-Err-enter-clause-put
@@ -28,7 +30,7 @@ returns-in-Err-enter-clause-put g c t p h low =
     let tree = tree_from ks old m c.args.at t c.in-Ok.root c.in-Ok.ensures.grows h (c.in-Ok.ensures.root ks t h) in
     let lower = pairs_low ks old c.args.at t c.num-count.result (2 * c.bits.result + 1) h c.num-count.ensures c.num-count.type_inv (ap (λ b. 2 * b + 1) c.bits.ensures.value) in
     let here = place_touched old m c.in-Ok.ensures.grows p in
-    fault_after old.outside m.outside c.in-Err-enter.fault c.in-Ok.ensures.grows.contents (c.in-Err-enter.ensures.entered t here tree lower)
+    fault_after old.outside m.outside c.in-Err-enter.fault c.in-Ok.ensures.grows.leaves.contents (c.in-Err-enter.ensures.entered t here tree lower)
 
 pub write_table-requires-clause-table : goal.write_table-requires-clause-table
 write_table-requires-clause-table g c =
@@ -71,3 +73,9 @@ returns-clause-brings g c = brings_written _ _ _ _ 1 (3 * (2 * c.bits.result + 1
 
 pub returns-in-Err-enter-clause-still : goal.returns-in-Err-enter-clause-still
 returns-in-Err-enter-clause-still g c = keeps-trans _ _ _ c.in-Ok.ensures.keeps c.in-Err-enter.ensures.still
+
+pub returns-in-Err-clause-fault : goal.returns-in-Err-clause-fault
+returns-in-Err-clause-fault g c = at_change _ _ _ c.args.at c.in-Err.fault c.in-Err.ensures.fault
+
+pub returns-in-Err-enter-clause-fault : goal.returns-in-Err-enter-clause-fault
+returns-in-Err-enter-clause-fault g c = inr (change_fault_back (g.V.Vault.outside c.args.vault.now) (g.V.Vault.outside c.counted_root.new.vault) _ _ c.in-Err-enter.fault c.in-Ok.ensures.grows.leaves c.in-Err-enter.ensures.fault)

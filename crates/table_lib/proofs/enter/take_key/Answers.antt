@@ -1,4 +1,4 @@
-use Rattle.std.proofs.Common.{arith, ◌+◌, ◌*◌, ◌≢◌, Ok, refl, ap, subst}
+use Rattle.std.proofs.Common.{arith, ◌+◌, ◌*◌, ◌≢◌, Ok, refl, ap, subst, inr}
 use Rattle.table_nodes.specs.avl_trees.Trees.{lookup}
 use Rattle.table_nodes.specs.avl_trees.Standing.{seek}
 use Rattle.table_nodes.specs.Keys.{order_by}
@@ -17,6 +17,7 @@ use Rattle.table_lib.proofs.EnterLaws.{key_taken}
 use Rattle.table_nodes.specs.avl_trees.Trees.{bits as digits}
 use Rattle.table_nodes.proofs.of_heap_places.of_swizzle.TouchLaws.{keeps-trans}
 use Rattle.table_nodes.proofs.BringLaws.{brings_more, brings_touched, brings_written}
+use Rattle.table_nodes.proofs.FaultLaws.{node_fault_back}
 use Rattle.table_lib.proofs.enter.take_key.Goals as goal
 
 pub returns-in-Err-remove-clause-taken : goal.returns-in-Err-remove-clause-taken
@@ -27,7 +28,7 @@ returns-in-Err-remove-clause-taken g c t p h =
     let tree = tree_from ks old m c.args.at t c.in-Ok.root c.in-Ok.ensures.grows h (c.in-Ok.ensures.root ks t h) in
     let lower = pairs_low ks old c.args.at t c.num-count.result (2 * c.bits.result + 1) h c.num-count.ensures c.num-count.type_inv (ap (λ b. 2 * b + 1) c.bits.ensures.value) in
     let here = place_touched old m c.in-Ok.ensures.grows p in
-    fetch_back old.outside m.outside c.in-Err-remove.fault c.in-Ok.ensures.grows.contents (c.in-Err-remove.ensures.removed t here tree lower)
+    fetch_back old.outside m.outside c.in-Err-remove.fault c.in-Ok.ensures.grows.leaves.contents (c.in-Err-remove.ensures.removed t here tree lower)
 
 pub returns-clause-taken : goal.returns-clause-taken
 returns-clause-taken g c t p h =
@@ -63,3 +64,6 @@ returns-clause-brings g c = brings_written _ _ _ _ 1 (3 * (2 * c.bits.result + 1
 
 pub returns-in-Err-remove-clause-still : goal.returns-in-Err-remove-clause-still
 returns-in-Err-remove-clause-still g c = keeps-trans _ _ _ c.in-Ok.ensures.keeps c.in-Err-remove.ensures.still
+
+pub returns-in-Err-remove-clause-fault : goal.returns-in-Err-remove-clause-fault
+returns-in-Err-remove-clause-fault g c = inr (node_fault_back (g.V.Vault.outside c.args.vault.now) (g.V.Vault.outside c.counted_root.new.vault) _ _ c.in-Err-remove.fault c.in-Ok.ensures.grows.leaves c.in-Err-remove.ensures.fault)

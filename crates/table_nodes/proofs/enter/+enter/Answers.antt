@@ -1,4 +1,4 @@
-use Rattle.std.proofs.Common.{◌*◌, IfSome, Ok, Err, refl, sym, ◌∙◌, subst, arith, inl}
+use Rattle.std.proofs.Common.{◌*◌, IfSome, Ok, Err, refl, sym, ◌∙◌, subst, arith, inl, inr}
 use Rattle.heap_places.specs.swizzle.Heap.{Heap}
 use Rattle.heap_places.specs.swizzle.Touch.{Keeps}
 use Rattle.heap_places.proofs.of_swizzle.TouchLaws.{keeps-refl, keeps-trans}
@@ -13,6 +13,7 @@ use Rattle.table_nodes.proofs.SoughtLaws.{key_in_kept}
 use Rattle.table_nodes.proofs.StepLaws.{place_touched, side_map}
 use Rattle.table_nodes.proofs.Putting.{root_named, no_root, entered_as, tree_left, tree_right, put_leaf, put_left, put_right, put_here, fault_after, counted_leaf, counted_left, counted_right, counted_here}
 use Rattle.table_nodes.proofs.Sparing.{spares_made, spares_then, spares_touched}
+use Rattle.table_nodes.proofs.FaultLaws.{change_fault_back, full_here, height_failed, the_node}
 use Rattle.table_nodes.proofs.enter.+enter.Goals as goal
 
 pub returns-in-Ok-clause-entered : goal.returns-in-Ok-clause-entered
@@ -64,7 +65,7 @@ returns-in-Err-enter-clause-entered g t c (node x b y) p h lower =
     let named = root_named old.heap c.args.root c.in-Some.at b.name c.in-Some.is h.root_is in
     let e = c.height-height.ensures.some ks c.in-Some.at b.name (row_of x b y) refl named h.stands.0 in
     let o = c.in-Ok-open_node.ensures.opens x b y h.stands named in
-    fault_after old.outside m.outside c.in-Err-enter.fault c.in-Ok-open_node.ensures.grows.contents
+    fault_after old.outside m.outside c.in-Err-enter.fault c.in-Ok-open_node.ensures.grows.leaves.contents
     (c.in-Err-enter.ensures.entered x (place_touched old m c.in-Ok-open_node.ensures.grows p) (tree_left ks old m c.args.root c.in-Ok-open_node.opened.left c.in-Ok-open_node.ensures.grows x b y h o.left) (omega (arith, e)))
 
 pub returns-in-Equal-clause-entered : goal.returns-in-Equal-clause-entered
@@ -108,7 +109,7 @@ returns-in-Err-enter-2-clause-entered g t c (node x b y) p h lower =
     let named = root_named old.heap c.args.root c.in-Some.at b.name c.in-Some.is h.root_is in
     let e = c.height-height.ensures.some ks c.in-Some.at b.name (row_of x b y) refl named h.stands.0 in
     let o = c.in-Ok-open_node.ensures.opens x b y h.stands named in
-    fault_after old.outside m.outside c.in-Err-enter-2.fault c.in-Ok-open_node.ensures.grows.contents
+    fault_after old.outside m.outside c.in-Err-enter-2.fault c.in-Ok-open_node.ensures.grows.leaves.contents
     (c.in-Err-enter-2.ensures.entered y (place_touched old m c.in-Ok-open_node.ensures.grows p) (tree_right ks old m c.args.root c.in-Ok-open_node.opened.right c.in-Ok-open_node.ensures.grows x b y h o.right) (omega (arith, e)))
 
 pub returns-in-Ok-clause-counted : goal.returns-in-Ok-clause-counted
@@ -227,3 +228,18 @@ with_left-requires-clause-other g t c = side_map (IsNode c.open_node.new.sw) (Is
 
 pub with_right-requires-clause-other : goal.with_right-requires-clause-other
 with_right-requires-clause-other g t c = side_map (IsNode c.open_node.new.sw) (IsNode c.enter-in-Greater.new.sw) c.in-Ok-enter-2.ensures.held.nodes c.in-Ok-open_node.opened.left c.in-Ok-open_node.ensures.left
+
+pub returns-in-Err-clause-fault : goal.returns-in-Err-clause-fault
+returns-in-Err-clause-fault g t c = inr (full_here _ _ 11 c.in-Err.fault c.in-Err.ensures.made)
+
+pub returns-then-height-eq0-clause-fault : goal.returns-then-height-eq0-clause-fault
+returns-then-height-eq0-clause-fault g t c = inl (height_failed (g.V.Vault.outside c.args.vault.now) _ c.args.sw.now c.in-Some.at _ _ _ (the_node c.args.sw.now c.args.root c.in-Some.at c.in-Some.is c.requires.root) (c.height-height.ensures.word c.in-Some.at c.in-Some.is) c.then-height-eq0.either c.damaged.ensures)
+
+pub returns-in-Err-open_node-clause-fault : goal.returns-in-Err-open_node-clause-fault
+returns-in-Err-open_node-clause-fault g t c = inl c.in-Err-open_node.ensures.fault
+
+pub returns-in-Err-enter-clause-fault : goal.returns-in-Err-enter-clause-fault
+returns-in-Err-enter-clause-fault g t c = change_fault_back (g.V.Vault.outside c.args.vault.now) (g.V.Vault.outside c.open_node.new.vault) _ _ c.in-Err-enter.fault c.in-Ok-open_node.ensures.grows.leaves c.in-Err-enter.ensures.fault
+
+pub returns-in-Err-enter-2-clause-fault : goal.returns-in-Err-enter-2-clause-fault
+returns-in-Err-enter-2-clause-fault g t c = change_fault_back (g.V.Vault.outside c.args.vault.now) (g.V.Vault.outside c.open_node.new.vault) _ _ c.in-Err-enter-2.fault c.in-Ok-open_node.ensures.grows.leaves c.in-Err-enter-2.ensures.fault

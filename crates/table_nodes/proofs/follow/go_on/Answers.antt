@@ -10,6 +10,7 @@ use Rattle.table_nodes.proofs.NodeLaws.{fetch_back}
 use Rattle.table_nodes.proofs.StepLaws.{is_side, touches_then}
 use Rattle.heap_places.proofs.of_swizzle.TouchLaws.{keeps-trans}
 use Rattle.table_nodes.proofs.BringLaws.{brings_touched}
+use Rattle.table_nodes.proofs.FaultLaws.{node_fault_back}
 use Rattle.table_nodes.proofs.follow.go_on.Goals as goal
 
 pub returns-in-Err-clause-turns : goal.returns-in-Err-clause-turns
@@ -30,7 +31,7 @@ returns-in-Err-side-clause-turns g c x b y s named =
     let p = place c.args.sw.now (g.V.Vault.outside c.args.vault.now) in
     let m = place c.order.new.sw (g.V.Vault.outside c.order.new.vault) in
     let t = stands_grown (rows_of ks p) (rows_of ks m) (c.in-Ok.ensures.grows.rows ks) (node x b y) s in
-    fetch_back p.outside m.outside c.in-Err-side.fault c.in-Ok.ensures.grows.contents
+    fetch_back p.outside m.outside c.in-Err-side.fault c.in-Ok.ensures.grows.leaves.contents
     (c.in-Err-side.ensures.sound ks b.name (row_of x b y) (c.in-Ok.ensures.grows.named c.args.at b.name named) t.0 (is_side ks m x t.1))
 
 pub returns-in-Ok-side-2-clause-turns : goal.returns-in-Ok-side-2-clause-turns
@@ -48,7 +49,7 @@ returns-in-Err-side-2-clause-turns g c x b y s named =
     let p = place c.args.sw.now (g.V.Vault.outside c.args.vault.now) in
     let m = place c.order.new.sw (g.V.Vault.outside c.order.new.vault) in
     let t = stands_grown (rows_of ks p) (rows_of ks m) (c.in-Ok.ensures.grows.rows ks) (node x b y) s in
-    fetch_back p.outside m.outside c.in-Err-side-2.fault c.in-Ok.ensures.grows.contents
+    fetch_back p.outside m.outside c.in-Err-side-2.fault c.in-Ok.ensures.grows.leaves.contents
     (c.in-Err-side-2.ensures.sound ks b.name (row_of x b y) (c.in-Ok.ensures.grows.named c.args.at b.name named) t.0 (is_side ks m y t.2))
 
 pub returns-in-Ok-side-clause-grows : goal.returns-in-Ok-side-clause-grows
@@ -74,3 +75,9 @@ returns-in-Err-side-2-clause-brings g c = brings_touched _ _ _ 0 1 1 c.in-Err-si
 
 pub returns-in-Err-side-2-clause-still : goal.returns-in-Err-side-2-clause-still
 returns-in-Err-side-2-clause-still g c = keeps-trans _ _ _ c.in-Ok.ensures.keeps c.in-Err-side-2.ensures.still
+
+pub returns-in-Err-side-clause-fault : goal.returns-in-Err-side-clause-fault
+returns-in-Err-side-clause-fault g c = node_fault_back (g.V.Vault.outside c.args.vault.now) (g.V.Vault.outside c.order.new.vault) _ _ c.in-Err-side.fault c.in-Ok.ensures.grows.leaves c.in-Err-side.ensures.fault
+
+pub returns-in-Err-side-2-clause-fault : goal.returns-in-Err-side-2-clause-fault
+returns-in-Err-side-2-clause-fault g c = node_fault_back (g.V.Vault.outside c.args.vault.now) (g.V.Vault.outside c.order.new.vault) _ _ c.in-Err-side-2.fault c.in-Ok.ensures.grows.leaves c.in-Err-side-2.ensures.fault

@@ -10,6 +10,7 @@ use Rattle.table_nodes.proofs.NodeLaws.{fetch_back}
 use Rattle.table_nodes.proofs.SoughtLaws.{key_held_kept, key_in_kept}
 use Rattle.table_nodes.proofs.StepLaws.{touches_then}
 use Rattle.table_nodes.proofs.FollowLaws.{Following, at_turn, following_none, height_at, following_on}
+use Rattle.table_nodes.proofs.FaultLaws.{node_fault_back, height_failed, the_node}
 use Rattle.table_nodes.proofs.follow.next.Goals as goal
 
 pub returns-in-Err-clause-follows : goal.returns-in-Err-clause-follows
@@ -18,7 +19,7 @@ returns-in-Err-clause-follows g c t h low =
     let wanted = key_in c.args.sw.now c.args.key in
     let now = place c.loop-at.sw (g.V.Vault.outside c.loop-at.vault) in
     let s = at_turn ks (seek (order_by ks) wanted) now c.in-Some.node c.loop-at.last c.loop-at.bound t (subst (λ (i : Option ℕ). Following ks (seek (order_by ks) wanted) now i c.loop-at.last c.loop-at.bound t) c.in-Some.is (c.loop-at.invariant.follows t h low)) in
-    fetch_back (g.V.Vault.outside c.args.vault.now) now.outside c.in-Err.fault c.loop-at.invariant.grows.contents (c.in-Err.ensures.turns s.x s.b s.y s.stands s.name)
+    fetch_back (g.V.Vault.outside c.args.vault.now) now.outside c.in-Err.fault c.loop-at.invariant.grows.leaves.contents (c.in-Err.ensures.turns s.x s.b s.y s.stands s.name)
 
 pub loop-at-preserved : goal.loop-at-preserved
 loop-at-preserved g c =
@@ -73,3 +74,10 @@ returns-in-Err-clause-still g c = keeps-trans _ _ _ c.loop-at.invariant.keeps c.
 
 pub returns-clause-brings : goal.returns-clause-brings
 returns-clause-brings g c = brings_more _ _ _ _ (omega (arith, c.loop-at.invariant.some, c.loop-at.invariant.within)) c.loop-at.invariant.brings
+
+pub returns-then-height-eq0-clause-fault : goal.returns-then-height-eq0-clause-fault
+returns-then-height-eq0-clause-fault g c =
+    height_failed (g.V.Vault.outside c.args.vault.now) _ c.loop-at.sw c.in-Some.node _ _ _ (the_node c.loop-at.sw c.loop-at.at c.in-Some.node c.in-Some.is c.loop-at.invariant.node) (c.height-height.ensures.word c.in-Some.node c.in-Some.is) c.then-height-eq0.either c.damaged.ensures
+
+pub returns-in-Err-clause-fault : goal.returns-in-Err-clause-fault
+returns-in-Err-clause-fault g c = node_fault_back (g.V.Vault.outside c.args.vault.now) (g.V.Vault.outside c.loop-at.vault) _ _ c.in-Err.fault c.loop-at.invariant.grows.leaves c.in-Err.ensures.fault

@@ -9,12 +9,12 @@ use Rattle.table_nodes.proofs.keys.order.Goals as goal
 pub returns-in-Ok-clause-ordered : goal.returns-in-Ok-clause-ordered
 returns-in-Ok-clause-ordered g c =
     let a = g.V.Vault.outside c.args.vault.now in
-    orders_key c.args.sw.now a c.args.at c.args.key (Int c.in-Int.value) (Ok c.cmp.result) c.in-Int.is (orders_int c.args.sw.now a c.args.at c.in-Int.value c.in-Ok.int c.cmp.result c.sound.ensures (subst (IsKeyHeld c.args.sw.now) c.in-Int.is c.requires.key) c.in-Ok.ensures c.cmp.ensures)
+    orders_key c.args.sw.now a c.args.at c.args.key (Int c.in-Int.value) (Ok c.cmp.result) c.in-Int.is (orders_int c.args.sw.now a c.args.at c.in-Int.value c.in-Ok.int c.cmp.result c.sound.ensures (subst (IsKeyHeld c.args.sw.now) c.in-Int.is c.requires.key) c.in-Ok.ensures.read c.cmp.ensures)
 
 pub returns-in-Err-clause-ordered : goal.returns-in-Err-clause-ordered
 returns-in-Err-clause-ordered g c =
     let a = g.V.Vault.outside c.args.vault.now in
-    orders_key c.args.sw.now a c.args.at c.args.key (Int c.in-Int.value) (Err c.in-Err.fault) c.in-Int.is (orders_no_int c.args.sw.now a c.args.at c.in-Int.value c.in-Err.fault c.in-Err.ensures)
+    orders_key c.args.sw.now a c.args.at c.args.key (Int c.in-Int.value) (Err c.in-Err.fault) c.in-Int.is (orders_no_int c.args.sw.now a c.args.at c.in-Int.value c.in-Err.fault c.in-Err.ensures.read)
 
 pub returns-in-Ok-text_key-clause-ordered : goal.returns-in-Ok-text_key-clause-ordered
 returns-in-Ok-text_key-clause-ordered g c =

@@ -8,6 +8,7 @@ use Rattle.table_nodes.proofs.NodeLaws.{fetch_back}
 use Rattle.table_nodes.proofs.StepLaws.{is_side, linked_kept, touches_then}
 use Rattle.heap_places.proofs.of_swizzle.TouchLaws.{keeps-trans}
 use Rattle.table_nodes.proofs.BringLaws.{brings_more, brings_touched}
+use Rattle.table_nodes.proofs.FaultLaws.{node_fault_back}
 use Rattle.table_nodes.proofs.opening.open_node.Goals as goal
 
 pub returns-in-Err-clause-opens : goal.returns-in-Err-clause-opens
@@ -19,7 +20,7 @@ returns-in-Err-side-clause-opens g c x b y s named =
     let p = place c.args.sw.now (g.V.Vault.outside c.args.vault.now) in
     let m = place c.order.new.sw (g.V.Vault.outside c.order.new.vault) in
     let t = stands_grown (rows_of ks p) (rows_of ks m) (c.in-Ok.ensures.grows.rows ks) (node x b y) s in
-    fetch_back p.outside m.outside c.in-Err-side.fault c.in-Ok.ensures.grows.contents
+    fetch_back p.outside m.outside c.in-Err-side.fault c.in-Ok.ensures.grows.leaves.contents
     (c.in-Err-side.ensures.sound ks b.name (row_of x b y) (c.in-Ok.ensures.grows.named c.args.at b.name named) t.0 (is_side ks m x t.1))
 
 pub returns-in-Err-side-2-clause-opens : goal.returns-in-Err-side-2-clause-opens
@@ -29,8 +30,8 @@ returns-in-Err-side-2-clause-opens g c x b y s named =
     let m = place c.order.new.sw (g.V.Vault.outside c.order.new.vault) in
     let m1 = place c.side.new.sw (g.V.Vault.outside c.side.new.vault) in
     let t = stands_grown (rows_of ks m) (rows_of ks m1) (c.in-Ok-side.ensures.grows.rows ks) (node x b y) (stands_grown (rows_of ks p) (rows_of ks m) (c.in-Ok.ensures.grows.rows ks) (node x b y) s) in
-    fetch_back p.outside m.outside c.in-Err-side-2.fault c.in-Ok.ensures.grows.contents
-    (fetch_back m.outside m1.outside c.in-Err-side-2.fault c.in-Ok-side.ensures.grows.contents
+    fetch_back p.outside m.outside c.in-Err-side-2.fault c.in-Ok.ensures.grows.leaves.contents
+    (fetch_back m.outside m1.outside c.in-Err-side-2.fault c.in-Ok-side.ensures.grows.leaves.contents
     (c.in-Err-side-2.ensures.sound ks b.name (row_of x b y) (c.in-Ok-side.ensures.grows.named c.args.at b.name (c.in-Ok.ensures.grows.named c.args.at b.name named)) t.0 (is_side ks m1 y t.2)))
 
 pub returns-clause-opens : goal.returns-clause-opens
@@ -68,3 +69,10 @@ returns-in-Err-side-clause-still g c = keeps-trans _ _ _ c.in-Ok.ensures.keeps c
 
 pub returns-in-Err-side-2-clause-still : goal.returns-in-Err-side-2-clause-still
 returns-in-Err-side-2-clause-still g c = keeps-trans _ _ _ (keeps-trans _ _ _ c.in-Ok.ensures.keeps c.in-Ok-side.ensures.keeps) c.in-Err-side-2.ensures.still
+
+pub returns-in-Err-side-clause-fault : goal.returns-in-Err-side-clause-fault
+returns-in-Err-side-clause-fault g c = node_fault_back (g.V.Vault.outside c.args.vault.now) (g.V.Vault.outside c.order.new.vault) _ _ c.in-Err-side.fault c.in-Ok.ensures.grows.leaves c.in-Err-side.ensures.fault
+
+pub returns-in-Err-side-2-clause-fault : goal.returns-in-Err-side-2-clause-fault
+returns-in-Err-side-2-clause-fault g c =
+    node_fault_back (g.V.Vault.outside c.args.vault.now) (g.V.Vault.outside c.order.new.vault) _ _ c.in-Err-side-2.fault c.in-Ok.ensures.grows.leaves (node_fault_back (g.V.Vault.outside c.order.new.vault) (g.V.Vault.outside c.side.new.vault) _ _ c.in-Err-side-2.fault c.in-Ok-side.ensures.grows.leaves c.in-Err-side-2.ensures.fault)

@@ -14,6 +14,7 @@ use Rattle.table_nodes.proofs.Putting.{root_named, no_root, tree_left, tree_righ
 use Rattle.table_nodes.proofs.Removal.{removed_as, remove_leaf, opened_kept, left_sides, left_known, left_done, right_sides, right_known, right_done, here_done, here_fault, gone_leaf, gone_left, gone_right, gone_here}
 use Rattle.table_nodes.proofs.Sparing.{spares_none, spares_then, spares_touched}
 use Rattle.table_nodes.proofs.WingLaws.{wing_held_kept}
+use Rattle.table_nodes.proofs.FaultLaws.{node_fault_back, height_failed, the_node}
 use Rattle.table_nodes.proofs.remove.+remove.Goals as goal
 
 pub returns-in_default-clause-removed : goal.returns-in_default-clause-removed
@@ -51,7 +52,7 @@ returns-in-Err-open_right-clause-removed g t c (node x b y) p h lower =
     let m0 = place c.open_node.new.sw (g.V.Vault.outside c.open_node.new.vault) in
     let o0 = c.in-Ok.ensures.opens x b y h.stands named in
     let s = stands_grown (rows_of ks old) (rows_of ks m0) (c.in-Ok.ensures.grows.rows ks) (node x b y) h.stands in
-    fetch_back old.outside m0.outside c.in-Err-open_right.fault c.in-Ok.ensures.grows.contents (c.in-Err-open_right.ensures.wing ks x y s.1 s.2 o0.left o0.right (omega (arith, e)) (omega (arith, e)))
+    fetch_back old.outside m0.outside c.in-Err-open_right.fault c.in-Ok.ensures.grows.leaves.contents (c.in-Err-open_right.ensures.wing ks x y s.1 s.2 o0.left o0.right (omega (arith, e)) (omega (arith, e)))
 
 pub returns-in-Ok-remove-clause-removed : goal.returns-in-Ok-remove-clause-removed
 returns-in-Ok-remove-clause-removed g t c leaf p h lower = absurd (no_root c.args.sw.now c.args.root c.in-Some.at c.in-Some.is h.root_is)
@@ -98,7 +99,7 @@ returns-in-Err-remove-clause-removed g t c (node x b y) p h lower =
     let keeps = keeps-trans old.heap m0.heap m.heap c.in-Ok.ensures.keeps c.in-Ok-open_right.ensures.keeps in
     let same = key_in_kept old.heap m.heap c.args.key keeps c.requires.key in
     let side = tree_left ks old m c.args.root c.in-Ok.opened.left grows x b y h o.left in
-    fetch_back old.outside m.outside c.in-Err-remove.fault grows.contents (c.in-Err-remove.ensures.removed x here side ready.1)
+    fetch_back old.outside m.outside c.in-Err-remove.fault grows.leaves.contents (c.in-Err-remove.ensures.removed x here side ready.1)
 
 pub returns-in-Err-open_left-clause-removed : goal.returns-in-Err-open_left-clause-removed
 returns-in-Err-open_left-clause-removed g t c leaf p h lower = absurd (no_root c.args.sw.now c.args.root c.in-Some.at c.in-Some.is h.root_is)
@@ -111,7 +112,7 @@ returns-in-Err-open_left-clause-removed g t c (node x b y) p h lower =
     let m0 = place c.open_node.new.sw (g.V.Vault.outside c.open_node.new.vault) in
     let o0 = c.in-Ok.ensures.opens x b y h.stands named in
     let s = stands_grown (rows_of ks old) (rows_of ks m0) (c.in-Ok.ensures.grows.rows ks) (node x b y) h.stands in
-    fetch_back old.outside m0.outside c.in-Err-open_left.fault c.in-Ok.ensures.grows.contents (c.in-Err-open_left.ensures.wing ks y x s.2 s.1 o0.right o0.left (omega (arith, e)) (omega (arith, e)))
+    fetch_back old.outside m0.outside c.in-Err-open_left.fault c.in-Ok.ensures.grows.leaves.contents (c.in-Err-open_left.ensures.wing ks y x s.2 s.1 o0.right o0.left (omega (arith, e)) (omega (arith, e)))
 
 pub returns-in-Ok-remove-2-clause-removed : goal.returns-in-Ok-remove-2-clause-removed
 returns-in-Ok-remove-2-clause-removed g t c leaf p h lower = absurd (no_root c.args.sw.now c.args.root c.in-Some.at c.in-Some.is h.root_is)
@@ -158,7 +159,7 @@ returns-in-Err-remove-2-clause-removed g t c (node x b y) p h lower =
     let keeps = keeps-trans old.heap m0.heap m.heap c.in-Ok.ensures.keeps c.in-Ok-open_left.ensures.keeps in
     let same = key_in_kept old.heap m.heap c.args.key keeps c.requires.key in
     let side = tree_right ks old m c.args.root c.in-Ok.opened.right grows x b y h o.right in
-    fetch_back old.outside m.outside c.in-Err-remove-2.fault grows.contents (c.in-Err-remove-2.ensures.removed y here side ready.1)
+    fetch_back old.outside m.outside c.in-Err-remove-2.fault grows.leaves.contents (c.in-Err-remove-2.ensures.removed y here side ready.1)
 
 pub returns-in-Ok-merge_sides-clause-removed : goal.returns-in-Ok-merge_sides-clause-removed
 returns-in-Ok-merge_sides-clause-removed g t c leaf p h lower = absurd (no_root c.args.sw.now c.args.root c.in-Some.at c.in-Some.is h.root_is)
@@ -328,3 +329,23 @@ balance-root-requires-clause-wing g t c = wing_held_kept c.open_right.new.sw c.r
 
 pub balance-root-requires-in-Ok-remove-2-clause-wing : goal.balance-root-requires-in-Ok-remove-2-clause-wing
 balance-root-requires-in-Ok-remove-2-clause-wing g t c = wing_held_kept c.open_left.new.sw c.remove-in-Greater.new.sw c.in-Ok-remove-2.ensures.held.nodes c.in-Ok-open_left.ready.wing c.in-Ok-open_left.ensures.held
+
+pub returns-then-height-eq0-clause-fault : goal.returns-then-height-eq0-clause-fault
+returns-then-height-eq0-clause-fault g t c = height_failed (g.V.Vault.outside c.args.vault.now) _ c.args.sw.now c.in-Some.at _ _ _ (the_node c.args.sw.now c.args.root c.in-Some.at c.in-Some.is c.requires.root) (c.height-height.ensures.word c.in-Some.at c.in-Some.is) c.then-height-eq0.either c.damaged.ensures
+
+pub returns-in-Err-open_right-clause-fault : goal.returns-in-Err-open_right-clause-fault
+returns-in-Err-open_right-clause-fault g t c = node_fault_back (g.V.Vault.outside c.args.vault.now) (g.V.Vault.outside c.open_node.new.vault) _ _ c.in-Err-open_right.fault c.in-Ok.ensures.grows.leaves c.in-Err-open_right.ensures.fault
+
+pub returns-in-Err-open_left-clause-fault : goal.returns-in-Err-open_left-clause-fault
+returns-in-Err-open_left-clause-fault g t c = node_fault_back (g.V.Vault.outside c.args.vault.now) (g.V.Vault.outside c.open_node.new.vault) _ _ c.in-Err-open_left.fault c.in-Ok.ensures.grows.leaves c.in-Err-open_left.ensures.fault
+
+pub returns-in-Err-merge_sides-clause-fault : goal.returns-in-Err-merge_sides-clause-fault
+returns-in-Err-merge_sides-clause-fault g t c = node_fault_back (g.V.Vault.outside c.args.vault.now) (g.V.Vault.outside c.open_node.new.vault) _ _ c.in-Err-merge_sides.fault c.in-Ok.ensures.grows.leaves c.in-Err-merge_sides.ensures.fault
+
+pub returns-in-Err-remove-clause-fault : goal.returns-in-Err-remove-clause-fault
+returns-in-Err-remove-clause-fault g t c =
+    node_fault_back (g.V.Vault.outside c.args.vault.now) (g.V.Vault.outside c.open_node.new.vault) _ _ c.in-Err-remove.fault c.in-Ok.ensures.grows.leaves (node_fault_back (g.V.Vault.outside c.open_node.new.vault) (g.V.Vault.outside c.open_right.new.vault) _ _ c.in-Err-remove.fault c.in-Ok-open_right.ensures.grows.leaves c.in-Err-remove.ensures.fault)
+
+pub returns-in-Err-remove-2-clause-fault : goal.returns-in-Err-remove-2-clause-fault
+returns-in-Err-remove-2-clause-fault g t c =
+    node_fault_back (g.V.Vault.outside c.args.vault.now) (g.V.Vault.outside c.open_node.new.vault) _ _ c.in-Err-remove-2.fault c.in-Ok.ensures.grows.leaves (node_fault_back (g.V.Vault.outside c.open_node.new.vault) (g.V.Vault.outside c.open_left.new.vault) _ _ c.in-Err-remove-2.fault c.in-Ok-open_left.ensures.grows.leaves c.in-Err-remove-2.ensures.fault)

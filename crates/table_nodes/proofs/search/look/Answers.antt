@@ -8,6 +8,7 @@ use Rattle.table_nodes.proofs.NodeLaws.{fetch_back}
 use Rattle.table_nodes.proofs.StepLaws.{is_side}
 use Rattle.heap_places.proofs.of_swizzle.TouchLaws.{keeps-trans}
 use Rattle.table_nodes.proofs.BringLaws.{brings_touched}
+use Rattle.table_nodes.proofs.FaultLaws.{node_fault_back}
 use Rattle.table_nodes.proofs.search.look.Goals as goal
 
 pub returns-in-Err-clause-steps : goal.returns-in-Err-clause-steps
@@ -29,7 +30,7 @@ returns-in-Err-side-clause-steps g c x b y s named =
     let p = place c.args.sw.now (g.V.Vault.outside c.args.vault.now) in
     let m = place c.order.new.sw (g.V.Vault.outside c.order.new.vault) in
     let t = stands_grown (rows_of ks p) (rows_of ks m) (c.in-Ok.ensures.grows.rows ks) (node x b y) s in
-    fetch_back p.outside m.outside c.in-Err-side.fault c.in-Ok.ensures.grows.contents
+    fetch_back p.outside m.outside c.in-Err-side.fault c.in-Ok.ensures.grows.leaves.contents
     (c.in-Err-side.ensures.sound ks b.name (row_of x b y) (c.in-Ok.ensures.grows.named c.args.at b.name named) t.0 (is_side ks m x t.1))
 
 pub returns-in-Ok-side-2-clause-steps : goal.returns-in-Ok-side-2-clause-steps
@@ -45,7 +46,7 @@ returns-in-Err-side-2-clause-steps g c x b y s named =
     let p = place c.args.sw.now (g.V.Vault.outside c.args.vault.now) in
     let m = place c.order.new.sw (g.V.Vault.outside c.order.new.vault) in
     let t = stands_grown (rows_of ks p) (rows_of ks m) (c.in-Ok.ensures.grows.rows ks) (node x b y) s in
-    fetch_back p.outside m.outside c.in-Err-side-2.fault c.in-Ok.ensures.grows.contents
+    fetch_back p.outside m.outside c.in-Err-side-2.fault c.in-Ok.ensures.grows.leaves.contents
     (c.in-Err-side-2.ensures.sound ks b.name (row_of x b y) (c.in-Ok.ensures.grows.named c.args.at b.name named) t.0 (is_side ks m y t.2))
 
 pub returns-in-Ok-side-clause-brings : goal.returns-in-Ok-side-clause-brings
@@ -65,3 +66,9 @@ returns-in-Err-side-2-clause-brings g c = brings_touched _ _ _ 0 1 1 c.in-Err-si
 
 pub returns-in-Err-side-2-clause-still : goal.returns-in-Err-side-2-clause-still
 returns-in-Err-side-2-clause-still g c = keeps-trans _ _ _ c.in-Ok.ensures.keeps c.in-Err-side-2.ensures.still
+
+pub returns-in-Err-side-clause-fault : goal.returns-in-Err-side-clause-fault
+returns-in-Err-side-clause-fault g c = node_fault_back (g.V.Vault.outside c.args.vault.now) (g.V.Vault.outside c.order.new.vault) _ _ c.in-Err-side.fault c.in-Ok.ensures.grows.leaves c.in-Err-side.ensures.fault
+
+pub returns-in-Err-side-2-clause-fault : goal.returns-in-Err-side-2-clause-fault
+returns-in-Err-side-2-clause-fault g c = node_fault_back (g.V.Vault.outside c.args.vault.now) (g.V.Vault.outside c.order.new.vault) _ _ c.in-Err-side-2.fault c.in-Ok.ensures.grows.leaves c.in-Err-side-2.ensures.fault

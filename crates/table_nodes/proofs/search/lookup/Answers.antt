@@ -11,6 +11,7 @@ use Rattle.table_nodes.proofs.NodeLaws.{fetch_back}
 use Rattle.table_nodes.proofs.SoughtLaws.{key_held_kept, key_in_kept}
 use Rattle.table_nodes.proofs.StepLaws.{touches_then}
 use Rattle.table_nodes.proofs.Seeking.{looked_none, looked_found, Sought, at_node, sought_none, height_read, sought_found, sought_down}
+use Rattle.table_nodes.proofs.FaultLaws.{node_fault_back, height_failed, the_node}
 use Rattle.table_nodes.proofs.search.lookup.Goals as goal
 
 pub returns-then-height-eq0-clause-found : goal.returns-then-height-eq0-clause-found
@@ -56,7 +57,7 @@ returns-in-Err-value-clause-found g c t h low =
     let s = at_node ks wanted now c.in-Some.node c.loop-at.bound c.args.steps.now c.loop-at.steps t (subst (λ (i : Option ℕ). Sought ks wanted now i c.loop-at.bound c.args.steps.now c.loop-at.steps t) c.in-Some.is (c.loop-at.invariant.sought t h low)) in
     let step = subst (λ (w : Step). IsStep ks m.heap (key_in now.heap c.args.key) s.x s.b s.y w) c.in-Ok-Found.field-0-is (c.in-Ok-Found.ensures.steps s.x s.b s.y s.stands s.name) in
     let found = subst (λ k. IsStep ks m.heap k s.x s.b s.y Found) c.loop-at.invariant.same step in
-    fetch_back (g.V.Vault.outside c.args.vault.now) now.outside c.in-Err-value.fault c.loop-at.invariant.grows.contents
+    fetch_back (g.V.Vault.outside c.args.vault.now) now.outside c.in-Err-value.fault c.loop-at.invariant.grows.leaves.contents
     (sought_found ks wanted now m c.in-Some.node c.loop-at.bound c.args.steps.now c.loop-at.steps t s c.in-Ok-Found.ensures.grows new found (Err c.in-Err-value.fault) c.in-Err-value.ensures.read)
 
 pub returns-in-Err-clause-found : goal.returns-in-Err-clause-found
@@ -65,7 +66,7 @@ returns-in-Err-clause-found g c t h low =
     let wanted = key_in c.args.sw.now c.args.key in
     let now = place c.loop-at.sw (g.V.Vault.outside c.loop-at.vault) in
     let s = at_node ks wanted now c.in-Some.node c.loop-at.bound c.args.steps.now c.loop-at.steps t (subst (λ (i : Option ℕ). Sought ks wanted now i c.loop-at.bound c.args.steps.now c.loop-at.steps t) c.in-Some.is (c.loop-at.invariant.sought t h low)) in
-    fetch_back (g.V.Vault.outside c.args.vault.now) now.outside c.in-Err.fault c.loop-at.invariant.grows.contents (c.in-Err.ensures.steps s.x s.b s.y s.stands s.name)
+    fetch_back (g.V.Vault.outside c.args.vault.now) now.outside c.in-Err.fault c.loop-at.invariant.grows.leaves.contents (c.in-Err.ensures.steps s.x s.b s.y s.stands s.name)
 
 pub loop-at-preserved : goal.loop-at-preserved
 loop-at-preserved g c =
@@ -142,3 +143,15 @@ returns-in-Err-value-clause-still g c = keeps-trans _ _ _ (keeps-trans _ _ _ c.l
 
 pub returns-in-Err-clause-still : goal.returns-in-Err-clause-still
 returns-in-Err-clause-still g c = keeps-trans _ _ _ c.loop-at.invariant.keeps c.in-Err.ensures.still
+
+pub returns-then-height-eq0-clause-fault : goal.returns-then-height-eq0-clause-fault
+returns-then-height-eq0-clause-fault g c =
+    height_failed (g.V.Vault.outside c.args.vault.now) _ c.loop-at.sw c.in-Some.node _ _ _ (the_node c.loop-at.sw c.loop-at.at c.in-Some.node c.in-Some.is c.loop-at.invariant.node) (c.height-height.ensures.word c.in-Some.node c.in-Some.is) c.then-height-eq0.either c.damaged.ensures
+
+pub returns-in-Err-clause-fault : goal.returns-in-Err-clause-fault
+returns-in-Err-clause-fault g c = node_fault_back (g.V.Vault.outside c.args.vault.now) (g.V.Vault.outside c.loop-at.vault) _ _ c.in-Err.fault c.loop-at.invariant.grows.leaves c.in-Err.ensures.fault
+
+pub returns-in-Err-value-clause-fault : goal.returns-in-Err-value-clause-fault
+returns-in-Err-value-clause-fault g c =
+    node_fault_back (g.V.Vault.outside c.args.vault.now) (g.V.Vault.outside c.loop-at.vault) _ _ c.in-Err-value.fault c.loop-at.invariant.grows.leaves
+    (node_fault_back (g.V.Vault.outside c.loop-at.vault) (g.V.Vault.outside c.look.new.vault) _ _ c.in-Err-value.fault c.in-Ok-Found.ensures.grows.leaves c.in-Err-value.ensures.fault)
