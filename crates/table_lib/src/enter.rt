@@ -14,14 +14,15 @@ ghost use Rattle.table_nodes.specs.Faults.{IsChangeFault, IsNodeFault};
 ghost use Rattle.table_lib.specs.Faults.{IsFaultAt, IsOpFault};
 
 use crate::bits::bits;
-use crate::words::{Opened, counted_root, kind_of_key, mark_table, open_table, write_table};
+use crate::words::{Opened, counted_root, mark_table, open_table, write_table};
 use table_nodes::enter::enter;
 use table_nodes::heap_places::heap_texts::fault::OpFault;
 use table_nodes::heap_places::obj_layout::vault::Vault;
 use table_nodes::heap_places::swizzle::fault::SwizzleFault;
 use table_nodes::heap_places::swizzle::swizzle::Swizzle;
-use table_nodes::keys::Key;
+use table_nodes::keys::{Key, kind_of_key};
 use table_nodes::remove::remove;
+use table_nodes::span::Span;
 
 // How many pairs there are with one that is new or isn't.
 fn count_with(count: u64, made: bool) -> u64
@@ -65,7 +66,11 @@ fn put_pair<V: Vault>(
         Ok(root) => root,
         Err(fault) => return Err(fault),
     };
-    let entered = match enter(sw, vault, root, bound, key, value) {
+    let span = Span {
+        low: None,
+        high: None,
+    };
+    let entered = match enter(sw, vault, root, bound, key, span, value) {
         Ok(entered) => entered,
         Err(fault) => return Err(fault),
     };
@@ -98,7 +103,11 @@ fn take_key<V: Vault>(
         Ok(root) => root,
         Err(fault) => return Err(fault),
     };
-    let removed = match remove(sw, vault, root, bound, key) {
+    let span = Span {
+        low: None,
+        high: None,
+    };
+    let removed = match remove(sw, vault, root, bound, key, span) {
         Ok(removed) => removed,
         Err(fault) => return Err(fault),
     };

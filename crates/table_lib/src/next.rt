@@ -8,21 +8,20 @@ ghost use Rattle.table_nodes.specs.Bringing.{Brings};
 ghost use Rattle.table_nodes.specs.heap_places.swizzle.Touch.{Keeps};
 ghost use Rattle.table_nodes.specs.Keys.{by_ints, by_texts, order_by};
 ghost use Rattle.table_nodes.specs.Nodes.{IsNode, Grows};
-ghost use Rattle.table_nodes.specs.Sought.{IsKeyHeld, IsTextHeld, kind_of, key_in};
+ghost use Rattle.table_nodes.specs.Sought.{IsKeyHeld, IsTextHeld, kind_of, key_in, keys_of};
 ghost use Rattle.table_nodes.specs.Steps.{place};
 ghost use Rattle.table_lib.specs.Nexts.{FindsNode, FindsPair, IsIntPair, IsTextPair, ReadsPair, after_key, string_of};
-ghost use Rattle.table_lib.specs.Operations.{keys_of};
 ghost use Rattle.table_nodes.specs.Faults.{IsNodeFault};
 ghost use Rattle.table_lib.specs.Faults.{IsOpFault};
 
 use crate::bits::bits;
-use crate::words::{KeyKind, counted_root, kind_of_key, open_table};
+use crate::words::{counted_root, open_table};
 use table_nodes::follow::{first, next};
 use table_nodes::heap_places::heap_texts::fault::OpFault;
 use table_nodes::heap_places::obj_layout::vault::Vault;
 use table_nodes::heap_places::swizzle::fault::SwizzleFault;
 use table_nodes::heap_places::swizzle::swizzle::Swizzle;
-use table_nodes::keys::{Key, int_key, text_key};
+use table_nodes::keys::{Key, KeyKind, int_key, kind_of_key, text_key};
 use table_nodes::nodes::value;
 
 // The node of the least key above a key of a table.
@@ -94,7 +93,7 @@ fn least_node<V: Vault>(
         Ok(root) => root,
         Err(fault) => return Err(OpFault::Swizzle(fault)),
     };
-    match first(sw, vault, root, bound) {
+    match first(sw, vault, root, bound, keys) {
         Ok(found) => Ok(found),
         Err(fault) => Err(OpFault::Swizzle(fault)),
     }

@@ -4,10 +4,10 @@ ghost use Rattle.table_nodes.specs.heap_places.swizzle.Heap.{IsHeld, num_at, ref
 ghost use Rattle.table_nodes.specs.heap_places.swizzle.Touch.{Keeps};
 ghost use Rattle.table_nodes.specs.Bringing.{Brings, NoneCome};
 ghost use Rattle.table_nodes.specs.Nodes.{IsNode, Grows};
-ghost use Rattle.table_nodes.specs.Sought.{kind_of};
+ghost use Rattle.table_nodes.specs.Sought.{keys_of};
 ghost use Rattle.table_nodes.specs.Steps.{place};
 ghost use Rattle.table_lib.specs.Entries.{MarksTable, SparesBut, WritesTable};
-ghost use Rattle.table_lib.specs.Operations.{Opens, ReadsRoot, keys_of};
+ghost use Rattle.table_lib.specs.Operations.{Opens, ReadsRoot};
 ghost use Rattle.table_lib.specs.Tables.{IsTableAt, key_number};
 ghost use Rattle.table_nodes.specs.Faults.{IsNodeFault};
 ghost use Rattle.table_lib.specs.Faults.{IsFaultAt, IsOpenFault};
@@ -20,7 +20,7 @@ use table_nodes::heap_places::obj_layout::vault::Vault;
 use table_nodes::heap_places::places::damaged;
 use table_nodes::heap_places::swizzle::fault::SwizzleFault;
 use table_nodes::heap_places::swizzle::swizzle::Swizzle;
-use table_nodes::keys::Key;
+use table_nodes::keys::KeyKind;
 use table_nodes::nodes::is_node;
 
 /// A table, and whether it has had keys.
@@ -28,23 +28,6 @@ use table_nodes::nodes::is_node;
 pub struct Opened {
     pub at: u32,
     pub used: bool,
-}
-
-/// Of which kind keys are.
-#[derive(Clone, Copy)]
-pub enum KeyKind {
-    Ints,
-    Texts,
-}
-
-/// The kind of a key.
-pub fn kind_of_key(key: Key) -> KeyKind
-    ensures { keys_of result ≡ kind_of key }
-{
-    match key {
-        Key::Int(_) => KeyKind::Ints,
-        Key::Text(_) => KeyKind::Texts,
-    }
 }
 
 // The number of a kind of keys.

@@ -14,5 +14,6 @@ pub mod TurnLaws
 pub mod WingLaws
 pub mod BringLaws
 pub mod FaultLaws
+pub mod SpanLaws
 pub use Rattle.heap_places.proofs as of_heap_places
 pub use Rattle.avl_trees.proofs as of_avl_trees

@@ -13,7 +13,9 @@ use Rattle.heap_places.specs.swizzle.Heap.{Heap, IsHeld, IsFull, header_at, num_
 use Rattle.heap_places.specs.swizzle.Reading.{FailsReading}
 use Rattle.heap_places.specs.swizzle.Touch.{IsTouchFault}
 use Rattle.heap_places.specs.Words.{int_in}
+use Rattle.table_nodes.specs.declared.keys.Key.{Key}
 use Rattle.table_nodes.specs.Nodes.{IsNode}
+use Rattle.table_nodes.specs.Spans.{HasKey, key_number}
 
 -- What was tested of an object and didn't hold: the number that was found, and its bound.
 pub data IsMisfit (heap : Heap) (at found wanted : ℕ) : Type 0 where
@@ -22,6 +24,7 @@ pub data IsMisfit (heap : Heap) (at found wanted : ℕ) : Type 0 where
   no_int : IsNode heap at → found ≡ num_at heap at 1 → int_in found ≡ None → wanted ≡ 2 ^ 31 → IsMisfit heap at found wanted
   no_key : IsNode heap at → ref_at heap at 2 ≡ Nil → found ≡ 0 → wanted ≡ 1 → IsMisfit heap at found wanted
   no_text : (header_at heap at).kind ≢ TextKind → found ≡ kind_number (header_at heap at).kind → wanted ≡ 1 → IsMisfit heap at found wanted
+  out_of_order : (own end : Key) (other : ℕ) → HasKey heap at own → HasKey heap other end → found ≡ key_number heap own → wanted ≡ key_number heap end → IsMisfit heap at found wanted
   no_value : IsNode heap at → ref_at heap at 3 ≡ Nil → found ≡ 0 → wanted ≡ 1 → IsMisfit heap at found wanted
 
 -- The object of a reference couldn't be fetched: the vault's own tests name it, or there was no room for it; the device is named only where it failed. Or a

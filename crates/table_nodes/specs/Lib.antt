@@ -7,6 +7,7 @@ pub mod Nodes
 pub mod Removing
 pub mod Searching
 pub mod Sought
+pub mod Spans
 pub mod Steps
 pub mod Turning
 pub mod Wings

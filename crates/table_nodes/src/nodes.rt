@@ -1,7 +1,9 @@
 ghost use Rattle.std.specs.Prelude.{◌≡◌, ◌⊎◌, ℕ, ◌<◌, ◌≤◌, true, false, None, Some, IfOk, IfErr, IfSome, OnOk, OnErr};
 ghost use Rattle.heap_places.specs.obj_layout.declared.reference.Reference.{Reference as Name};
 ghost use Rattle.heap_places.specs.swizzle.Heap.{IsHeld, IsListed, num_at};
+ghost use Rattle.heap_places.specs.swizzle.Joint.{name_at, shown_at};
 ghost use Rattle.heap_places.specs.swizzle.Touch.{Keeps};
+ghost use Rattle.heap_places.specs.Shapes.{slot_of};
 ghost use Rattle.table_nodes.specs.Bringing.{Brings, NoneCome};
 ghost use Rattle.table_nodes.specs.Nodes.{IsNode, IsNamed, IsLinked, IsSide, IsSlot, HasSides, Seat, Grows, Links, IsFetchFault, rows_in, side_of};
 ghost use Rattle.table_nodes.specs.Entering.{Puts};
@@ -84,6 +86,7 @@ pub fn value<V: Vault>(sw: &mut Swizzle, vault: &mut V, at: u32) -> Result<u32, 
     requires alive { V.alive vault.old }
     requires node { IsNode sw.old at }
     ensures held { IfOk result (IsHeld sw.new) }
+    ensures slot { IfOk result (λ value. slot_of (shown_at sw.new at) 3 ≡ name_at sw.new value) }
     ensures read { ReadsValue sw.old sw.new (V.outside vault.old) at result }
     ensures grows { OnOk result (Grows sw.old sw.new (V.outside vault.old) (V.outside vault.new)) }
     ensures keeps { OnOk result (Keeps sw.old sw.new) }

@@ -4,7 +4,7 @@ use Rattle.table_nodes.specs.heap_places.heap_texts.declared.fault.OpFault.TheVa
 use Rattle.table_nodes.specs.Steps.{place}
 use Rattle.table_nodes.proofs.NodeLaws.{fetch_back}
 use Rattle.table_nodes.proofs.StepLaws.{touches_then}
-use Rattle.table_lib.specs.Operations.{keys_of}
+use Rattle.table_nodes.specs.Sought.{keys_of}
 use Rattle.table_lib.proofs.NextLaws.{node_found, least_parts}
 use Rattle.table_lib.proofs.RootLaws.{pairs_of, tree_of, tree_low}
 use Rattle.table_lib.proofs.UseLaws.{uses_refused, uses_unused, uses_used}
@@ -41,7 +41,7 @@ returns-in-Ok-first-clause-found g c =
     uses_used ks old c.args.table _ _ c.in-Ok.opened has c.in-Ok.ensures.opens (Ok c.in-Ok-first.found) (λ t h.
     let tree = tree_of ks old m c.in-Ok.opened.at t c.in-Ok-counted_root.root c.in-Ok-counted_root.ensures.grows h (c.in-Ok-counted_root.ensures.root ks t (pairs_of ks old c.in-Ok.opened.at t h)) in
     let low = tree_low ks old c.in-Ok.opened.at t c.num.result (2 * c.bits.result + 1) h c.num.ensures c.num.type_inv (ap (λ b. 2 * b + 1) c.bits.ensures.value) in
-    node_found ks m new c.in-Ok-counted_root.root t (λ a. Less) c.in-Ok-first.found (least_parts ks) tree c.in-Ok-first.ensures.grows (c.in-Ok-first.ensures.begins ks t tree low))
+    node_found ks m new c.in-Ok-counted_root.root t (λ a. Less) c.in-Ok-first.found (least_parts ks) tree c.in-Ok-first.ensures.grows (c.in-Ok-first.ensures.begins t tree low))
 
 pub returns-in-Err-first-clause-found : goal.returns-in-Err-first-clause-found
 returns-in-Err-first-clause-found g c =
@@ -52,7 +52,7 @@ returns-in-Err-first-clause-found g c =
     uses_used ks old c.args.table _ _ c.in-Ok.opened has c.in-Ok.ensures.opens (Err (Swizzle c.in-Err-first.fault)) (λ t h.
     let tree = tree_of ks old m c.in-Ok.opened.at t c.in-Ok-counted_root.root c.in-Ok-counted_root.ensures.grows h (c.in-Ok-counted_root.ensures.root ks t (pairs_of ks old c.in-Ok.opened.at t h)) in
     let low = tree_low ks old c.in-Ok.opened.at t c.num.result (2 * c.bits.result + 1) h c.num.ensures c.num.type_inv (ap (λ b. 2 * b + 1) c.bits.ensures.value) in
-    fetch_back old.outside m.outside c.in-Err-first.fault c.in-Ok-counted_root.ensures.grows.leaves.contents (c.in-Err-first.ensures.begins ks t tree low))
+    fetch_back old.outside m.outside c.in-Err-first.fault c.in-Ok-counted_root.ensures.grows.leaves.contents (c.in-Err-first.ensures.begins t tree low))
 
 pub returns-in-Ok-first-clause-grows : goal.returns-in-Ok-first-clause-grows
 returns-in-Ok-first-clause-grows g c = touches_then (place c.args.sw.now (g.V.Vault.outside c.args.vault.now)) (place c.counted_root.new.sw (g.V.Vault.outside c.counted_root.new.vault)) (place c.first.new.sw (g.V.Vault.outside c.first.new.vault)) c.in-Ok-counted_root.ensures.grows c.in-Ok-first.ensures.grows

@@ -18,8 +18,8 @@ returns-in-Err-clause-follows g c t h low =
     let ks = kind_of c.args.key in
     let wanted = key_in c.args.sw.now c.args.key in
     let now = place c.loop-at.sw (g.V.Vault.outside c.loop-at.vault) in
-    let s = at_turn ks (seek (order_by ks) wanted) now c.in-Some.node c.loop-at.last c.loop-at.bound t (subst (λ (i : Option ℕ). Following ks (seek (order_by ks) wanted) now i c.loop-at.last c.loop-at.bound t) c.in-Some.is (c.loop-at.invariant.follows t h low)) in
-    fetch_back (g.V.Vault.outside c.args.vault.now) now.outside c.in-Err.fault c.loop-at.invariant.grows.leaves.contents (c.in-Err.ensures.turns s.x s.b s.y s.stands s.name)
+    let s = at_turn ks (seek (order_by ks) wanted) now c.in-Some.node c.loop-at.last c.loop-at.span c.loop-at.bound t (subst (λ (i : Option ℕ). Following ks (seek (order_by ks) wanted) now i c.loop-at.last c.loop-at.span c.loop-at.bound t) c.in-Some.is (c.loop-at.invariant.follows t h low)) in
+    fetch_back (g.V.Vault.outside c.args.vault.now) now.outside c.in-Err.fault c.loop-at.invariant.grows.leaves.contents (c.in-Err.ensures.turns s.x s.b s.y s.stands s.name s.rising s.within)
 
 pub loop-at-preserved : goal.loop-at-preserved
 loop-at-preserved g c =
@@ -31,6 +31,7 @@ loop-at-preserved g c =
     record {
       node = c.in-Ok.ensures.side;
       last = c.in-Ok.ensures.last;
+      span = c.in-Ok.ensures.span;
       key = key_held_kept now.heap m.heap c.args.key c.in-Ok.ensures.keeps c.loop-at.invariant.key;
       same = key_in_kept now.heap m.heap c.args.key c.in-Ok.ensures.keeps c.loop-at.invariant.key ∙ c.loop-at.invariant.same;
       keeps = keeps-trans old.heap now.heap m.heap c.loop-at.invariant.keeps c.in-Ok.ensures.keeps;
@@ -40,10 +41,10 @@ loop-at-preserved g c =
       brings = brings_touched old.heap now.heap m.heap (c.args.bound - c.loop-at.bound) 1 _ c.in-Ok.ensures.keeps (omega (arith, c.if-height-bound.false, c.loop-at.invariant.within)) c.loop-at.invariant.brings c.go_on.ensures.brings;
       alive = c.in-Ok.ensures.alive;
       follows = λ t h low.
-          let s = at_turn ks (seek (order_by ks) wanted) now c.in-Some.node c.loop-at.last c.loop-at.bound t (subst (λ (i : Option ℕ). Following ks (seek (order_by ks) wanted) now i c.loop-at.last c.loop-at.bound t) c.in-Some.is (c.loop-at.invariant.follows t h low)) in
-          let e = height_at ks (seek (order_by ks) wanted) now c.in-Some.node c.loop-at.last c.loop-at.bound t s c.height-height.result (c.height-height.ensures.some ks) in
-          let turns = subst (λ k. IsTurn m.heap c.in-Some.node c.loop-at.last (order_by ks k s.b.entry.key) s.x s.y c.in-Ok.turn) c.loop-at.invariant.same (c.in-Ok.ensures.turns s.x s.b s.y s.stands s.name) in
-          following_on ks (seek (order_by ks) wanted) now m c.in-Some.node c.loop-at.last c.loop-at.bound t s c.in-Ok.ensures.grows c.height-height.result c.in-Ok.turn turns e;
+          let s = at_turn ks (seek (order_by ks) wanted) now c.in-Some.node c.loop-at.last c.loop-at.span c.loop-at.bound t (subst (λ (i : Option ℕ). Following ks (seek (order_by ks) wanted) now i c.loop-at.last c.loop-at.span c.loop-at.bound t) c.in-Some.is (c.loop-at.invariant.follows t h low)) in
+          let e = height_at ks (seek (order_by ks) wanted) now c.in-Some.node c.loop-at.last c.loop-at.span c.loop-at.bound t s c.height-height.result (c.height-height.ensures.some ks) in
+          let turns = subst (λ k. IsTurn ks m.heap c.in-Some.node c.loop-at.last (order_by ks k s.b.entry.key) s.x s.y c.in-Ok.turn) c.loop-at.invariant.same (c.in-Ok.ensures.turns s.x s.b s.y s.stands s.name s.rising s.within) in
+          following_on ks (seek (order_by ks) wanted) now m c.in-Some.node c.loop-at.last c.loop-at.span c.loop-at.bound t s c.in-Ok.ensures.grows c.height-height.result c.in-Ok.turn turns e;
     }
 
 pub returns-clause-follows : goal.returns-clause-follows
@@ -51,15 +52,15 @@ returns-clause-follows g c t h low =
     let ks = kind_of c.args.key in
     let wanted = key_in c.args.sw.now c.args.key in
     let now = place c.loop-at.sw (g.V.Vault.outside c.loop-at.vault) in
-    following_none ks (seek (order_by ks) wanted) now c.loop-at.last c.loop-at.bound t (subst (λ (i : Option ℕ). Following ks (seek (order_by ks) wanted) now i c.loop-at.last c.loop-at.bound t) c.in_default.is (c.loop-at.invariant.follows t h low))
+    following_none ks (seek (order_by ks) wanted) now c.loop-at.last c.loop-at.span c.loop-at.bound t (subst (λ (i : Option ℕ). Following ks (seek (order_by ks) wanted) now i c.loop-at.last c.loop-at.span c.loop-at.bound t) c.in_default.is (c.loop-at.invariant.follows t h low))
 
 pub returns-then-height-eq0-clause-follows : goal.returns-then-height-eq0-clause-follows
 returns-then-height-eq0-clause-follows g c t h low =
     let ks = kind_of c.args.key in
     let wanted = key_in c.args.sw.now c.args.key in
     let now = place c.loop-at.sw (g.V.Vault.outside c.loop-at.vault) in
-    let s = at_turn ks (seek (order_by ks) wanted) now c.in-Some.node c.loop-at.last c.loop-at.bound t (subst (λ (i : Option ℕ). Following ks (seek (order_by ks) wanted) now i c.loop-at.last c.loop-at.bound t) c.in-Some.is (c.loop-at.invariant.follows t h low)) in
-    let e = height_at ks (seek (order_by ks) wanted) now c.in-Some.node c.loop-at.last c.loop-at.bound t s c.height-height.result (c.height-height.ensures.some ks) in
+    let s = at_turn ks (seek (order_by ks) wanted) now c.in-Some.node c.loop-at.last c.loop-at.span c.loop-at.bound t (subst (λ (i : Option ℕ). Following ks (seek (order_by ks) wanted) now i c.loop-at.last c.loop-at.span c.loop-at.bound t) c.in-Some.is (c.loop-at.invariant.follows t h low)) in
+    let e = height_at ks (seek (order_by ks) wanted) now c.in-Some.node c.loop-at.last c.loop-at.span c.loop-at.bound t s c.height-height.result (c.height-height.ensures.some ks) in
     let lower = s.lower in
     absurd (grind (arith, e, lower, c.then-height-eq0.either))
 

@@ -9,6 +9,7 @@ use Rattle.table_nodes.proofs.SoughtLaws.{text_of_key, text_not_nil}
 use Rattle.table_nodes.proofs.BringLaws.{brings_only, brings_other, brings_same, keeps_same}
 use Rattle.table_nodes.specs.Faults.{misfit, no_key, no_text}
 use Rattle.table_nodes.proofs.FaultLaws.{touch_failed}
+use Rattle.table_nodes.proofs.SpanLaws.{slot_shown}
 use Rattle.table_nodes.proofs.keys.text_key.Goals as goal
 
 pub returns-then-eq-clause-read : goal.returns-then-eq-clause-read
@@ -58,3 +59,7 @@ returns-in-Ok-None-clause-fault g c =
 
 pub returns-in-Err-clause-fault : goal.returns-in-Err-clause-fault
 returns-in-Err-clause-fault g c = touch_failed (g.V.Vault.outside c.args.vault.now) (g.V.Vault.outside c.touch_slot.new.vault) c.args.sw.now c.touch_slot.new.self c.args.at 2 c.in-Err.fault c.requires.node.held (omega (arith, c.requires.node.refs)) c.in-Err.ensures.refused c.in-Err.ensures.fault c.in-Err.ensures.call
+
+pub returns-then-eq-clause-slot : goal.returns-then-eq-clause-slot
+returns-then-eq-clause-slot g c = slot_shown c.args.sw.now c.touch_slot.new.self c.args.at 2 c.in-Ok-Some.text c.in-Ok-Some.ensures.keeps c.requires.node.held
+    (subst (λ (t : Option ℕ). Denotes c.touch_slot.new.self t (name_of c.args.sw.now (ref_at c.args.sw.now c.args.at 2))) c.in-Ok-Some.field-0-is c.in-Ok-Some.ensures.target)

@@ -7,6 +7,7 @@ use Rattle.table_nodes.proofs.NodeLaws.{seat_at, grows_touch}
 use Rattle.table_nodes.proofs.BringLaws.{brings_only, brings_same, keeps_same}
 use Rattle.table_nodes.specs.Faults.{misfit, no_value}
 use Rattle.table_nodes.proofs.FaultLaws.{touch_failed}
+use Rattle.table_nodes.proofs.SpanLaws.{slot_shown}
 use Rattle.table_nodes.proofs.nodes.value.Goals as goal
 
 pub returns-in-Ok-Some-clause-read : goal.returns-in-Ok-Some-clause-read
@@ -43,3 +44,7 @@ returns-in-Ok-None-clause-fault g c =
 
 pub returns-in-Err-clause-fault : goal.returns-in-Err-clause-fault
 returns-in-Err-clause-fault g c = touch_failed (g.V.Vault.outside c.args.vault.now) (g.V.Vault.outside c.touch_slot.new.vault) c.args.sw.now c.touch_slot.new.self c.args.at 3 c.in-Err.fault c.requires.node.held (omega (arith, c.requires.node.refs)) c.in-Err.ensures.refused c.in-Err.ensures.fault c.in-Err.ensures.call
+
+pub returns-in-Ok-Some-clause-slot : goal.returns-in-Ok-Some-clause-slot
+returns-in-Ok-Some-clause-slot g c = slot_shown c.args.sw.now c.touch_slot.new.self c.args.at 3 c.in-Ok-Some.value c.in-Ok-Some.ensures.keeps c.requires.node.held
+    (subst (λ (t : Option ℕ). Denotes c.touch_slot.new.self t (name_of c.args.sw.now (ref_at c.args.sw.now c.args.at 3))) c.in-Ok-Some.field-0-is c.in-Ok-Some.ensures.target)
