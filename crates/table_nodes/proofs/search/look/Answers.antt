@@ -5,7 +5,7 @@ use Rattle.avl_trees.proofs.Standing.{stands_grown}
 use Rattle.table_nodes.specs.Sought.{kind_of}
 use Rattle.table_nodes.specs.Steps.{place, rows_of}
 use Rattle.table_nodes.proofs.NodeLaws.{fetch_back}
-use Rattle.table_nodes.proofs.StepLaws.{is_side}
+use Rattle.table_nodes.proofs.StepLaws.{is_side, touches_then}
 use Rattle.heap_places.proofs.of_swizzle.TouchLaws.{keeps-trans}
 use Rattle.table_nodes.proofs.BringLaws.{brings_touched}
 use Rattle.table_nodes.proofs.FaultLaws.{node_fault_back}
@@ -72,3 +72,10 @@ returns-in-Err-side-clause-fault g c = node_fault_back (g.V.Vault.outside c.args
 
 pub returns-in-Err-side-2-clause-fault : goal.returns-in-Err-side-2-clause-fault
 returns-in-Err-side-2-clause-fault g c = node_fault_back (g.V.Vault.outside c.args.vault.now) (g.V.Vault.outside c.order.new.vault) _ _ c.in-Err-side-2.fault c.in-Ok.ensures.grows.leaves c.in-Err-side-2.ensures.fault
+
+pub returns-in-Ok-side-clause-grows : goal.returns-in-Ok-side-clause-grows
+returns-in-Ok-side-clause-grows g c = touches_then (place c.args.sw.now (g.V.Vault.outside c.args.vault.now)) (place c.order.new.sw (g.V.Vault.outside c.order.new.vault)) (place c.side.new.sw (g.V.Vault.outside c.side.new.vault)) c.in-Ok.ensures.grows c.in-Ok-side.ensures.grows
+
+pub returns-in-Ok-side-2-clause-grows : goal.returns-in-Ok-side-2-clause-grows
+returns-in-Ok-side-2-clause-grows g c =
+    touches_then (place c.args.sw.now (g.V.Vault.outside c.args.vault.now)) (place c.order.new.sw (g.V.Vault.outside c.order.new.vault)) (place c.side-in-Greater.new.sw (g.V.Vault.outside c.side-in-Greater.new.vault)) c.in-Ok.ensures.grows c.in-Ok-side-2.ensures.grows
