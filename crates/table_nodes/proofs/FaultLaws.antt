@@ -46,6 +46,11 @@ pub height_failed : (a b : Outside Space) (heap : Heap) (at height bound : ℕ) 
     → IsNodeFault a b heap fault
 height_failed a b heap at height bound fault node e why is = misfit at height bound node.held (wrong_height node e why) is
 
+pub height_tested : (a b : Outside Space) (heap : Heap) (at height bound : ℕ) (fault : SwizzleFault) → IsNode heap at → height ≡ num_at heap at 2 → (height ≡ 0) ⊎ ((height ≡ 0 → ⊥) × (bound ≤ height)) → fault ≡ Vault (Damaged (header_at heap at).pid height bound)
+    → IsNodeFault a b heap fault
+height_tested a b heap at height bound fault node e (inl zero) is = height_failed a b heap at height bound fault node e (inl zero) is
+height_tested a b heap at height bound fault node e (inr w) is = height_failed a b heap at height bound fault node e (inr w.1) is
+
 pub the_node : (heap : Heap) (side : Option ℕ) (at : ℕ) → side ≡ Some at → IfSome side (IsNode heap) → IsNode heap at
 the_node heap side at e h = subst (λ s. IfSome s (IsNode heap)) e h
 

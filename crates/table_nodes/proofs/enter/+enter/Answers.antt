@@ -13,7 +13,7 @@ use Rattle.table_nodes.proofs.SoughtLaws.{key_in_kept}
 use Rattle.table_nodes.proofs.StepLaws.{place_touched, side_map}
 use Rattle.table_nodes.proofs.Putting.{root_named, no_root, entered_as, tree_left, tree_right, put_leaf, put_left, put_right, put_here, fault_after, counted_leaf, counted_left, counted_right, counted_here}
 use Rattle.table_nodes.proofs.Sparing.{spares_made, spares_then, spares_touched}
-use Rattle.table_nodes.proofs.FaultLaws.{change_fault_back, full_here, height_failed, the_node}
+use Rattle.table_nodes.proofs.FaultLaws.{change_fault_back, full_here, height_tested, the_node}
 use Rattle.table_nodes.proofs.enter.+enter.Goals as goal
 
 pub returns-in-Ok-clause-entered : goal.returns-in-Ok-clause-entered
@@ -233,7 +233,7 @@ pub returns-in-Err-clause-fault : goal.returns-in-Err-clause-fault
 returns-in-Err-clause-fault g t c = inr (full_here _ _ 11 c.in-Err.fault c.in-Err.ensures.made)
 
 pub returns-then-height-eq0-clause-fault : goal.returns-then-height-eq0-clause-fault
-returns-then-height-eq0-clause-fault g t c = inl (height_failed (g.V.Vault.outside c.args.vault.now) _ c.args.sw.now c.in-Some.at _ _ _ (the_node c.args.sw.now c.args.root c.in-Some.at c.in-Some.is c.requires.root) (c.height-height.ensures.word c.in-Some.at c.in-Some.is) c.then-height-eq0.either c.damaged.ensures)
+returns-then-height-eq0-clause-fault g t c = inl (height_tested (g.V.Vault.outside c.args.vault.now) _ c.args.sw.now c.in-Some.at _ _ _ (the_node c.args.sw.now c.args.root c.in-Some.at c.in-Some.is c.requires.root) (c.height-height.ensures.word c.in-Some.at refl) c.then-height-eq0.either c.damaged.ensures)
 
 pub returns-in-Err-open_node-clause-fault : goal.returns-in-Err-open_node-clause-fault
 returns-in-Err-open_node-clause-fault g t c = inl c.in-Err-open_node.ensures.fault

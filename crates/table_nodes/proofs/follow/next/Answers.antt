@@ -1,4 +1,4 @@
-use Rattle.std.proofs.Common.{◌-◌, arith, ◌∙◌, Option, ℕ, subst}
+use Rattle.std.proofs.Common.{◌-◌, arith, ◌∙◌, Option, ℕ, subst, refl}
 use Rattle.heap_places.proofs.of_swizzle.TouchLaws.{keeps-trans}
 use Rattle.avl_trees.specs.Standing.{seek}
 use Rattle.table_nodes.specs.Keys.{order_by}
@@ -10,7 +10,7 @@ use Rattle.table_nodes.proofs.NodeLaws.{fetch_back}
 use Rattle.table_nodes.proofs.SoughtLaws.{key_held_kept, key_in_kept}
 use Rattle.table_nodes.proofs.StepLaws.{touches_then}
 use Rattle.table_nodes.proofs.FollowLaws.{Following, at_turn, following_none, height_at, following_on}
-use Rattle.table_nodes.proofs.FaultLaws.{node_fault_back, height_failed, the_node}
+use Rattle.table_nodes.proofs.FaultLaws.{node_fault_back, height_tested, the_node}
 use Rattle.table_nodes.proofs.follow.next.Goals as goal
 
 pub returns-in-Err-clause-follows : goal.returns-in-Err-clause-follows
@@ -78,7 +78,7 @@ returns-clause-brings g c = brings_more _ _ _ _ (omega (arith, c.loop-at.invaria
 
 pub returns-then-height-eq0-clause-fault : goal.returns-then-height-eq0-clause-fault
 returns-then-height-eq0-clause-fault g c =
-    height_failed (g.V.Vault.outside c.args.vault.now) _ c.loop-at.sw c.in-Some.node _ _ _ (the_node c.loop-at.sw c.loop-at.at c.in-Some.node c.in-Some.is c.loop-at.invariant.node) (c.height-height.ensures.word c.in-Some.node c.in-Some.is) c.then-height-eq0.either c.damaged.ensures
+    height_tested (g.V.Vault.outside c.args.vault.now) _ c.loop-at.sw c.in-Some.node _ _ _ (the_node c.loop-at.sw c.loop-at.at c.in-Some.node c.in-Some.is c.loop-at.invariant.node) (c.height-height.ensures.word c.in-Some.node refl) c.then-height-eq0.either c.damaged.ensures
 
 pub returns-in-Err-clause-fault : goal.returns-in-Err-clause-fault
 returns-in-Err-clause-fault g c = node_fault_back (g.V.Vault.outside c.args.vault.now) (g.V.Vault.outside c.loop-at.vault) _ _ c.in-Err.fault c.loop-at.invariant.grows.leaves c.in-Err.ensures.fault

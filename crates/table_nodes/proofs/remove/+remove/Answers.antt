@@ -14,7 +14,7 @@ use Rattle.table_nodes.proofs.Putting.{root_named, no_root, tree_left, tree_righ
 use Rattle.table_nodes.proofs.Removal.{removed_as, remove_leaf, opened_kept, left_sides, left_known, left_done, right_sides, right_known, right_done, here_done, here_fault, gone_leaf, gone_left, gone_right, gone_here}
 use Rattle.table_nodes.proofs.Sparing.{spares_none, spares_then, spares_touched}
 use Rattle.table_nodes.proofs.WingLaws.{wing_held_kept}
-use Rattle.table_nodes.proofs.FaultLaws.{node_fault_back, height_failed, the_node}
+use Rattle.table_nodes.proofs.FaultLaws.{node_fault_back, height_tested, the_node}
 use Rattle.table_nodes.proofs.SpanLaws.{span_kept}
 use Rattle.table_nodes.proofs.remove.+remove.Goals as goal
 
@@ -332,7 +332,7 @@ pub balance-root-requires-in-Ok-remove-2-clause-wing : goal.balance-root-require
 balance-root-requires-in-Ok-remove-2-clause-wing g t c = wing_held_kept c.open_left.new.sw c.remove-in-Greater.new.sw c.in-Ok-remove-2.ensures.held.nodes c.in-Ok-open_left.ready.wing c.in-Ok-open_left.ensures.held
 
 pub returns-then-height-eq0-clause-fault : goal.returns-then-height-eq0-clause-fault
-returns-then-height-eq0-clause-fault g t c = height_failed (g.V.Vault.outside c.args.vault.now) _ c.args.sw.now c.in-Some.at _ _ _ (the_node c.args.sw.now c.args.root c.in-Some.at c.in-Some.is c.requires.root) (c.height-height.ensures.word c.in-Some.at c.in-Some.is) c.then-height-eq0.either c.damaged.ensures
+returns-then-height-eq0-clause-fault g t c = height_tested (g.V.Vault.outside c.args.vault.now) _ c.args.sw.now c.in-Some.at _ _ _ (the_node c.args.sw.now c.args.root c.in-Some.at c.in-Some.is c.requires.root) (c.height-height.ensures.word c.in-Some.at refl) c.then-height-eq0.either c.damaged.ensures
 
 pub returns-in-Err-open_right-clause-fault : goal.returns-in-Err-open_right-clause-fault
 returns-in-Err-open_right-clause-fault g t c = node_fault_back (g.V.Vault.outside c.args.vault.now) (g.V.Vault.outside c.open_node.new.vault) _ _ c.in-Err-open_right.fault c.in-Ok.ensures.grows.leaves c.in-Err-open_right.ensures.fault

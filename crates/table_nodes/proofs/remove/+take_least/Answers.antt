@@ -12,7 +12,7 @@ use Rattle.table_nodes.proofs.Putting.{no_root, tree_left}
 use Rattle.table_nodes.proofs.Removal.{least_here, least_sides, least_known, least_above}
 use Rattle.table_nodes.proofs.Sparing.{spares_then, spares_touched}
 use Rattle.table_nodes.proofs.WingLaws.{wing_held_kept}
-use Rattle.table_nodes.proofs.FaultLaws.{node_fault_back, height_failed}
+use Rattle.table_nodes.proofs.FaultLaws.{node_fault_back, height_tested}
 use Rattle.table_nodes.proofs.remove.+take_least.Goals as goal
 
 pub returns-then-height-eq0-clause-taken : goal.returns-then-height-eq0-clause-taken
@@ -144,7 +144,7 @@ pub balance-root-requires-clause-wing : goal.balance-root-requires-clause-wing
 balance-root-requires-clause-wing g t c = wing_held_kept c.open_right.new.sw c.take_least.new.sw c.in-Ok-take_least.ensures.held.nodes c.in-Ok-open_right.ready.wing c.in-Ok-open_right.ensures.held
 
 pub returns-then-height-eq0-clause-fault : goal.returns-then-height-eq0-clause-fault
-returns-then-height-eq0-clause-fault g t c = height_failed (g.V.Vault.outside c.args.vault.now) _ c.args.sw.now c.args.at _ _ _ c.requires.node (c.height-height.ensures.word c.args.at refl) c.then-height-eq0.either c.damaged.ensures
+returns-then-height-eq0-clause-fault g t c = height_tested (g.V.Vault.outside c.args.vault.now) _ c.args.sw.now c.args.at _ _ _ c.requires.node (c.height-height.ensures.word c.args.at refl) c.then-height-eq0.either c.damaged.ensures
 
 pub returns-in-Err-open_right-clause-fault : goal.returns-in-Err-open_right-clause-fault
 returns-in-Err-open_right-clause-fault g t c = node_fault_back (g.V.Vault.outside c.args.vault.now) (g.V.Vault.outside c.open_sides.new.vault) _ _ c.in-Err-open_right.fault c.in-Ok.ensures.grows.leaves c.in-Err-open_right.ensures.fault

@@ -5,7 +5,7 @@ use Rattle.avl_trees.proofs.Standing.{stands_grown}
 use Rattle.table_nodes.specs.Sought.{kind_of}
 use Rattle.table_nodes.specs.Steps.{place, rows_of}
 use Rattle.table_nodes.proofs.NodeLaws.{fetch_back}
-use Rattle.table_nodes.proofs.StepLaws.{is_side}
+use Rattle.table_nodes.proofs.StepLaws.{is_side, touches_then}
 use Rattle.heap_places.proofs.of_swizzle.TouchLaws.{keeps-trans}
 use Rattle.table_nodes.proofs.BringLaws.{brings_touched}
 use Rattle.table_nodes.proofs.FaultLaws.{node_fault_back}
@@ -84,3 +84,10 @@ returns-in-Ok-side-clause-down g c = (c.in-Ok-side.ensures.held, span_kept c.pla
 
 pub returns-in-Ok-side-2-clause-down : goal.returns-in-Ok-side-2-clause-down
 returns-in-Ok-side-2-clause-down g c = (c.in-Ok-side-2.ensures.held, span_kept c.place_key.new.sw c.side-in-Greater.new.sw c.in-Ok.placed.span c.in-Ok-side-2.ensures.keeps c.in-Ok.ensures.span)
+
+pub returns-in-Ok-side-clause-grows : goal.returns-in-Ok-side-clause-grows
+returns-in-Ok-side-clause-grows g c = touches_then (place c.args.sw.now (g.V.Vault.outside c.args.vault.now)) (place c.place_key.new.sw (g.V.Vault.outside c.place_key.new.vault)) (place c.side.new.sw (g.V.Vault.outside c.side.new.vault)) c.in-Ok.ensures.grows c.in-Ok-side.ensures.grows
+
+pub returns-in-Ok-side-2-clause-grows : goal.returns-in-Ok-side-2-clause-grows
+returns-in-Ok-side-2-clause-grows g c =
+    touches_then (place c.args.sw.now (g.V.Vault.outside c.args.vault.now)) (place c.place_key.new.sw (g.V.Vault.outside c.place_key.new.vault)) (place c.side-in-Greater.new.sw (g.V.Vault.outside c.side-in-Greater.new.vault)) c.in-Ok.ensures.grows c.in-Ok-side-2.ensures.grows

@@ -1,4 +1,4 @@
-use Rattle.std.proofs.Common.{◌∙◌, ◌-◌, Option, Ok, Err, ℕ, subst, arith}
+use Rattle.std.proofs.Common.{◌∙◌, ◌-◌, Option, Ok, Err, ℕ, subst, arith, refl}
 use Rattle.heap_places.proofs.of_swizzle.TouchLaws.{keeps-trans}
 use Rattle.table_nodes.specs.Sought.{kind_of, key_in}
 use Rattle.table_nodes.specs.Steps.{place}
@@ -12,7 +12,7 @@ use Rattle.table_nodes.proofs.SoughtLaws.{key_held_kept, key_in_kept}
 use Rattle.table_nodes.proofs.SpanLaws.{value_found}
 use Rattle.table_nodes.proofs.StepLaws.{touches_then}
 use Rattle.table_nodes.proofs.Seeking.{looked_none, looked_found, Sought, at_node, sought_none, height_read, sought_found, sought_down}
-use Rattle.table_nodes.proofs.FaultLaws.{node_fault_back, height_failed, the_node}
+use Rattle.table_nodes.proofs.FaultLaws.{node_fault_back, height_tested, the_node}
 use Rattle.table_nodes.proofs.search.lookup.Goals as goal
 
 pub returns-then-height-eq0-clause-found : goal.returns-then-height-eq0-clause-found
@@ -148,7 +148,7 @@ returns-in-Err-clause-still g c = keeps-trans _ _ _ c.loop-at.invariant.keeps c.
 
 pub returns-then-height-eq0-clause-fault : goal.returns-then-height-eq0-clause-fault
 returns-then-height-eq0-clause-fault g c =
-    height_failed (g.V.Vault.outside c.args.vault.now) _ c.loop-at.sw c.in-Some.node _ _ _ (the_node c.loop-at.sw c.loop-at.at c.in-Some.node c.in-Some.is c.loop-at.invariant.node) (c.height-height.ensures.word c.in-Some.node c.in-Some.is) c.then-height-eq0.either c.damaged.ensures
+    height_tested (g.V.Vault.outside c.args.vault.now) _ c.loop-at.sw c.in-Some.node _ _ _ (the_node c.loop-at.sw c.loop-at.at c.in-Some.node c.in-Some.is c.loop-at.invariant.node) (c.height-height.ensures.word c.in-Some.node refl) c.then-height-eq0.either c.damaged.ensures
 
 pub returns-in-Err-clause-fault : goal.returns-in-Err-clause-fault
 returns-in-Err-clause-fault g c = node_fault_back (g.V.Vault.outside c.args.vault.now) (g.V.Vault.outside c.loop-at.vault) _ _ c.in-Err.fault c.loop-at.invariant.grows.leaves c.in-Err.ensures.fault
