@@ -1,19 +1,17 @@
 -- Why a call on nodes failed, one step after another.
-use Rattle.std.proofs.Common.{◌≡◌, ◌⊎◌, ℕ, ◌+◌, ◌≤◌, ◌<◌, Option, Some, Result, Err, IfSome, refl, sym, subst, inl, inr}
-use Rattle.heap_places.specs.ps_outside.Outside.{Outside, SameContents}
+use Rattle.std.proofs.Common.{◌≡◌, ◌⊎◌, ℕ, ◌+◌, ◌≤◌, ◌<◌, Option, Some, Err, IfSome, refl, sym, subst, inl, inr}
+use Rattle.heap_places.specs.ps_outside.Outside.{Outside}
 use Rattle.heap_places.specs.obj_layout.Stored.{Space}
-use Rattle.heap_places.specs.obj_layout.declared.reference.Reference.{Reference}
 use Rattle.heap_places.specs.obj_layout.declared.vault.VaultFault.TheVariants.{Damaged}
 use Rattle.heap_places.specs.swizzle.declared.fault.SwizzleFault.{SwizzleFault}
 use Rattle.heap_places.specs.swizzle.declared.fault.SwizzleFault.TheVariants.{AreaFull, Vault}
 use Rattle.heap_places.specs.swizzle.Heap.{Heap, IsFull, IsHeld, header_at, num_at, ref_at, top_of}
 use Rattle.heap_places.specs.swizzle.Reading.{FailsReading, LeavesOutside}
 use Rattle.heap_places.specs.swizzle.Touch.{IsTouchCall, IsTouchFault}
-use Rattle.heap_places.proofs.of_swizzle.DamageLaws.{passes-same, reports-same}
 use Rattle.heap_places.proofs.of_swizzle.ReadingLaws.{fails-touch, leaves-then}
 use Rattle.heap_places.proofs.of_swizzle.TouchLaws.{rose_more}
-use Rattle.table_nodes.specs.Faults.{IsMisfit, IsNodeFault, IsChangeFault, unfetched, misfit, wrong_height}
-use Rattle.table_nodes.specs.Nodes.{IsNode, IsFetchFault}
+use Rattle.table_nodes.specs.Faults.{IsNodeFault, IsChangeFault, unfetched, misfit, wrong_height}
+use Rattle.table_nodes.specs.Nodes.{IsNode}
 use Rattle.table_nodes.proofs.NodeLaws.{touch_back}
 
 -- A reading that failed after the outside was left as it was.

@@ -1,5 +1,5 @@
 -- A pair is put into the tree of a node.
-use Rattle.std.proofs.Common.{true, false, ◌≡◌, ◌≢◌, ℕ, ◌+◌, ◌<◌, ◌∷◌, ◌++◌, Option, Some, None, Result, Ok, Err, MatchResult, refl, sym, ap, ◌∙◌, subst, arith, inl, inr}
+use Rattle.std.proofs.Common.{true, false, ◌≡◌, ◌≢◌, ℕ, ◌+◌, ◌<◌, ◌∷◌, Option, Some, None, Result, Ok, Err, MatchResult, refl, sym, ap, ◌∙◌, subst, arith, inl, inr}
 use Rattle.std.specs.declared.cmp.Ordering.TheVariants.{Less, Equal, Greater}
 use Rattle.heap_places.specs.ps_outside.Outside.{Outside, SameContents}
 use Rattle.heap_places.specs.obj_layout.Stored.{Space}
@@ -12,8 +12,8 @@ use Rattle.heap_places.specs.swizzle.Joint.{name_at}
 use Rattle.heap_places.specs.swizzle.Reading.{joint}
 use Rattle.heap_places.proofs.of_swizzle.JointLaws.{name-fresh}
 use Rattle.heap_places.proofs.of_swizzle.NameLaws.{name_at-injective}
-use Rattle.avl_trees.specs.Trees.{Tree, leaf, node, height, items, insert, lookup, balance}
-use Rattle.avl_trees.specs.Standing.{Stands, Given, under, root_of, row_of, put, fresh_item, seek, IsWritten}
+use Rattle.avl_trees.specs.Trees.{Tree, leaf, node, height, items, insert, lookup}
+use Rattle.avl_trees.specs.Standing.{Stands, under, root_of, row_of, put, fresh_item, seek, IsWritten}
 use Rattle.avl_trees.proofs.Leaning.{insert_leans, grew_left, grew_right}
 use Rattle.avl_trees.proofs.Ordered.{around, all_front, all_back}
 use Rattle.avl_trees.proofs.Standing.{stands_grown}
@@ -21,10 +21,9 @@ use Rattle.avl_trees.proofs.Turning.{touched}
 use Rattle.avl_trees.proofs.Entering.{apart_left, apart_right, left_given, left_entered, right_given, right_entered, entered_here, entered_leaf, entered_grown, entered_here_is, entered_left_is, entered_right_is}
 use Rattle.table_nodes.specs.Keys.{Keys, KeyOf, order_by}
 use Rattle.table_nodes.specs.Nodes.{IsNamed, IsLinked}
-use Rattle.table_nodes.specs.Steps.{I, Place, place, IsPlace, rows_of, AreSides, StandsAt, Holds, Touches}
+use Rattle.table_nodes.specs.Steps.{I, Place, place, IsPlace, rows_of, AreSides, Holds, Touches}
 use Rattle.table_nodes.specs.Turning.{Balances}
 use Rattle.table_nodes.specs.Wings.{AreEnds, IsLeftWing, IsRightWing}
-use Rattle.table_nodes.specs.declared.sides.Sides.{Sides}
 use Rattle.table_nodes.specs.declared.wing.Wing.{Wing}
 use Rattle.table_nodes.specs.Searching.{HasValue, IsTree}
 use Rattle.table_nodes.specs.Entering.{Makes, Puts, with_value, IsOpened, Enters, EntersAt, IsEnterFault, IsCountedAt, is_missing, IsNoRoom}

@@ -12,12 +12,12 @@ use Rattle.heap_places.proofs.of_swizzle.ReadingLaws.{leaves-none, leaves-then}
 use Rattle.avl_trees.specs.Trees.{Tree, leaf, node, height}
 use Rattle.avl_trees.specs.Standing.{Item, root_of, row_of, Stands, IsApart, IsOne, IsWritten}
 use Rattle.avl_trees.proofs.Ordered.{all_front, all_back}
-use Rattle.avl_trees.proofs.Turning.{set_between, touched}
+use Rattle.avl_trees.proofs.Turning.{set_between}
 use Rattle.table_nodes.specs.Keys.{Keys, order_by}
 use Rattle.table_nodes.specs.Nodes.{Seat, IsSeat, IsNamed, IsLinked, IsSide, Links, with_sides}
 use Rattle.table_nodes.specs.Steps.{I, Place, place, rows_of, IsPlace, AreSides, SetsSides, Holds as Keeps, Touches}
 use Rattle.table_nodes.proofs.KeyLaws.{total}
-use Rattle.table_nodes.proofs.NodeLaws.{seat_one, joint_one, single_kept, fetch_back}
+use Rattle.table_nodes.proofs.NodeLaws.{seat_one, joint_one, single_kept}
 
 pub one : (ks : Keys) (p : Place) → IsPlace p → IsOne (rows_of ks p)
 one ks p h n a b k l =

@@ -1,5 +1,4 @@
 use Rattle.std.proofs.Common.{◌*◌, IfSome, Ok, Err, refl, sym, ◌∙◌, subst, arith, inl, inr}
-use Rattle.heap_places.specs.swizzle.Heap.{Heap}
 use Rattle.heap_places.specs.swizzle.Touch.{Keeps}
 use Rattle.heap_places.proofs.of_swizzle.TouchLaws.{keeps-refl, keeps-trans}
 use Rattle.table_nodes.specs.Nodes.{IsNode}

@@ -1,11 +1,9 @@
-use Rattle.std.proofs.Common.{ℕ, ◌+◌, ◌*◌, ◌-◌, Option, Some, arith, subst, inr}
+use Rattle.std.proofs.Common.{ℕ, Option, Some, arith, subst, inr}
 use Rattle.avl_trees.specs.Trees.{leaf, node}
 use Rattle.avl_trees.proofs.Standing.{stands_grown}
 use Rattle.heap_places.proofs.of_swizzle.TouchLaws.{keeps-refl, keeps-trans}
 use Rattle.table_nodes.specs.Nodes.{IsLinked}
 use Rattle.table_nodes.specs.Steps.{place, rows_of}
-use Rattle.table_nodes.specs.Wings.{IsLeftWing, IsRightWing}
-use Rattle.table_nodes.specs.declared.wing.Wing.{Wing}
 use Rattle.table_nodes.proofs.BringLaws.{brings_more, brings_none, brings_touched}
 use Rattle.table_nodes.proofs.NodeLaws.{fetch_back}
 use Rattle.table_nodes.proofs.Putting.{root_named, no_root}
