@@ -58,7 +58,8 @@ fn compare_keys(sw: &Swizzle, key: Key, other: Key) -> Ordering
     match (key, other) {
         (Key::Int(a), Key::Int(b)) => a.cmp(&b),
         (Key::Text(a), Key::Text(b)) => compare(sw, a, b),
-        _ => Ordering::Equal,
+        (Key::Int(_), Key::Text(_)) => Ordering::Equal,
+        (Key::Text(_), Key::Int(_)) => Ordering::Equal,
     }
 }
 
@@ -83,7 +84,7 @@ fn check_side(
 ) -> Result<(), SwizzleFault>
     requires own { HasKey sw.now at own }
     requires edge { IfSome edge (IsKeyHeld sw.now) }
-    ensures fault { IfErr result (IsOutside sw.now at own edge wanted) }
+    ensures { IfErr result (IsOutside sw.now at own edge wanted) }
 {
     let Some(edge) = edge else {
         return Ok(());
@@ -124,7 +125,11 @@ fn narrowed(order: Ordering, own: Key, span: Span) -> Span
             low: span.low,
             high: Some(own),
         },
-        Ordering::Equal | Ordering::Greater => Span {
+        Ordering::Equal => Span {
+            low: Some(own),
+            high: span.high,
+        },
+        Ordering::Greater => Span {
             low: Some(own),
             high: span.high,
         },
