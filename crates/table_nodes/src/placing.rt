@@ -50,6 +50,7 @@ fn key_of<V: Vault>(
 }
 
 // How two keys of one kind stand to each other.
+#[inline]
 fn compare_keys(sw: &Swizzle, key: Key, other: Key) -> Ordering
     requires key { IsKeyHeld sw.now key }
     requires other { IsKeyHeld sw.now other }
@@ -75,6 +76,7 @@ fn number_of(sw: &Swizzle, key: Key) -> u64
 }
 
 // The key of a node is to be below that of a node above it, or above it, as `wanted` says.
+#[inline]
 fn check_side(
     sw: &Swizzle,
     at: u32,
@@ -97,6 +99,7 @@ fn check_side(
 
 // Whether a node's key lies in the span, on the side that the search doesn't take: below the higher end, where the sought key is below it, else above the
 // lower end. On the other side it does, since the sought key does.
+#[inline]
 fn check_span(
     sw: &Swizzle,
     at: u32,
@@ -117,6 +120,7 @@ fn check_span(
 }
 
 // The span on the side that the search takes.
+#[inline]
 fn narrowed(order: Ordering, own: Key, span: Span) -> Span
     ensures { result ≡ narrow order own span }
 {
