@@ -6,6 +6,7 @@ use Rattle.table_lib.proofs.EnterLaws.{enters_refused, enters_done}
 use Rattle.table_nodes.proofs.BringLaws.{brings_none}
 use Rattle.table_nodes.proofs.of_heap_places.of_swizzle.TouchLaws.{keeps-refl}
 use Rattle.table_lib.proofs.FaultLaws.{not_opened, opened_failed}
+use Rattle.table_nodes.specs.Faults.{IsChangeFault}
 use Rattle.table_lib.proofs.enter.enter_key.Goals as goal
 
 pub returns-in-Err-clause-entered : goal.returns-in-Err-clause-entered
@@ -35,4 +36,4 @@ pub returns-in-Err-clause-fault : goal.returns-in-Err-clause-fault
 returns-in-Err-clause-fault g c = not_opened _ _ c.args.table c.in-Err.fault c.in-Err.ensures.fault
 
 pub returns-in-Err-enter_opened-clause-fault : goal.returns-in-Err-enter_opened-clause-fault
-returns-in-Err-enter_opened-clause-fault g c = opened_failed _ _ c.args.table c.in-Ok.opened.at c.in-Err-enter_opened.fault c.in-Ok.ensures.opens.at_is c.in-Err-enter_opened.ensures.fault
+returns-in-Err-enter_opened-clause-fault g c = opened_failed (IsChangeFault (g.V.Vault.outside c.args.vault.now) (g.V.Vault.outside c.enter_opened.new.vault) c.enter_opened.new.sw) _ c.args.table c.in-Ok.opened.at c.in-Err-enter_opened.fault c.in-Ok.ensures.opens.at_is c.in-Err-enter_opened.ensures.fault

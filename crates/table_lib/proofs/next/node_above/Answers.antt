@@ -21,6 +21,7 @@ use Rattle.table_nodes.proofs.BringLaws.{brings_more, brings_none, brings_touche
 use Rattle.table_lib.proofs.RootLaws.{one_table}
 use Rattle.table_lib.proofs.FaultLaws.{not_opened, opened_failed}
 use Rattle.table_nodes.proofs.FaultLaws.{node_fault_back}
+use Rattle.table_nodes.specs.Faults.{IsNodeFault}
 use Rattle.table_lib.proofs.next.node_above.Goals as goal
 
 pub returns-in-Err-clause-found : goal.returns-in-Err-clause-found
@@ -95,7 +96,7 @@ pub returns-in-Err-clause-fault : goal.returns-in-Err-clause-fault
 returns-in-Err-clause-fault g c = not_opened _ _ c.args.table c.in-Err.fault c.in-Err.ensures.fault
 
 pub returns-in-Err-counted_root-clause-fault : goal.returns-in-Err-counted_root-clause-fault
-returns-in-Err-counted_root-clause-fault g c = opened_failed _ _ c.args.table c.in-Ok.opened.at c.in-Err-counted_root.fault c.in-Ok.ensures.opens.at_is c.in-Err-counted_root.ensures.fault
+returns-in-Err-counted_root-clause-fault g c = opened_failed (IsNodeFault (g.V.Vault.outside c.args.vault.now) (g.V.Vault.outside c.counted_root.new.vault) c.counted_root.new.sw) _ c.args.table c.in-Ok.opened.at c.in-Err-counted_root.fault c.in-Ok.ensures.opens.at_is c.in-Err-counted_root.ensures.fault
 
 pub returns-in-Err-next-clause-fault : goal.returns-in-Err-next-clause-fault
 returns-in-Err-next-clause-fault g c = inr (node_fault_back (g.V.Vault.outside c.args.vault.now) (g.V.Vault.outside c.counted_root.new.vault) _ _ c.in-Err-next.fault c.in-Ok-counted_root.ensures.grows.leaves c.in-Err-next.ensures.fault)
