@@ -100,4 +100,4 @@ module _ {P : Type 0} (ks : Keys) (is : P → I ks → Type 0) (old m : Place) (
     where
       go : (item : Option (I ks)) → IsNodeOf ks m (Some node) item → IsFetchFault old.outside fault
       go None h = absurd h
-      go (Some a) h = fetch_back old.outside m.outside fault grows.contents (reads a h.0 h.1 h.2)
+      go (Some a) h = fetch_back old.outside m.outside fault grows.leaves.contents (reads a h.0 h.1 h.2)

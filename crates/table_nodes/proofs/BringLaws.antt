@@ -1,5 +1,5 @@
 -- Which nodes come into the area, one step after another.
-use Rattle.std.proofs.Common.{◌≡◌, ◌≢◌, ◌⊎◌, ℕ, ◌+◌, ◌≤◌, List, [], ◌∷◌, ◌++◌, length, Option, Some, None, refl, sym, ap, ◌∙◌, subst, set, slice_set, if◌then◌else◌, true, false, arith, inl, inr}
+use Rattle.std.proofs.Common.{◌≡◌, ◌≢◌, ◌⊎◌, ℕ, ◌+◌, ◌≤◌, List, [], ◌∷◌, ◌++◌, Option, Some, None, refl, sym, ap, ◌∙◌, subst, set, slice_set, if◌then◌else◌, true, false, arith, inl, inr}
 use Rattle.std.proofs.lemmas.List.{length-append}
 use Rattle.heap_places.specs.obj_layout.declared.kind.Kind.TheVariants.{Node}
 use Rattle.heap_places.specs.obj_layout.declared.reference.Reference.{Reference}

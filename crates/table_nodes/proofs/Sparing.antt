@@ -48,7 +48,7 @@ spares_seen old new a b keeps seen same = record {
 }
 
 pub spares_touched : (old new : Heap) (a b : Outside Space) → Keeps old new → Grows old new a b → Spares old new a b
-spares_touched old new a b keeps grows = spares_seen old new a b keeps grows.seen grows.contents
+spares_touched old new a b keeps grows = spares_seen old new a b keeps grows.seen grows.leaves.contents
 
 -- a node was made
 pub spares_made : (ks : Keys) (old new : Heap) (outside : Outside Space) (at : ℕ) (key : KeyOf ks) (value : Reference) → Keeps old new → Makes ks old new outside at key value → Spares old new outside outside

@@ -1,6 +1,6 @@
 -- The nodes of a table's tree: what is seen of one under a name.
 use Rattle.std.specs.Prelude.{◌≡◌, ◌≢◌, ℕ, zero, suc, List, Option, Some, None}
-use Rattle.heap_places.specs.ps_outside.Outside.{Outside, SameContents}
+use Rattle.heap_places.specs.ps_outside.Outside.{Outside}
 use Rattle.heap_places.specs.obj_layout.Stored.{Space, Holds}
 use Rattle.heap_places.specs.obj_layout.declared.kind.Kind.TheVariants.{Node}
 use Rattle.heap_places.specs.obj_layout.declared.reference.Reference.{Reference}
@@ -8,7 +8,7 @@ use Rattle.heap_places.specs.swizzle.declared.fault.SwizzleFault.{SwizzleFault}
 use Rattle.heap_places.specs.swizzle.Heap.{Heap, IsHeap, IsHeld, header_at, ref_at, num_at, reference_to}
 use Rattle.heap_places.specs.swizzle.Joint.{Shown, name_at, name_of}
 use Rattle.heap_places.specs.swizzle.Changes.{Within}
-use Rattle.heap_places.specs.swizzle.Reading.{joint}
+use Rattle.heap_places.specs.swizzle.Reading.{joint, LeavesOutside}
 use Rattle.heap_places.specs.swizzle.Touch.{IsTouchFault}
 use Rattle.avl_trees.specs.Standing.{Row, Rows, IsWritten}
 use Rattle.node_rows.specs.Keys.{Keys, KeyOf}
@@ -40,13 +40,14 @@ IsLinked heap None None = Unit {0}
 IsLinked heap (Some at) (Some n) = IsNamed heap at n
 IsLinked heap _ _ = ⊥
 
--- What a touch leaves: what is seen stays, rows among it, and nodes of the area keep their names.
+-- What touches leave: what is seen stays, rows among it, and nodes of the area keep their names. Nothing is output, what a crash may leave and what the
+-- vault holds stay, and no count sinks.
 pub record Grows (old new : Heap) (before after : Outside Space) : Type 0 where
   pub rows : (ks : Keys) (n : Reference) (row : Seat ks) → rows_in ks old before n row → rows_in ks new after n row
   pub nodes : (at : ℕ) → IsNode old at → IsNode new at
   pub named : (at : ℕ) (n : Reference) → IsNamed old at n → IsNamed new at n
   pub heap : IsHeap new
-  pub contents : SameContents before after
+  pub leaves : LeavesOutside before after
   pub seen : Within (joint old before) (joint new after)
 
 abbrev pub side_of : {K : Type 0} → ℕ → Row Reference K Reference → Option Reference

@@ -9,6 +9,8 @@ use Rattle.node_rows.specs.Nodes.{I}
 use Rattle.table_nodes.specs.Steps.{Place, IsPlace, StayBeside, rows_of}
 use Rattle.table_nodes.specs.Searching.{IsTree}
 use Rattle.table_nodes.specs.Entering.{is_missing}
+use Rattle.table_nodes.specs.Spans.{IsWithin}
+use Rattle.table_nodes.specs.declared.span.Span.{Span}
 use Rattle.table_nodes.specs.declared.remove.Least.{Least}
 use Rattle.table_nodes.specs.declared.remove.Removed.{Removed}
 
@@ -37,10 +39,10 @@ Merges old new left right bound result = (ks : Keys) (at : ℕ) (l : Tree (I ks)
     → MatchResult result (Leaves ks old new (items (node l a r)) (merge l r)) (IsFetchFault old.outside)
 
 -- The tree without the key stands now, or a reference's object couldn't be fetched.
-abbrev pub Removes : (ks : Keys) → Place → Place → Option ℕ → ℕ → KeyOf ks → Result Removed SwizzleFault → Type 0
-Removes ks old new root bound key result = (t : Tree (I ks)) → IsPlace old → IsTree ks old root t → height t < bound
+abbrev pub Removes : (ks : Keys) → Place → Place → Option ℕ → ℕ → KeyOf ks → Span → Result Removed SwizzleFault → Type 0
+Removes ks old new root bound key span result = (t : Tree (I ks)) → IsPlace old → IsTree ks old root t → IsWithin ks old.heap span (items t) → height t < bound
     → MatchResult result (λ removed. Leaves ks old new (items t) (remove (seek (order_by ks) key) t) removed.root) (IsFetchFault old.outside)
 
 -- It is told whether the tree had the key.
-abbrev pub IsGoneAt : (ks : Keys) → Place → Option ℕ → ℕ → KeyOf ks → Result Removed SwizzleFault → Type 0
-IsGoneAt ks old root bound key result = (t : Tree (I ks)) → IsTree ks old root t → height t < bound → IfOk result (λ removed. removed.gone ≢ is_missing (lookup (seek (order_by ks) key) t))
+abbrev pub IsGoneAt : (ks : Keys) → Place → Option ℕ → ℕ → KeyOf ks → Span → Result Removed SwizzleFault → Type 0
+IsGoneAt ks old root bound key span result = (t : Tree (I ks)) → IsTree ks old root t → IsWithin ks old.heap span (items t) → height t < bound → IfOk result (λ removed. removed.gone ≢ is_missing (lookup (seek (order_by ks) key) t))

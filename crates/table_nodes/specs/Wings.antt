@@ -1,7 +1,5 @@
 -- What a turn looks at: the sides of the side that goes up, and those of its own inner side.
-use Rattle.std.specs.Prelude.{◌≡◌, ◌≢◌, ℕ, ◌+◌, ◌-◌, ◌*◌, ◌<◌, Option, Some, None, Result, IfSome, MatchResult}
-use Rattle.heap_places.specs.ps_outside.Outside.{Outside}
-use Rattle.heap_places.specs.obj_layout.Stored.{Space}
+use Rattle.std.specs.Prelude.{ℕ, ◌<◌, Option, Some, None, Result, IfSome, MatchResult}
 use Rattle.heap_places.specs.obj_layout.declared.reference.Reference.{Reference}
 use Rattle.heap_places.specs.swizzle.declared.fault.SwizzleFault.{SwizzleFault}
 use Rattle.heap_places.specs.swizzle.Heap.{Heap}
