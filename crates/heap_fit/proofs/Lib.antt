@@ -8,3 +8,5 @@ pub mod Mentioned
 pub mod MoreInScope
 pub mod KeptDatabases
 pub mod KeptCalls
+pub mod GoodSteps
+pub mod GoodCalls
