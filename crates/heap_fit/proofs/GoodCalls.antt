@@ -1,13 +1,13 @@
 -- Calls of the library keep what a run asks of its databases, and commit fit ones.
-use Rattle.std.proofs.Common.{Bool, true, false, inl, inr, ◌≡◌, ℕ, suc, ◌+◌, ◌<◌, ◌≤◌, pos, List, [], ◌∷◌, ◌++◌, length, set, refl, sym, ap, ◌∙◌, subst, arith, Option, Some, None, if◌then◌else◌}
+use Rattle.std.proofs.Common.{Bool, true, false, ◌≡◌, ℕ, suc, ◌<◌, ◌≤◌, pos, List, [], ◌∷◌, length, refl, sym, ap, ◌∙◌, subst, arith, Option, Some, None, if◌then◌else◌}
 use Rattle.std.specs.Prelude.{codes}
 use Rattle.std.proofs.lemmas.List.{length-append, length-set}
 use Rattle.ps_heap.specs.ps_base.declared.trap.Trap.TheVariants.{Overflow}
 use Rattle.ps_heap.specs.Operators.{is_int}
-use Rattle.ps_heap.specs.Values.{Value, Num, Nil, Pointer, Nothing, word_of}
+use Rattle.ps_heap.specs.Values.{Value, Num, Pointer, Nothing, word_of}
 use Rattle.ps_heap.specs.Texts.{Attempt, Yields, Fails, is_same_text}
 use Rattle.ps_heap.specs.Tables.{Key, string_key, int_key, Table, without_keys, on_yield, looked_up, cardinality}
-use Rattle.ps_heap.specs.Objects.{Object, Keyed, Heap, object_at, table_of, value_at, value_of_object}
+use Rattle.ps_heap.specs.Objects.{Object, Keyed, table_of, value_at, value_of_object}
 use Rattle.ps_heap.specs.References.{value_ids, values_ids, object_ids, next_in}
 use Rattle.ps_heap.specs.Weights.{own_weight, whole_weight}
 use Rattle.ps_heap.specs.Databases.{Numbered, Mode, Reading, Writing, Fault, BusyWriter, StaleStart, create_fault, mode_named, named, Admission, Admits, Refuses, admitted_as, admitted_to, admission, open_for_writing, directory_weight}
@@ -17,13 +17,13 @@ use Rattle.ps_heap.specs.Commit.{Decision, NotWritable, NothingToDo, Saves, deci
 use Rattle.ps_heap.specs.Calls.{Answer, answer_of, then_try, new_table, enter_call, lookup_call, number_answered, cardinality_call, error_record, refused, asks_to_create, asks_to_open, reply_in, replies_after, by_reply, if_replied, created_database, create_unless, create_answer, opened_database, open_by, open_answer, commit_by, commit_call}
 use Rattle.ps_heap.specs.reaching.Reaching.{IsIn}
 use Rattle.ps_heap.specs.Library.{HeapProcedure, CreateDatabase, OpenDatabase, Commit, MakeTable, EnterString, LookUpString, EnterInt, LookUpInt, Cardinality, then_answered, text_argument, heap_call}
-use Rattle.database_meaning.proofs.CallLaws.{ids_of, table-at}
+use Rattle.database_meaning.proofs.CallLaws.{table-at}
 use Rattle.database_meaning.proofs.SameAnswers.{named-root}
 use Rattle.database_meaning.proofs.SameTables.{looked-in}
 use Rattle.heap_fit.specs.Kept.{KeepsDatabases, AreFitCommits}
 use Rattle.heap_fit.proofs.KeptDatabases.{counts-keeps, makes-keeps, touches-keeps, enters-keeps, entered-is, asks_create-keeps, asks_open-keeps}
 use Rattle.heap_fit.proofs.KeptCalls.{creates-keeps, opens-keeps, commits-keeps, saves-fit, root-there}
-use Rattle.heap_fit.proofs.GoodSteps.{Low, low_none, low_one, low_at, OnYields, IsGoodAnswer, commits_append}
+use Rattle.heap_fit.proofs.GoodSteps.{Low, low_none, low_one, low_at, OnYields, IsGoodAnswer}
 
 -- what a call answers, over at least as many objects as before
 record Grown (n : ℕ) (a : Answer) : Type 0 where

@@ -1,7 +1,7 @@
 -- Meanings that keep what a run asks of its databases, and commit fit ones, over values that refer to what is there; and how they combine.
-use Rattle.std.proofs.Common.{Bool, true, false, inl, inr, ◌⊎◌, ◌≡◌, ℕ, zero, suc, ◌+◌, ◌<◌, ◌≤◌, ℤ, pos, negsuc, ◌-ℤ◌, List, [], ◌∷◌, ◌++◌, map, length, set, get_or, refl, sym, ap, ◌∙◌, subst, arith, Option, Some, None, if◌then◌else◌, nat_eq}
+use Rattle.std.proofs.Common.{Bool, true, false, inl, inr, ◌≡◌, ℕ, zero, suc, ◌+◌, ◌<◌, ◌≤◌, ℤ, pos, negsuc, ◌-ℤ◌, List, [], ◌∷◌, ◌++◌, map, length, set, refl, sym, subst, arith, Option, Some, None, if◌then◌else◌, nat_eq}
 use Rattle.std.specs.Prelude.{nat_lt}
-use Rattle.std.proofs.lemmas.Bool.{cases_Bool, ltb-true}
+use Rattle.std.proofs.lemmas.Bool.{ltb-true}
 use Rattle.std.proofs.lemmas.List.{length-append, length-set}
 use Rattle.reaching.proofs.Lists.{in-append, in-front, in-behind}
 use Rattle.ps_heap.specs.text_forms.declared.forms.Form.{Form}
@@ -16,22 +16,22 @@ use Rattle.ps_soundness.specs.ps_program.Node.{BodyNode}
 use Rattle.ps_soundness.specs.ps_typing.Placing.{is_number}
 use Rattle.ps_heap.specs.Operators.{Answer, Gives, Traps}
 use Rattle.ps_heap.specs.Ends.{End}
-use Rattle.ps_heap.specs.Values.{Value, Num, Flag, Text, Nil, Pointer, Vector, Procedure, Nothing, as_written}
+use Rattle.ps_heap.specs.Values.{Value, Num, Flag, Text, Nil, Pointer, Vector, Procedure, Nothing}
 use Rattle.ps_heap.specs.Texts.{Attempt, Yields, Fails, is_same_text}
 use Rattle.ps_heap.specs.Objects.{Heap, Object, Structure, Elements, Scope, Keyed, object_at, value_at, kept_as, is_of, fields_in, field_of, with_field, vector_in, low_in, elements_in, type_in, element_of, place_from, place_of, found_at, put_at, with_element, id_of}
-use Rattle.ps_heap.specs.Scopes.{first_value, new_scope, scope_at, names_in, parent_in, scope_out, name_in, with_name_in, with_name, kept_name}
-use Rattle.ps_heap.specs.References.{values_of, scope_ids, value_ids, values_ids, object_ids, next_in}
+use Rattle.ps_heap.specs.Scopes.{first_value, new_scope, names_in, scope_out, name_in, with_name_in, with_name, kept_name}
+use Rattle.ps_heap.specs.References.{scope_ids, value_ids, values_ids, object_ids, next_in}
 use Rattle.ps_heap.specs.Weights.{own_weight, text_weight, closure_weight}
 use Rattle.ps_heap.specs.Held.{Held, counting, noted, with_object, put_part, assigned_part, touching, reading, denoted, way_out, reading_name, places_with_name, assigned_name, assigning, element_place, place_or_first}
 use Rattle.ps_heap.specs.Held as held
 use Rattle.ps_heap.specs.Calls as calls
 use Rattle.ps_heap.specs.Events.{Event, Out, Turn, Ask, Commit, Finish}
 use Rattle.ps_heap.specs.reaching.Reaching.{IsIn}
-use Rattle.ps_soundness.specs.ps_meaning.Meaning.{Frame, Store, State, Outcome, Value_is, Ends, Meaning, give, stop, after, ◌>>=◌, choose, answer, attempt, with_heap, change, touch, touch_scope, read, assign, put_answer, answered, made, made_text, made_procedure, with_input, put_input, enter, back_in, back_to, scoped, in_scope, in_frame, some_out, emit, in_places, is_width, written, with_turns, turned, take_turn, local_of, frame_with, with_local, get, set as put}
+use Rattle.ps_soundness.specs.ps_meaning.Meaning.{Frame, State, Outcome, Value_is, Ends, Meaning, give, stop, after, ◌>>=◌, choose, answer, attempt, with_heap, change, touch, touch_scope, read, assign, put_answer, answered, made, made_text, made_procedure, with_input, put_input, enter, back_in, back_to, scoped, in_scope, in_frame, some_out, emit, in_places, is_width, written, with_turns, turned, take_turn, frame_with, with_local, get, set as put}
 use Rattle.database_meaning.specs.Sound.{AreThere}
 use Rattle.database_meaning.proofs.KeptLaws.{change-right}
 use Rattle.ps_soundness.proofs.Operators.{same_text_is}
-use Rattle.heap_fit.specs.Kept.{AreFitDatabases, KeepsDatabases, AreFitCommits}
+use Rattle.heap_fit.specs.Kept.{KeepsDatabases, AreFitCommits}
 use Rattle.heap_fit.proofs.KeptDatabases.{keeps-on, makes-keeps, counts-keeps, assigns-keeps, touches-keeps, stay-self}
 
 -- Ids of what is there.

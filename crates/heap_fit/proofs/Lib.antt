@@ -10,3 +10,4 @@ pub mod KeptDatabases
 pub mod KeptCalls
 pub mod GoodSteps
 pub mod GoodCalls
+pub mod GoodRuns
