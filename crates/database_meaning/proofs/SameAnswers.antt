@@ -83,7 +83,7 @@ named-renamed f n (d ∷ ds) name =
     go true = refl
     go false = refl
 
-named-root : (n : ℕ) (ds : Directory) (name : List ℕ) (to : Numbered) → named_from n ds name ≡ Some to → IsIn to.database.root (every_root ds)
+pub named-root : (n : ℕ) (ds : Directory) (name : List ℕ) (to : Numbered) → named_from n ds name ≡ Some to → IsIn to.database.root (every_root ds)
 unfolding every_root
 named-root n [] name to e = absurd (cc)
 named-root n (d ∷ ds) name to e = go (is_same_text d.name name) e (λ is. named-root (suc n) ds name to is)

@@ -92,7 +92,7 @@ looked-renamed f (int_key z) without_keys = refl
 looked-renamed f (int_key z) (by_ints entries) = ap Yields (found-renamed int_cmp f z entries)
 looked-renamed f (int_key z) (by_strings entries) = refl
 
-looked-in : (key : Key) (t : Table) (id : ℕ) → looked_up key t ≡ Yields (Some id) → IsIn id (ids_of t)
+pub looked-in : (key : Key) (t : Table) (id : ℕ) → looked_up key t ≡ Yields (Some id) → IsIn id (ids_of t)
 unfolding looked_up
 looked-in (string_key bytes) without_keys id e = absurd (cc)
 looked-in (string_key bytes) (by_strings entries) id e = found-in order_of (λ x. x) bytes entries id (cc)

@@ -345,7 +345,7 @@ module _ (h : Held) (k : KeepsDatabases h) where
         ]
   ]
 
-  root-there : (ds : Directory) → AllByRecursion (IsFitDatabase h.objects) ds → (root : ℕ) → IsIn root (every_root ds) → root < length h.objects
+  pub root-there : (ds : Directory) → AllByRecursion (IsFitDatabase h.objects) ds → (root : ℕ) → IsIn root (every_root ds) → root < length h.objects
   unfolding every_root
   root-there [] are root l = absurd l
   root-there (d ∷ ds) are root (inl e) = there-object h.objects root (Keyed are.0.table) (ap (object_at h.objects) e ∙ are.0.root)

@@ -131,15 +131,15 @@ assigns-keeps id n v h k low = keeps-on h (assigned_part id n v h) k (assigned-r
 
 -- Entering.
 
-record IsEntered (key : Key) (table v : Value) (h new : Held) : Type 0 where
-  id : ℕ
-  old : Table
-  now : Table
-  before : Option ℕ
-  there : object_at h.objects id ≡ Some (Keyed old)
-  is : new ≡ table_put (Pointer id) key before (object_of_value v) now h
+pub record IsEntered (key : Key) (table v : Value) (h new : Held) : Type 0 where
+  pub id : ℕ
+  pub old : Table
+  pub now : Table
+  pub before : Option ℕ
+  pub there : object_at h.objects id ≡ Some (Keyed old)
+  pub is : new ≡ table_put (Pointer id) key before (object_of_value v) now h
 
-entered-is : (key : Key) (table v : Value) (h new : Held) → enter_call key table v h ≡ Yields new → IsEntered key table v h new
+pub entered-is : (key : Key) (table v : Value) (h new : Held) → enter_call key table v h ≡ Yields new → IsEntered key table v h new
 unfolding enter_call
 entered-is key table v h new e = first (table_of h.objects table) refl e
   where

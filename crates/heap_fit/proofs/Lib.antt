@@ -8,3 +8,6 @@ pub mod Mentioned
 pub mod MoreInScope
 pub mod KeptDatabases
 pub mod KeptCalls
+pub mod GoodSteps
+pub mod GoodCalls
+pub mod GoodRuns

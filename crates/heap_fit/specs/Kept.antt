@@ -1,5 +1,5 @@
 -- What a run keeps of its databases and homes, as a fit heap has them.
-use Rattle.std.specs.Prelude.{◌≡◌, ◌⊎◌, ℕ, ◌<◌, ◌≤◌, List, length, Some}
+use Rattle.std.specs.Prelude.{◌≡◌, ◌⊎◌, ℕ, ◌<◌, ◌≤◌, List, [], ◌∷◌, length, Some}
 use Rattle.std.specs.List.{AllByRecursion}
 use Rattle.ps_heap.specs.ps_base.Limits.{most_databases}
 use Rattle.ps_heap.specs.Values.{Value, Routine}
@@ -11,7 +11,10 @@ use Rattle.ps_heap.specs.Databases.{Directory, database_at, root_of, every_root}
 use Rattle.ps_heap.specs.Held.{Held, Reply, StoredHeap, nothing_stored, home_at, started, counting, with_object, assigned_part, touching}
 use Rattle.ps_heap.specs.Commit.{Saves, decision}
 use Rattle.ps_heap.specs.Calls.{enter_call, asks_to_create, asks_to_open, create_answer, open_answer, commit_call}
+use Rattle.ps_heap.specs.Events.{Event, Commit}
 use Rattle.ps_heap.specs.reaching.Reaching.{IsIn}
+use Rattle.ps_soundness.specs.ps_program.Node.{BodyNode}
+use Rattle.ps_soundness.specs.ps_meaning.Runs.{Given, events_with}
 use Rattle.database_meaning.specs.Same.{IsInHeap}
 use Rattle.database_meaning.specs.Sound.{IsCommitted, AreThere, IsRight}
 use Rattle.database_meaning.specs.Laws.{RefersThere}
@@ -67,3 +70,14 @@ pub record RunsKeepDatabasesFit : Type 0 where
   pub opens : (name password mode : List ℕ) (h : Held) → KeepsDatabases h → KeepsDatabases (open_answer name password mode h).held
   pub commits : (h : Held) → KeepsDatabases h → KeepsDatabases (commit_call h).held
   pub saves : (h : Held) (heap : StoredHeap) → KeepsDatabases h → decision h ≡ Saves heap → AreFitDatabases heap
+
+-- each commit among these events saves a heap with fit databases
+abbrev pub AreFitCommits : List Event → Type 0
+AreFitCommits [] = Unit {0}
+AreFitCommits (Commit heap counted ∷ events) = AreFitDatabases heap × AreFitCommits events
+AreFitCommits (event ∷ events) = AreFitCommits events
+
+-- Each commit of a run over a heap with fit databases, in which each reference is to an object that is there, saves such a heap, whatever body is run.
+abbrev pub CommitsHaveFitDatabases : Type 0
+CommitsHaveFitDatabases = (weigh : Routine → ℕ) (given : Given) (program : BodyNode) → AreFitDatabases given.heap → AreThere given.heap.objects
+    → AreFitCommits (events_with weigh given program)

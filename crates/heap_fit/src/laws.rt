@@ -1,4 +1,4 @@
-ghost use Rattle.heap_fit.specs.Kept.{RunsKeepDatabasesFit};
+ghost use Rattle.heap_fit.specs.Kept.{CommitsHaveFitDatabases, RunsKeepDatabasesFit};
 ghost use Rattle.heap_fit.specs.Laws.{NoOwnParents};
 ghost use Rattle.heap_fit.specs.Going.{BodiesStayFit, LiteralsMakeFitProcedures, MentionedNamesHoldValues};
 ghost use Rattle.heap_fit.specs.Typed.{TypedBodiesAreFit, TypedProgramsAreFit};
@@ -48,4 +48,9 @@ pub fn mentioned_names_hold_values()
 /// From a fit heap on, a run saves heaps whose databases and homes are as a fit heap has them: at most 256 databases with names and passwords within the limits, no name twice, a table as each root, and each reached object there and at home in a database.
 pub fn runs_keep_databases_fit()
     ensures { RunsKeepDatabasesFit }
+{}
+
+/// Each commit of a run over a fit heap, in which each reference is to an object that is there, saves a heap whose databases and homes are as a fit heap has them, whatever body is run.
+pub fn commits_have_fit_databases()
+    ensures { CommitsHaveFitDatabases }
 {}
