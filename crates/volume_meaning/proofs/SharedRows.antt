@@ -23,8 +23,9 @@ use Rattle.volume_meaning.specs.Space.{IsStored, SeenIn}
 use Rattle.volume_meaning.specs.Stands.{AreNamed, IsDirectoryOf, stored, SpaceStands}
 use Rattle.volume_meaning.proofs.Seen.{seen-one}
 use Rattle.volume_meaning.proofs.Cutting.{pid, at, space_with, is-object, Follow, seen-there}
-use Rattle.volume_meaning.proofs.Trees.{node_shown, sides-of, root-among}
-use Rattle.volume_meaning.proofs.TableRows.{table, name, password, table_shown, table-in, ints-in, pair-under}
+use Rattle.heap_meaning.proofs.TreeLaws.{sides-of, root-among, pair-under}
+use Rattle.volume_meaning.proofs.Trees.{node_shown}
+use Rattle.volume_meaning.proofs.TableRows.{table, name, password, table_shown, table-in, ints-in}
 
 -- The words.
 
@@ -132,7 +133,7 @@ a_node_of_two_tables heap s =
     let first = table-in space heap s.names s.stands 1 id (table_shown 2) table-seen refl root.1 in
     let ints = ints-in space pair (Pid 1) (Pid 9) 1 2 first.0 (s.stands.tables.nodes id) table-seen first.1 in
     let tree = ints.has in
-    let sides = sides-of int_keys space 9 (Pid 20) Nil Nil (Pid 31) 5 2 tree.tree upper-seen tree.root_is tree.stands in
+    let sides = sides-of int_keys (SeenIn space) 9 (node_shown (Pid 20) Nil Nil (Pid 31) 5 2) tree.tree (seen-one space) upper-seen tree.root_is tree.stands in
     let below : IsNameAmong (Pid 20) (s.stands.tables.nodes id) =
     subst (IsNameAmong (Pid 20)) (sym tree.nodes_are) (subst (λ (t : Tree (I int_keys)). IsNameAmong (Pid 20) (names_of (items t))) (sym sides.tree_is)
     (left-among sides.l sides.item sides.r (Pid 20) (root-among int_keys sides.l (Pid 20) sides.left_is refl))) in

@@ -29,7 +29,8 @@ use Rattle.volume_meaning.specs.Space.{IsStored, SeenIn}
 use Rattle.volume_meaning.specs.Stands.{IsThing, AreNamed, IsDirectoryOf, stored, StandsUnder, SpaceStands}
 use Rattle.volume_meaning.proofs.Seen.{seen-one}
 use Rattle.volume_meaning.proofs.Cutting.{pid, at, space_with, is-object, Follow, seen-there}
-use Rattle.volume_meaning.proofs.Trees.{node_shown, nil-leaf, sides-of, entries-rise}
+use Rattle.heap_meaning.proofs.TreeLaws.{nil-leaf, sides-of, entries-rise}
+use Rattle.volume_meaning.proofs.Trees.{node_shown}
 
 -- The words.
 
@@ -266,7 +267,7 @@ no-heap count a b c none heap s =
 -- a node without sides has height 1
 height-alone : (at : Space) (n key : ℕ) (t : Tree (I int_keys)) → SeenIn at (Pid n) (shown Nil Nil (alone key)) → link_of (Pid n) ≡ root_of t
     → TreeStands (HasNode int_keys (SeenIn at)) t → height t ≡ 1
-height-alone at n key t there root stands = sym (sides-of int_keys at n Nil Nil Nil (Pid 42) key 1 t there root stands).high_is
+height-alone at n key t there root stands = sym (sides-of int_keys (SeenIn at) n (shown Nil Nil (alone key)) t (seen-one at) there root stands).high_is
 
 -- Another height of the root.
 
@@ -274,7 +275,7 @@ too-high : (pair : Pairing) (of : Table) (nodes : List Reference) → IsTable (S
 too-high pair of nodes is =
     let ints = ints-in (three 3) pair (Pid 1) (Pid 9) 1 3 of nodes (table-seen 3 (five 3) (alone 3) (alone 8)) is in
     let tree = ints.has in
-    let sides = sides-of int_keys (three 3) 9 (Pid 20) (Pid 31) Nil (Pid 42) 5 3 tree.tree (five-seen 3) tree.root_is tree.stands in
+    let sides = sides-of int_keys (SeenIn (three 3)) 9 (shown (Pid 20) (Pid 31) (five 3)) tree.tree (seen-one (three 3)) (five-seen 3) tree.root_is tree.stands in
     let left = height-alone (three 3) 20 3 sides.l (three-seen 3) sides.left_is sides.on_left in
     let right = height-alone (three 3) 31 8 sides.r (eight-seen 3) sides.right_is sides.on_right in
     let high : 3 ≡ height (trees.node sides.l sides.item sides.r) = sides.high_is ∙ ap height sides.tree_is in
@@ -310,9 +311,9 @@ leans : (pair : Pairing) (of : Table) (nodes : List Reference) → IsTable (Seen
 leans pair of nodes is =
     let ints = ints-in leaning pair (Pid 1) (Pid 9) 1 3 of nodes (table-seen 3 upper middle (alone 8)) is in
     let tree = ints.has in
-    let sides = sides-of int_keys leaning 9 Nil (Pid 20) Nil (Pid 42) 3 3 tree.tree first-leans tree.root_is tree.stands in
+    let sides = sides-of int_keys (SeenIn leaning) 9 (shown Nil (Pid 20) upper) tree.tree (seen-one leaning) first-leans tree.root_is tree.stands in
     let left = ap height (nil-leaf int_keys sides.l sides.left_is) in
-    let right = (sides-of int_keys leaning 20 Nil (Pid 31) Nil (Pid 42) 5 2 sides.r second-leans sides.right_is sides.on_right).high_is in
+    let right = (sides-of int_keys (SeenIn leaning) 20 (shown Nil (Pid 31) middle) sides.r (seen-one leaning) second-leans sides.right_is sides.on_right).high_is in
     let balanced = subst IsBalanced sides.tree_is tree.balanced in
     absurd (omega (arith, left, right, balanced.2.0, balanced.2.1))
 
@@ -386,11 +387,3 @@ another_order nodes table =
     let rise = entries-rise int_cmp (SeenIn two) (stored names) (items has.tree) (under (pos 5) ∷ under (negsuc 0) ∷ []) has.rising has.pairs in
     let below = rise.0.0 in
     absurd (cc)
-
--- the value of a node's pair stands for an object
-pub pair-under : (seen : Seen) (pair : Pairing) (before : List (I int_keys)) (a : I int_keys) (behind : List (I int_keys)) (entries : List (Entry ℤ))
-    → ArePairs seen pair (before ++ a ∷ behind) entries → (id : ℕ) × StandsFor seen pair a.entry.value (Pointer id)
-pair-under seen pair [] a behind (e ∷ entries) p = (e.object, p.1)
-pair-under seen pair [] a behind [] p = absurd p
-pair-under seen pair (b ∷ before) a behind (e ∷ entries) p = pair-under seen pair before a behind entries p.2
-pair-under seen pair (b ∷ before) a behind [] p = absurd p

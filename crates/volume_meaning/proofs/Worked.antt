@@ -37,7 +37,8 @@ use Rattle.volume_meaning.specs.Space.{holding, IsStored, SeenIn}
 use Rattle.volume_meaning.specs.Stands.{IsThing, IsHome, Both, AreNamed, IsDirectory, stored, StandsUnder, SpaceStands, Stands}
 use Rattle.volume_meaning.proofs.Seen.{seen-one}
 use Rattle.volume_meaning.proofs.Spelled.{space-held, each-below}
-use Rattle.volume_meaning.proofs.Trees.{node_shown, nil-leaf, sides-of, one-value}
+use Rattle.heap_meaning.proofs.TreeLaws.{nil-leaf, sides-of, one-value}
+use Rattle.volume_meaning.proofs.Trees.{node_shown}
 use Rattle.volume_meaning.proofs.Cutting.{pid, at, space_with, is-object, Follow, cut-of, seen-there, of_text, text-is}
 
 -- The words.
@@ -440,7 +441,7 @@ box-paired home count names s =
     let first : table.root ≡ Pid 28 = cc in
     let has = table.has in
     let root = sym (ap link_of first) ∙ has.root_is in
-    let sides = sides-of text_keys (space home count) 28 Nil Nil (Pid 39) (Pid 45) 0 1 has.tree (node-seen home count) root has.stands in
+    let sides = sides-of text_keys (SeenIn (space home count)) 28 one_node has.tree (seen-one (space home count)) (node-seen home count) root has.stands in
     let pairs = subst (λ (t : Tree (I text_keys)). ArePairs (SeenIn (space home count)) (stored names) (items t) (record { key = codes "k"; object = 1 } ∷ [])) sides.tree_is has.pairs in
     let one = one-value text_keys (SeenIn (space home count)) (stored names) sides.l sides.item sides.r (record { key = codes "k"; object = 1 })
     (nil-leaf text_keys sides.l sides.left_is) (nil-leaf text_keys sides.r sides.right_is) pairs in
