@@ -12,6 +12,7 @@ use Rattle.volume_parts.specs.Layout.{pages_of_words}
 use Rattle.paged_volume.specs.Layout.{capacity_pages}
 use Rattle.volume_parts.specs.Holding.{Held}
 use Rattle.paged_volume.specs.Standing.{seen, staged_in, staged_bytes, held_in}
+use Rattle.paged_volume.specs.Pinning.{pinned_in, KeepsPins}
 use Rattle.paged_volume.specs.Staging.{page_of, with_page, HasPages}
 use Rattle.paged_volume.specs.Staging.{Marks as MarksPage}
 use Rattle.volume_parts.specs.Calls.{Looks}
@@ -253,6 +254,19 @@ pins_same p q same = record { pins = ap (λ (t : Table). t.pins.items) same; lis
 
 pub pins_then : (p q r : Table) → SamePins p q → SamePins q r → SamePins p r
 pins_then p q r first next = record { pins = next.pins ∙ first.pins; lists = next.lists ∙ first.lists; committed = next.committed ∙ first.committed }
+
+-- and what they hold stands
+pub keeps_looks : (p q : Table) (a b : Outside (List ℕ)) → q ≡ p → SameContents a b → KeepsPins p q a b
+keeps_looks p q a b is_q same = record {
+  kept = λ pin held was. record { from = was.from; was = same.kept was.from was.was; by = (λ i. pinned_in (is_q i) pin was.from) ∙ was.by };
+  no_other = λ pin held now. record { from = now.from; was = same.no_other now.from now.was; by = (λ i. pinned_in (sym is_q i) pin now.from) ∙ now.by };
+}
+
+pub keeps_then : (p q r : Table) (a b c : Outside (List ℕ)) → KeepsPins p q a b → KeepsPins q r b c → KeepsPins p r a c
+keeps_then p q r a b c first next = record {
+  kept = λ pin held was. next.kept pin held (first.kept pin held was);
+  no_other = λ pin held now. first.no_other pin held (next.no_other pin held now);
+}
 
 pub stages_then : {X : Type 0} (a b c : Outside X) (m n most : ℕ) → Stages a b m → Stages b c n → m + n ≤ most → Stages a c most
 stages_then a b c m n most first next fits = record {

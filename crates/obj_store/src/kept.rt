@@ -9,6 +9,7 @@ ghost use Rattle.volume_parts.specs.Holding.{Held};
 ghost use Rattle.paged_volume.specs.Layout.{capacity_pages};
 ghost use Rattle.paged_volume.specs.Staging.{page_of, with_page, Stages, Marks};
 ghost use Rattle.paged_volume.specs.Standing.{IsAlive, seen};
+ghost use Rattle.paged_volume.specs.Pinning.{KeepsPins};
 ghost use Rattle.obj_store.specs.Kept.{AreHeld, AreNone, IsThere, kept_page};
 ghost use Rattle.obj_store.specs.Lacking.{IsVolumeFault};
 ghost use Rattle.obj_store.specs.Staging.{SamePins};
@@ -151,6 +152,7 @@ pub fn put_kept<H: Host>(
     ensures committed { volume.new.table.committed ≡ volume.old.table.committed }
     ensures marks { OnOk result (Marks page volume.old.table volume.new.table) }
     ensures pins { SamePins volume.old.table volume.new.table }
+    ensures pinned { OnOk result (KeepsPins volume.old.table volume.new.table (H.outside volume.old.host) (H.outside volume.new.host)) }
     ensures alive { OnOk result (IsAlive volume.new.live volume.new.table (H.outside volume.new.host)) }
     ensures kept { OnOk result (AreHeld kept.new.places.items volume.new.table (H.outside volume.new.host)) }
     ensures fault { IfErr result (IsVolumeFault (H.outside volume.old.host) (H.outside volume.new.host) volume.new.table 1) }

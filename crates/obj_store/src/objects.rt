@@ -11,6 +11,7 @@ ghost use Rattle.paged_volume.specs.Staging.{HasPages};
 ghost use Rattle.obj_layout.specs.Header.{HasFitFields, HasFitLengths, header_fault, header_words, object_length};
 ghost use Rattle.obj_layout.specs.Stored.{length_there, Space, Holds, IsHeaded, of_header, of_length, of_words, damage, appended, overwritten};
 ghost use Rattle.obj_layout.specs.Storing.{Becomes, reading, writing};
+ghost use Rattle.paged_volume.specs.Pinning.{KeepsPins};
 ghost use Rattle.obj_store.specs.Kept.{AreHeld};
 ghost use Rattle.obj_store.specs.Spaces.{IsInOrder, IsUsable, directory_in, spaces, spaces_at};
 ghost use Rattle.obj_store.specs.Tested.{Fits, TellsDamage, HasFour, IsObjectFault, IsOverwriteFault, IsAppendFault, IsObjectHeader, IsWhole, IsDamageAt};
@@ -236,6 +237,7 @@ pub fn append_at<H: Host>(
         (writing (length words.now)) }
     ensures committed { volume.new.table.committed ≡ volume.old.table.committed }
     ensures pins { SamePins volume.old.table volume.new.table }
+    ensures pinned { OnOk result (KeepsPins volume.old.table volume.new.table (H.outside volume.old.host) (H.outside volume.new.host)) }
     ensures order { OnOk result (IsInOrder (used + length words.now) volume.new.table.committed) }
     ensures has { OnOk result (HasPages volume.new.table (pages_of_words (used + length words.now))) }
     ensures alive { OnOk result (IsAlive volume.new.live volume.new.table (H.outside volume.new.host)) }
@@ -279,6 +281,7 @@ pub fn overwrite_at<H: Host>(
         (writing (length words.now)) }
     ensures committed { volume.new.table.committed ≡ volume.old.table.committed }
     ensures pins { SamePins volume.old.table volume.new.table }
+    ensures pinned { OnOk result (KeepsPins volume.old.table volume.new.table (H.outside volume.old.host) (H.outside volume.new.host)) }
     ensures has { OnOk result (HasPages volume.new.table (pages_of_words used)) }
     ensures alive { OnOk result (IsAlive volume.new.live volume.new.table (H.outside volume.new.host)) }
     ensures kept { OnOk result (AreHeld kept.new.places.items volume.new.table (H.outside volume.new.host)) }

@@ -2,7 +2,7 @@
 
 ghost use Rattle.std.specs.Prelude.{◌≡◌, ◌<◌, map, OnOk, OnErr, IfErr};
 ghost use Rattle.volume_parts.specs.Layout.{pages_of_words};
-ghost use Rattle.paged_volume.specs.Pinning.{outdated};
+ghost use Rattle.paged_volume.specs.Pinning.{outdated, KeepsPins};
 ghost use Rattle.paged_volume.specs.Planning.{switched};
 ghost use Rattle.paged_volume.specs.Committing.{HasRoom};
 ghost use Rattle.paged_volume.specs.Standing.{IsAlive};
@@ -38,6 +38,7 @@ pub fn settle_all<H: Host>(
     ensures note { OnOk result ((volume.new.table.committed.note.used ≡ used) × (volume.new.table.committed.note.directory ≡ directory)) }
     ensures blank { OnOk result (volume.new.table.map.staged ≡ volume.new.table.map.committed) }
     ensures outdated { OnOk result (volume.new.table.pins.items ≡ map outdated volume.old.table.pins.items) }
+    ensures pinned { OnOk result (KeepsPins volume.old.table volume.new.table (H.outside volume.old.host) (H.outside volume.new.host)) }
     ensures pins { OnErr result (volume.new.table.pins.items ≡ volume.old.table.pins.items) }
     ensures has { OnOk result (HasPages volume.new.table (pages_of_words used)) }
     ensures alive { OnOk result (IsAlive volume.new.live volume.new.table (H.outside volume.new.host)) }

@@ -7,6 +7,7 @@ ghost use Rattle.volume_parts.specs.Layout.{pages_of_words};
 ghost use Rattle.paged_volume.specs.Layout.{capacity_pages, capacity_of};
 ghost use Rattle.paged_volume.specs.Standing.{IsAlive, seen};
 ghost use Rattle.paged_volume.specs.Staging.{HasPages, Stages};
+ghost use Rattle.paged_volume.specs.Pinning.{KeepsPins};
 ghost use Rattle.obj_store.specs.Kept.{AreHeld};
 ghost use Rattle.obj_store.specs.Words.{HoldsPut};
 ghost use Rattle.obj_store.specs.Staging.{Turns, Marks, LeavesStaged, SamePins};
@@ -50,6 +51,7 @@ fn write_part<H: Host>(
     ensures stages { Stages (seen volume.old.table (H.outside volume.old.host)) (seen volume.new.table (H.outside volume.new.host)) 2 }
     ensures committed { volume.new.table.committed ≡ volume.old.table.committed }
     ensures pins { SamePins volume.old.table volume.new.table }
+    ensures pinned { OnOk result (KeepsPins volume.old.table volume.new.table (H.outside volume.old.host) (H.outside volume.new.host)) }
     ensures marks { OnOk result (Marks page (page + 1) volume.old.table volume.new.table) }
     ensures alive { OnOk result (IsAlive volume.new.live volume.new.table (H.outside volume.new.host)) }
     ensures kept { OnOk result (AreHeld kept.new.places.items volume.new.table (H.outside volume.new.host)) }
@@ -86,6 +88,7 @@ pub fn write_words<H: Host>(
         (length from.now / 256 + 4) }
     ensures committed { volume.new.table.committed ≡ volume.old.table.committed }
     ensures pins { SamePins volume.old.table volume.new.table }
+    ensures pinned { OnOk result (KeepsPins volume.old.table volume.new.table (H.outside volume.old.host) (H.outside volume.new.host)) }
     ensures marks { OnOk result (Marks (at / 512) (pages_of_words (at + length from.now)) volume.old.table volume.new.table) }
     ensures alive { OnOk result (IsAlive volume.new.live volume.new.table (H.outside volume.new.host)) }
     ensures kept { OnOk result (AreHeld kept.new.places.items volume.new.table (H.outside volume.new.host)) }

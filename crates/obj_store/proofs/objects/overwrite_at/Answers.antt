@@ -14,7 +14,7 @@ use Rattle.volume_parts.specs.Layout.{pages_of_words}
 use Rattle.paged_volume.specs.Staging.{HasPages}
 use Rattle.obj_store.specs.StoreLaws.{order_low}
 use Rattle.obj_store.proofs.ChangeLaws.{becomes_of, joins_overwrite}
-use Rattle.obj_store.proofs.WriteLaws.{stages_looks, stages_then, turns_looks, has_kept}
+use Rattle.obj_store.proofs.WriteLaws.{keeps_looks, keeps_then, stages_looks, stages_then, turns_looks, has_kept}
 use Rattle.obj_store.proofs.objects.overwrite_at.Goals as goal
 
 pub returns-in-Ok-clause-becomes : goal.returns-in-Ok-clause-becomes
@@ -93,3 +93,11 @@ returns-in-Err-clause-fault g c =
     subst (IsOverwriteFault (spaces used v.table (o v.host)) (spaces used z.table (o z.host)) z.table c.args.pid wanted) (sym c.vault_fault.ensures)
     (overwrite_refused used v.table z.table (o v.host) (o z.host) c.args.pid wanted _
     (fault_told (o v.host) (o z.host) z.table 1 c.in-Err.fault (fault_then (o v.host) (o w.host) (o z.host) z.table 1 c.in-Err.fault c.object_at.ensures.looks.counts c.in-Err.ensures.fault)))
+
+pub returns-in-Ok-clause-pinned : goal.returns-in-Ok-clause-pinned
+returns-in-Ok-clause-pinned g c =
+    let o = g.H.Host.outside in
+    let v = c.args.volume.now in
+    let w = c.object_at.new.volume in
+    let z = c.write_words.new.volume in
+    keeps_then v.table w.table z.table (o v.host) (o w.host) (o z.host) (keeps_looks v.table w.table (o v.host) (o w.host) c.object_at.ensures.same c.object_at.ensures.looks.same) c.in-Ok.ensures.pinned

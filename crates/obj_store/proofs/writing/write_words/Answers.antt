@@ -4,7 +4,7 @@ use Rattle.paged_volume.specs.Standing.{seen}
 use Rattle.obj_store.specs.Words.{HoldsPut}
 use Rattle.obj_store.specs.StoreLaws.{words_low}
 use Rattle.obj_store.proofs.LackLaws.{fault_then}
-use Rattle.obj_store.proofs.WriteLaws.{pins_then, turns_then, next_put, marks_then, leaves_then, stages_then, calls_fit}
+use Rattle.obj_store.proofs.WriteLaws.{pins_then, keeps_then, turns_then, next_put, marks_then, leaves_then, stages_then, calls_fit}
 use Rattle.obj_store.proofs.writing.write_words.Goals as goal
 
 pub overflow_cast-first : goal.overflow_cast-first
@@ -69,6 +69,7 @@ loop-page-preserved g c =
       past = past_then inv.past c.write_part.ensures.past;
       committed = c.write_part.ensures.committed ∙ inv.committed;
       pins = pins_then v.table w.table z.table inv.pins c.write_part.ensures.pins;
+      pinned = keeps_then v.table w.table z.table (o v.host) (o w.host) (o z.host) inv.pinned c.in-Ok.ensures.pinned;
       marks = marks_then (at / 512) page (page + 1) v.table w.table z.table (omega arith) (omega arith) inv.marks c.in-Ok.ensures.marks;
       unchanged = λ few. leaves_then v.table w.table z.table (o v.host) (o w.host) (o z.host) at (at + length put) (max at (512 * page)) (min (at + length put) (512 * page + 512)) at put (omega arith) (omega arith)
           (inv.unchanged few) (c.in-Ok.ensures.unchanged (omega arith));

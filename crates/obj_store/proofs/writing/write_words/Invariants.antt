@@ -2,6 +2,7 @@ use Rattle.std.proofs.Common.{◌≡◌, ◌+◌, ◌-◌, ◌*◌, ◌≤◌, l
 use Rattle.obj_layout.specs.ps_outside.Past.{KeepsPast}
 use Rattle.paged_volume.specs.Standing.{IsAlive, seen}
 use Rattle.paged_volume.specs.Staging.{Stages}
+use Rattle.paged_volume.specs.Pinning.{KeepsPins}
 use Rattle.obj_store.specs.Kept.{AreHeld}
 use Rattle.obj_store.specs.Words.{HoldsPut}
 use Rattle.obj_store.specs.Staging.{Turns, Marks, LeavesStaged, SamePins}
@@ -21,6 +22,7 @@ invariant-loop-page g l =
       past : KeepsPast (outside v.host) (outside w.host);
       committed : w.table.committed ≡ v.table.committed;
       pins : SamePins v.table w.table;
+      pinned : KeepsPins v.table w.table (outside v.host) (outside w.host);
       marks : Marks l.first l.page v.table w.table;
       alive : IsAlive w.live w.table (outside w.host);
       kept : AreHeld l.kept.places.items w.table (outside w.host);
