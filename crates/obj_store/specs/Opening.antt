@@ -1,9 +1,5 @@
 -- What attaching a store says.
-<<<<<<< HEAD
-use Rattle.std.specs.Prelude.{◌≡◌, ℕ, ◌+◌, ◌≤◌, true, List}
-=======
 use Rattle.std.specs.Prelude.{◌≡◌, ℕ, ◌+◌, ◌≤◌, true, false, List, []}
->>>>>>> 5ad33c1f18ae69d395c4cd7d9f831dc325bb8643
 use Rattle.obj_layout.specs.ps_outside.Outside.{Outside, SettlesFrom, After}
 use Rattle.paged_volume.specs.Standing.{held_in, map_count}
 use Rattle.volume_parts.specs.Calls.{Looks}
@@ -20,11 +16,7 @@ IsSpaceOf bytes space = IsSpaceIn (held_in bytes) space
 -- it holds what is committed, nothing is staged, and there are no pins. The map pages were read once, and eight calls more were made at most.
 pub record IsOpened {H : Type 0} (outside : H → Outside (List ℕ)) (old : Outside (List ℕ)) (store : Store H) : Type 0 where
   pub looks : Looks old (outside store.host) (map_count store.table.committed + 8)
-<<<<<<< HEAD
-  -- and there are no more of them than in the largest volume
-=======
   -- there are no more map pages than in the largest volume
->>>>>>> 5ad33c1f18ae69d395c4cd7d9f831dc325bb8643
   pub few : map_count store.table.committed ≤ 488
   pub settles : SettlesFrom old (outside store.host)
   pub found : (bytes : List ℕ) → old.contents bytes → IsFound store.table.committed bytes
