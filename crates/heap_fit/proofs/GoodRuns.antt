@@ -1,12 +1,7 @@
 -- Each clause keeps what a run asks of its databases, and commits heaps with fit ones: so each commit of a run saves such a heap.
-use Rattle.std.proofs.Common.{◌≡◌, ℕ, zero, suc, ◌+◌, ◌<◌, ◌≤◌, pos, ◌+ℤ◌, ◌-ℤ◌, ℤ, Bool, true, false, List, [], ◌∷◌, length, get_or, Option, Some, None, refl, sym, ap, subst, arith, inl, inr, if◌then◌else◌, replicate}
+use Rattle.std.proofs.Common.{◌≡◌, ℕ, zero, suc, ◌+◌, ◌<◌, ◌≤◌, pos, ◌+ℤ◌, ◌-ℤ◌, ℤ, Bool, true, false, List, [], ◌∷◌, length, get_or, Option, Some, None, refl, sym, ap, ◌∙◌, subst, arith, if◌then◌else◌, replicate}
 use Rattle.std.specs.Prelude.{nat_eq, nat_lt}
-use Rattle.std.specs.Option.{option_map}
-use Rattle.std.specs.Ordering.{int_cmp}
-use Rattle.std.specs.declared.cmp.Ordering.{Ordering}
-use Rattle.std.specs.declared.cmp.Ordering.TheVariants.{Less, Equal, Greater}
 use Rattle.reaching.proofs.Lists.{in-front, in-behind}
-use Rattle.avl_trees.specs.Rising.{pick, above}
 use Rattle.ps_heap.specs.text_forms.declared.forms.Form.{Form}
 use Rattle.ps_heap.specs.text_forms.Forms.{forms_of, element_of}
 use Rattle.ps_heap.specs.ps_base.TyView.{TyView}
@@ -20,15 +15,15 @@ use Rattle.ps_soundness.specs.ps_type_text.Texts.{type_text}
 use Rattle.ps_heap.specs.Operators.{is_same}
 use Rattle.ps_heap.specs.Ends.{Done, OutOfTurns}
 use Rattle.ps_heap.specs.Values.{Flag, Value, Num, Text, Nil, Pointer, Vector, Procedure, Nothing, as_written, Routine, word_of, flag_of}
-use Rattle.ps_heap.specs.Texts.{Attempt, Yields, Fails, order_of, line_read, behind_line}
-use Rattle.ps_heap.specs.Tables.{Key, string_key, int_key, Entry, Table, without_keys, by_strings, by_ints, seek, next_of, next_string, next_int}
+use Rattle.ps_heap.specs.Texts.{Attempt, Yields, Fails, line_read, behind_line}
+use Rattle.ps_heap.specs.Tables.{Key, string_key, int_key, Table}
 use Rattle.ps_heap.specs.Objects.{Heap, Structure, Elements, kept_as, vector_of, filled_vector, count_from, is_made, is_vector, vector_in, type_in, table_of}
-use Rattle.ps_heap.specs.References.{pointers, scope_ids, value_ids, values_ids, object_ids, next_in}
+use Rattle.ps_heap.specs.References.{scope_ids, value_ids, values_ids, object_ids, next_in}
 use Rattle.ps_heap.specs.Weights.{code_weight}
 use Rattle.ps_heap.specs.Events.{Finish}
 use Rattle.ps_heap.specs.Library.{LibraryProcedure, OnHeap, ReadLine, AtEnd, Length, IntText, library_procedure, heap_call}
 use Rattle.ps_heap.specs.Calls.{then_try}
-use Rattle.ps_heap.specs.Scans.{Found, found_of, last_string, last_int, most_scan_calls, next_in_table, next_key, scan_arguments, shown_key}
+use Rattle.ps_heap.specs.Scans.{Found, most_scan_calls, next_in_table, next_key, scan_arguments, shown_key}
 use Rattle.ps_heap.specs.reaching.Reaching.{IsIn}
 use Rattle.ps_soundness.specs.ps_meaning.Meaning.{Outcome, Value_is, Ends, Meaning, stop, ◌>>=◌, made, touch, touch_scope, read, put_input, take_turn, set}
 use Rattle.ps_soundness.specs.ps_meaning.Frames.{stands_on, arguments_on, frame_of_call, keep, keep_all}
