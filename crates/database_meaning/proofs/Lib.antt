@@ -15,3 +15,8 @@ pub mod SameAnswers
 pub mod SamePlaces
 pub mod SameTables
 pub mod SameCalls
+pub mod SameSteps
+pub mod SameMeanings
+pub mod SameOperations
+pub mod ScanLaws
+pub mod SameClauses

@@ -120,7 +120,7 @@ object-twice f g (Some o) = ap Some (twice f g o)
 abbrev pub Agrees : (f g : ℕ → ℕ) → List ℕ → Type 0
 Agrees f g xs = (x : ℕ) → IsIn x xs → f x ≡ g x
 
-option-agrees : (f g : ℕ → ℕ) (o : Option ℕ) → Agrees f g (scope_ids o) → option_map f o ≡ option_map g o
+pub option-agrees : (f g : ℕ → ℕ) (o : Option ℕ) → Agrees f g (scope_ids o) → option_map f o ≡ option_map g o
 option-agrees f g None k = refl
 option-agrees f g (Some x) k = ap Some (k x (inl refl))
 
@@ -134,7 +134,7 @@ value-agrees f g (Vector id) k = ap Vector (k id (inl refl))
 value-agrees f g (Procedure does scope) k = ap (Procedure does) (option-agrees f g scope k)
 value-agrees f g Nothing k = refl
 
-values-agree : (f g : ℕ → ℕ) (vs : List Value) → Agrees f g (values_ids vs) → map (renamed_value f) vs ≡ map (renamed_value g) vs
+pub values-agree : (f g : ℕ → ℕ) (vs : List Value) → Agrees f g (values_ids vs) → map (renamed_value f) vs ≡ map (renamed_value g) vs
 values-agree f g [] k = refl
 values-agree f g (v ∷ vs) k =
     ap (λ w. w ∷ map (renamed_value f) vs) (value-agrees f g v (λ x l. k x (in-front x (value_ids v) (values_ids vs) l)))
@@ -146,7 +146,7 @@ entries-agree f g (entry ∷ entries) k =
     ap (λ id. entry_of entry.key id ∷ map (renamed_entry f) entries) (k entry.object (inl refl))
     ∙ ap (λ es. entry_of entry.key (g entry.object) ∷ es) (entries-agree f g entries (λ x l. k x (inr l)))
 
-agrees : (f g : ℕ → ℕ) (o : Object) → Agrees f g (object_ids (Some o)) → renamed f o ≡ renamed g o
+pub agrees : (f g : ℕ → ℕ) (o : Object) → Agrees f g (object_ids (Some o)) → renamed f o ≡ renamed g o
 agrees f g (Structure class fields) k = ap (Structure class) (values-agree f g fields k)
 agrees f g (Elements ty low elements) k = ap (Elements ty low) (values-agree f g elements k)
 agrees f g (Scope text parent names) k =

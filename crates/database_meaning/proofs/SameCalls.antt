@@ -17,12 +17,12 @@ use Rattle.database_meaning.proofs.SameTables.{lookup-same, cardinality-same, en
 
 -- Arguments with other ids.
 
-argument : (f : ℕ → ℕ) (args : List Value) (n : ℕ) → value_at (map (renamed_value f) args) n ≡ renamed_value f (value_at args n)
+pub argument : (f : ℕ → ℕ) (args : List Value) (n : ℕ) → value_at (map (renamed_value f) args) n ≡ renamed_value f (value_at args n)
 argument f [] n = refl
 argument f (v ∷ vs) zero = refl
 argument f (v ∷ vs) (suc n) = argument f vs n
 
-bytes-renamed : (f : ℕ → ℕ) (v : Value) → bytes_of (renamed_value f v) ≡ bytes_of v
+pub bytes-renamed : (f : ℕ → ℕ) (v : Value) → bytes_of (renamed_value f v) ≡ bytes_of v
 bytes-renamed f (Num z) = refl
 bytes-renamed f (Flag b) = refl
 bytes-renamed f (Text bytes) = refl
@@ -32,7 +32,7 @@ bytes-renamed f (Vector id) = refl
 bytes-renamed f (Procedure does scope) = refl
 bytes-renamed f Nothing = refl
 
-word-renamed : (f : ℕ → ℕ) (v : Value) → word_of (renamed_value f v) ≡ word_of v
+pub word-renamed : (f : ℕ → ℕ) (v : Value) → word_of (renamed_value f v) ≡ word_of v
 word-renamed f (Num z) = refl
 word-renamed f (Flag b) = refl
 word-renamed f (Text bytes) = refl
@@ -42,10 +42,10 @@ word-renamed f (Vector id) = refl
 word-renamed f (Procedure does scope) = refl
 word-renamed f Nothing = refl
 
-text-same : (f : ℕ → ℕ) (args : List Value) (n : ℕ) → text_argument (map (renamed_value f) args) n ≡ text_argument args n
+pub text-same : (f : ℕ → ℕ) (args : List Value) (n : ℕ) → text_argument (map (renamed_value f) args) n ≡ text_argument args n
 text-same f args n = ap bytes_of (argument f args n) ∙ bytes-renamed f (value_at args n)
 
-argument-in : (args : List Value) (n x : ℕ) → IsIn x (value_ids (value_at args n)) → IsIn x (values_ids args)
+pub argument-in : (args : List Value) (n x : ℕ) → IsIn x (value_ids (value_at args n)) → IsIn x (values_ids args)
 argument-in [] n x l = absurd l
 argument-in (v ∷ vs) zero x l = in-front x (value_ids v) (values_ids vs) l
 argument-in (v ∷ vs) (suc n) x l = in-behind x (value_ids v) (values_ids vs) (argument-in vs n x l)

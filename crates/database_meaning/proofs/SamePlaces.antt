@@ -142,7 +142,7 @@ module _ {p : Pairing} {a b : Held} (s : IsSameHeld p a b) where
 
 -- A field, an element or a kept name.
 
-set-map : (f : ℕ → ℕ) (vs : List Value) (n : ℕ) (v : Value) → set (map (renamed_value f) vs) n (renamed_value f v) ≡ map (renamed_value f) (set vs n v)
+pub set-map : (f : ℕ → ℕ) (vs : List Value) (n : ℕ) (v : Value) → set (map (renamed_value f) vs) n (renamed_value f v) ≡ map (renamed_value f) (set vs n v)
 set-map f [] n v = refl
 set-map f (w ∷ ws) zero v = refl
 set-map f (w ∷ ws) (suc n) v = ap (λ xs. renamed_value f w ∷ xs) (set-map f ws n v)

@@ -133,7 +133,7 @@ new-entry-renamed f (Some x) None = refl
 new-entry-renamed f (Some x) (Some id) = refl
 
 module _ {p : Pairing} {a b : Held} (s : IsSameHeld p a b) where
-  table-of-same : (v : Value) → AreAmong (value_ids v) p.ids → table_of b.objects (renamed_value p.new v) ≡ on_yield (table_of a.objects v) (renamed_table p.new)
+  pub table-of-same : (v : Value) → AreAmong (value_ids v) p.ids → table_of b.objects (renamed_value p.new v) ≡ on_yield (table_of a.objects v) (renamed_table p.new)
   unfolding table_of
   table-of-same (Num z) known = refl
   table-of-same (Flag f) known = refl
@@ -145,7 +145,7 @@ module _ {p : Pairing} {a b : Held} (s : IsSameHeld p a b) where
   table-of-same Nothing known = refl
 
   -- what a table has is known where the table is
-  table-known : (v : Value) (t : Table) → AreAmong (value_ids v) p.ids → table_of a.objects v ≡ Yields t → AreAmong (ids_of t) p.ids
+  pub table-known : (v : Value) (t : Table) → AreAmong (value_ids v) p.ids → table_of a.objects v ≡ Yields t → AreAmong (ids_of t) p.ids
   unfolding next_in
   table-known v t known is x l =
       let at = table-at a.objects v t is in

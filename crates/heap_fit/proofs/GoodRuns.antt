@@ -1,12 +1,7 @@
 -- Each clause keeps what a run asks of its databases, and commits heaps with fit ones: so each commit of a run saves such a heap.
-use Rattle.std.proofs.Common.{◌≡◌, ℕ, zero, suc, ◌+◌, ◌<◌, ◌≤◌, pos, ◌+ℤ◌, ◌-ℤ◌, ℤ, Bool, true, false, List, [], ◌∷◌, length, get_or, Option, Some, None, refl, sym, ap, subst, arith, inl, inr, if◌then◌else◌, replicate}
+use Rattle.std.proofs.Common.{◌≡◌, ℕ, zero, suc, ◌+◌, ◌<◌, ◌≤◌, pos, ◌+ℤ◌, ◌-ℤ◌, ℤ, Bool, true, false, List, [], ◌∷◌, length, get_or, Option, Some, None, refl, sym, ap, ◌∙◌, subst, arith, if◌then◌else◌, replicate}
 use Rattle.std.specs.Prelude.{nat_eq, nat_lt}
-use Rattle.std.specs.Option.{option_map}
-use Rattle.std.specs.Ordering.{int_cmp}
-use Rattle.std.specs.declared.cmp.Ordering.{Ordering}
-use Rattle.std.specs.declared.cmp.Ordering.TheVariants.{Less, Equal, Greater}
 use Rattle.reaching.proofs.Lists.{in-front, in-behind}
-use Rattle.avl_trees.specs.Rising.{pick, above}
 use Rattle.ps_heap.specs.text_forms.declared.forms.Form.{Form}
 use Rattle.ps_heap.specs.text_forms.Forms.{forms_of, element_of}
 use Rattle.ps_heap.specs.ps_base.TyView.{TyView}
@@ -20,15 +15,15 @@ use Rattle.ps_soundness.specs.ps_type_text.Texts.{type_text}
 use Rattle.ps_heap.specs.Operators.{is_same}
 use Rattle.ps_heap.specs.Ends.{Done, OutOfTurns}
 use Rattle.ps_heap.specs.Values.{Flag, Value, Num, Text, Nil, Pointer, Vector, Procedure, Nothing, as_written, Routine, word_of, flag_of}
-use Rattle.ps_heap.specs.Texts.{Attempt, Yields, Fails, order_of, line_read, behind_line}
-use Rattle.ps_heap.specs.Tables.{Key, string_key, int_key, Entry, Table, without_keys, by_strings, by_ints, seek, next_of, next_string, next_int}
+use Rattle.ps_heap.specs.Texts.{Attempt, Yields, Fails, line_read, behind_line}
+use Rattle.ps_heap.specs.Tables.{Key, string_key, int_key, Table}
 use Rattle.ps_heap.specs.Objects.{Heap, Structure, Elements, kept_as, vector_of, filled_vector, count_from, is_made, is_vector, vector_in, type_in, table_of}
-use Rattle.ps_heap.specs.References.{pointers, scope_ids, value_ids, values_ids, object_ids, next_in}
+use Rattle.ps_heap.specs.References.{scope_ids, value_ids, values_ids, object_ids, next_in}
 use Rattle.ps_heap.specs.Weights.{code_weight}
 use Rattle.ps_heap.specs.Events.{Finish}
 use Rattle.ps_heap.specs.Library.{LibraryProcedure, OnHeap, ReadLine, AtEnd, Length, IntText, library_procedure, heap_call}
 use Rattle.ps_heap.specs.Calls.{then_try}
-use Rattle.ps_heap.specs.Scans.{Found, found_of, last_string, last_int, most_scan_calls, next_in_table, next_key, scan_arguments, shown_key}
+use Rattle.ps_heap.specs.Scans.{Found, most_scan_calls, next_in_table, next_key, scan_arguments, shown_key}
 use Rattle.ps_heap.specs.reaching.Reaching.{IsIn}
 use Rattle.ps_soundness.specs.ps_meaning.Meaning.{Outcome, Value_is, Ends, Meaning, stop, ◌>>=◌, made, touch, touch_scope, read, put_input, take_turn, set}
 use Rattle.ps_soundness.specs.ps_meaning.Frames.{stands_on, arguments_on, frame_of_call, keep, keep_all}
@@ -38,7 +33,8 @@ use Rattle.ps_soundness.specs.ps_meaning.Evaluation.{Context, most_calls, call_m
 use Rattle.ps_soundness.specs.ps_meaning.Calls.{body_meant, call_within, context}
 use Rattle.ps_soundness.specs.ps_meaning.Runs.{Given, fresh_frame, fresh_state, outcome_with, all_events, events_with}
 use Rattle.database_meaning.specs.Sound.{AreThere}
-use Rattle.database_meaning.proofs.CallLaws.{ids_of, table-at}
+use Rattle.database_meaning.proofs.CallLaws.{table-at}
+use Rattle.database_meaning.proofs.ScanLaws.{next-found}
 use Rattle.heap_fit.specs.Kept.{AreFitDatabases, AreFitCommits}
 use Rattle.heap_fit.proofs.KeptDatabases.{start-keeps}
 use Rattle.heap_fit.proofs.GoodSteps.{Low, low_more, low_none, low_both, low_one, low_kept, IsFrame, size, GoodOutcome, Good, good_more, good_then, good_give, good_stop, good_choose, good_answer, OnYields, good_attempt, yields_any, good_touch, good_touch_scope, good_read, field-low, element-low, good_get, good_put, good_with_heap, good_set_field, good_set_element, good_made, good_made_text, good_made_procedure, commits_append, good_written, good_turn, good_with_input, good_put_input, good_scope, good_in_frame, good_answered}
@@ -221,38 +217,6 @@ good_scan_next scan calls count again h (Some found) low =
     good_choose (nat_eq count most_scan_calls) _ _ (good_stop _)
     (good_scan_call scan (λ k args j lows. calls k args (omega (arith, l, j)) lows) count again (λ k key j. h k key (omega (arith, l, j))) found (omega (arith, low found refl, l))))
 
-above-in : {K : Type 0} (order : K → K → Ordering) (key : K) (entries : List (Entry K)) (entry : Entry K) → above (seek order key) entries ≡ Some entry → IsIn entry.object (values_ids (pointers entries))
-above-in order key [] entry e = absurd (cc)
-above-in order key (first ∷ es) entry e = go (order key first.key) e (λ h. above-in order key es entry h)
-  where
-    go : (r : Ordering) → pick r (Some first) (above (seek order key) es) (above (seek order key) es) ≡ Some entry → (above (seek order key) es ≡ Some entry → IsIn entry.object (values_ids (pointers es)))
-        → IsIn entry.object (values_ids (pointers (first ∷ es)))
-    go Less is rest = let same : entry ≡ first = cc in inl (ap (λ x. x.object) same)
-    go Equal is rest = inr (rest is)
-    go Greater is rest = inr (rest is)
-
-next-in : {K : Type 0} (order : K → K → Ordering) (last : Option K) (entries : List (Entry K)) (entry : Entry K) → next_of order last entries ≡ Some entry → IsIn entry.object (values_ids (pointers entries))
-next-in order None [] entry e = absurd (cc)
-next-in order None (first ∷ es) entry e = let same : entry ≡ first = cc in inl (ap (λ x. x.object) same)
-next-in order (Some key) entries entry e = above-in order key entries entry e
-
--- what is found next is among what the table has
-abbrev FoundIn : List ℕ → Option Found → Type 0
-FoundIn ids found = (it : Found) → found ≡ Some it → IsIn it.object ids
-
-found-entry : {K : Type 0} (key_of : K → Key) (ids : List ℕ) (o : Option (Entry K)) → ((entry : Entry K) → o ≡ Some entry → IsIn entry.object ids) → FoundIn ids (option_map (found_of key_of) o)
-found-entry key_of ids None h it e = absurd (cc)
-found-entry key_of ids (Some entry) h it e = let same : found_of key_of entry ≡ it = cc in subst (λ x. IsIn x ids) (ap (λ x. x.object) same) (h entry refl)
-
-next-found : (strings : Bool) (last : Option Key) (t : Table) → OnYields (FoundIn (ids_of t)) (next_in_table strings last t)
-unfolding next_string next_int
-next-found true last without_keys = found-entry string_key [] (next_of order_of (last_string last) []) (λ entry e. next-in order_of (last_string last) [] entry e)
-next-found true last (by_strings entries) = found-entry string_key (values_ids (pointers entries)) (next_of order_of (last_string last) entries) (λ entry e. next-in order_of (last_string last) entries entry e)
-next-found true last (by_ints entries) = tt
-next-found false last without_keys = found-entry int_key [] (next_of int_cmp (last_int last) []) (λ entry e. next-in int_cmp (last_int last) [] entry e)
-next-found false last (by_ints entries) = found-entry int_key (values_ids (pointers entries)) (next_of int_cmp (last_int last) entries) (λ entry e. next-in int_cmp (last_int last) entries entry e)
-next-found false last (by_strings entries) = tt
-
 abbrev FoundLow : ℕ → Option Found → Type 0
 FoundLow n found = (it : Found) → found ≡ Some it → it.object < n
 
@@ -260,12 +224,13 @@ key-low : (heap : Heap) → AreThere heap → (strings : Bool) (table : Value) (
 unfolding next_key next_in
 key-low heap there strings table last = go (table_of heap table) refl
   where
-    found : (t : Table) (a : Attempt (Option Found)) → table_of heap table ≡ Yields t → OnYields (FoundIn (ids_of t)) a → OnYields (FoundLow (length heap)) a
-    found t (Yields x) is h = λ it e. let at = table-at heap table t is in there at.id it.object (subst (λ o. IsIn it.object (object_ids o)) (sym at.there) (h it e))
-    found t (Fails trap) is h = tt
+    found : (t : Table) (a : Attempt (Option Found)) → table_of heap table ≡ Yields t → next_in_table strings last t ≡ a → OnYields (FoundLow (length heap)) a
+    found t (Yields x) is e = λ it same.
+        let at = table-at heap table t is in there at.id it.object (subst (λ o. IsIn it.object (object_ids o)) (sym at.there) (next-found strings last t it (e ∙ ap Yields same)))
+    found t (Fails trap) is e = tt
 
     go : (a : Attempt Table) → table_of heap table ≡ a → OnYields (FoundLow (length heap)) (then_try a (next_in_table strings last))
-    go (Yields t) is = found t (next_in_table strings last t) is (next-found strings last t)
+    go (Yields t) is = found t (next_in_table strings last t) is refl
     go (Fails trap) is = tt
 
 good_scan : {least : ℕ} (n : ℕ) (scan : Scanning) → ScanGood least scan → (last : Option Key) (count : ℕ) → Good least (scan_turns n scan last count)

@@ -1,5 +1,5 @@
 -- A node's key, read and compared.
-use Rattle.std.proofs.Common.{w32, to_z, of_z, arith, true, ◌≡◌, ℕ, ◌*◌, ◌-◌, ◌^◌, ℤ, pos, None, Some, Ok, Err, Result, refl, sym, ap, ◌∙◌, subst, take, drop, inl, inr}
+use Rattle.std.proofs.Common.{w32, to_z, of_z, arith, true, ◌≡◌, ℕ, ◌*◌, ◌-◌, ◌^◌, ℤ, pos, None, Some, Ok, Result, refl, sym, ap, ◌∙◌, subst, take, drop, inl, inr}
 use Rattle.heap_places.specs.ps_outside.Outside.{Outside}
 use Rattle.heap_places.specs.obj_area.Words.{bytes_of}
 use Rattle.heap_places.specs.obj_layout.Stored.{Space, Holds}
@@ -30,7 +30,7 @@ use Rattle.std.proofs.lemmas.Int.{to_z-of_z}
 use Rattle.heap_places.specs.ps_heap.Operators.{is_int}
 use Rattle.heap_places.proofs.WordLaws.{int-low, int-mid, int-high}
 use Rattle.heap_places.specs.swizzle.declared.fault.SwizzleFault.{SwizzleFault}
-use Rattle.table_nodes.specs.Sought.{key_in, IsKeyHeld, IsTextHeld, ReadsInt, ReadsText}
+use Rattle.table_nodes.specs.Sought.{key_in, IsKeyHeld}
 use Rattle.table_nodes.proofs.NodeLaws.{seen_held, seat_at}
 
 pub bytes_shown : (heap : Heap) (text : ℕ) → (header_at heap text).kind ≡ TextKind → shown_text (shown_at heap text) ≡ text_at heap text

@@ -12,7 +12,7 @@ use Rattle.table_nodes.specs.declared.keys.Key.{Key}
 use Rattle.table_nodes.specs.declared.keys.Key.TheVariants.{Int, Text}
 use Rattle.table_nodes.specs.declared.keys.KeyKind.{KeyKind}
 use Rattle.table_nodes.specs.declared.keys.KeyKind.TheVariants.{Ints, Texts}
-use Rattle.node_rows.specs.Keys.{Keys, by_ints, by_texts, KeyOf, order_by}
+use Rattle.node_rows.specs.Keys.{Keys, by_ints, by_texts, KeyOf}
 use Rattle.node_rows.specs.Nodes.{Seat}
 use Rattle.table_nodes.specs.Nodes.{IsNamed, IsFetchFault, rows_in}
 

@@ -1,5 +1,5 @@
 -- Keys that rise on the way down: those of a part of a tree lie between the keys of two nodes above it, where there are such nodes.
-use Rattle.std.specs.Prelude.{◌≡◌, ◌≢◌, ℕ, Option, Some, None, List, IfSome, Result, MatchResult}
+use Rattle.std.specs.Prelude.{◌≡◌, ◌≢◌, ℕ, Option, Some, List, IfSome, Result, MatchResult}
 use Rattle.std.specs.List.{AllByRecursion}
 use Rattle.std.specs.Ordering.{int_cmp}
 use Rattle.std.specs.declared.cmp.Ordering.{Ordering}
@@ -22,7 +22,7 @@ use Rattle.table_nodes.specs.declared.span.Span.{Span}
 use Rattle.table_nodes.specs.declared.placing.Placed.{Placed}
 use Rattle.node_rows.specs.Keys.{Keys, by_ints, by_texts, KeyOf, order_by}
 use Rattle.node_rows.specs.Nodes.{Seat, I}
-use Rattle.table_nodes.specs.Nodes.{IsNode, IsNamed, IsFetchFault, rows_in}
+use Rattle.table_nodes.specs.Nodes.{IsNode, IsNamed, IsFetchFault}
 use Rattle.table_nodes.specs.Sought.{IsKeyHeld}
 use Rattle.table_nodes.specs.Steps.{Place, rows_of}
 

@@ -1,12 +1,12 @@
 use Rattle.std.proofs.Common.{◌-◌, arith, Option, Some, ℕ, refl, subst, inl}
 use Rattle.std.specs.declared.cmp.Ordering.TheVariants.{Less}
-use Rattle.heap_places.proofs.of_swizzle.TouchLaws.{keeps-trans}
+use Rattle.heap_places.proofs.of_swizzle.TouchLaws.{keeps-refl, keeps-trans}
 use Rattle.table_nodes.specs.Sought.{keys_of}
 use Rattle.table_nodes.specs.Steps.{place}
-use Rattle.table_nodes.proofs.BringLaws.{brings_more, brings_touched}
+use Rattle.table_nodes.proofs.BringLaws.{brings_more, brings_none, brings_touched}
 use Rattle.table_nodes.proofs.NodeLaws.{fetch_back}
-use Rattle.table_nodes.proofs.StepLaws.{touches_then}
-use Rattle.table_nodes.proofs.FollowLaws.{Following, at_turn, following_none, height_at, following_on}
+use Rattle.table_nodes.proofs.StepLaws.{touches_none, touches_then}
+use Rattle.table_nodes.proofs.FollowLaws.{Following, following_whole, at_turn, following_none, height_at, following_on}
 use Rattle.table_nodes.proofs.FaultLaws.{node_fault_back, height_tested, the_node}
 use Rattle.table_nodes.proofs.follow.first.Goals as goal
 
@@ -73,3 +73,19 @@ returns-then-height-eq0-clause-fault g c =
 
 pub returns-in-Err-clause-fault : goal.returns-in-Err-clause-fault
 returns-in-Err-clause-fault g c = node_fault_back (g.V.Vault.outside c.args.vault.now) (g.V.Vault.outside c.loop-at.vault) _ _ c.in-Err.fault c.loop-at.invariant.grows.leaves c.in-Err.ensures.fault
+
+pub loop-at-init : goal.loop-at-init
+loop-at-init g c =
+    let old = place c.args.sw.now (g.V.Vault.outside c.args.vault.now) in
+    record {
+      node = c.requires.root;
+      last = tt;
+      span = record { low_is = tt; high_is = tt };
+      keeps = keeps-refl c.args.sw.now;
+      grows = touches_none old c.sound.ensures;
+      some = c.requires.bound;
+      within = omega arith;
+      brings = brings_none c.args.sw.now _;
+      alive = c.requires.alive;
+      begins = λ t h low. following_whole (keys_of c.args.keys) (λ a. Less) old c.args.root c.args.bound t h low;
+    }

@@ -1,11 +1,11 @@
-use Rattle.std.proofs.Common.{◌∙◌, arith}
+use Rattle.std.proofs.Common.{arith}
 use Rattle.avl_trees.specs.Trees.{items, node}
 use Rattle.avl_trees.specs.Standing.{row_of}
 use Rattle.avl_trees.proofs.Standing.{stands_grown}
 use Rattle.heap_places.proofs.of_swizzle.TouchLaws.{keeps-trans}
 use Rattle.table_nodes.specs.Sought.{keys_of}
 use Rattle.table_nodes.specs.Steps.{place, rows_of}
-use Rattle.table_nodes.proofs.BringLaws.{brings_more, brings_touched}
+use Rattle.table_nodes.proofs.BringLaws.{brings_touched}
 use Rattle.table_nodes.proofs.FaultLaws.{node_fault_back}
 use Rattle.table_nodes.proofs.NodeLaws.{fetch_back}
 use Rattle.table_nodes.proofs.SpanLaws.{span_kept, within_kept}

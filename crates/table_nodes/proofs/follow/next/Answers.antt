@@ -1,15 +1,15 @@
 use Rattle.std.proofs.Common.{◌-◌, arith, ◌∙◌, Option, ℕ, subst, refl}
-use Rattle.heap_places.proofs.of_swizzle.TouchLaws.{keeps-trans}
+use Rattle.heap_places.proofs.of_swizzle.TouchLaws.{keeps-refl, keeps-trans}
 use Rattle.avl_trees.specs.Standing.{seek}
 use Rattle.node_rows.specs.Keys.{order_by}
 use Rattle.table_nodes.specs.Sought.{kind_of, key_in}
 use Rattle.table_nodes.specs.Steps.{place}
 use Rattle.table_nodes.specs.Following.{IsTurn}
-use Rattle.table_nodes.proofs.BringLaws.{brings_more, brings_touched}
+use Rattle.table_nodes.proofs.BringLaws.{brings_more, brings_none, brings_touched}
 use Rattle.table_nodes.proofs.NodeLaws.{fetch_back}
 use Rattle.table_nodes.proofs.SoughtLaws.{key_held_kept, key_in_kept}
-use Rattle.table_nodes.proofs.StepLaws.{touches_then}
-use Rattle.table_nodes.proofs.FollowLaws.{Following, at_turn, following_none, height_at, following_on}
+use Rattle.table_nodes.proofs.StepLaws.{touches_none, touches_then}
+use Rattle.table_nodes.proofs.FollowLaws.{Following, following_whole, at_turn, following_none, height_at, following_on}
 use Rattle.table_nodes.proofs.FaultLaws.{node_fault_back, height_tested, the_node}
 use Rattle.table_nodes.proofs.follow.next.Goals as goal
 
@@ -82,3 +82,21 @@ returns-then-height-eq0-clause-fault g c =
 
 pub returns-in-Err-clause-fault : goal.returns-in-Err-clause-fault
 returns-in-Err-clause-fault g c = node_fault_back (g.V.Vault.outside c.args.vault.now) (g.V.Vault.outside c.loop-at.vault) _ _ c.in-Err.fault c.loop-at.invariant.grows.leaves c.in-Err.ensures.fault
+
+pub loop-at-init : goal.loop-at-init
+loop-at-init g c =
+    let old = place c.args.sw.now (g.V.Vault.outside c.args.vault.now) in
+    record {
+      node = c.requires.root;
+      last = tt;
+      span = record { low_is = tt; high_is = tt };
+      key = c.requires.key;
+      same = refl;
+      keeps = keeps-refl c.args.sw.now;
+      grows = touches_none old c.sound.ensures;
+      some = c.requires.bound;
+      within = omega arith;
+      brings = brings_none c.args.sw.now _;
+      alive = c.requires.alive;
+      follows = λ t h low. following_whole (kind_of c.args.key) (seek (order_by (kind_of c.args.key)) (key_in c.args.sw.now c.args.key)) old c.args.root c.args.bound t h low;
+    }

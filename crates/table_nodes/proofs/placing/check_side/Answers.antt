@@ -17,5 +17,5 @@ returns c = record {
 pub compare_keys-requires-clause-other : goal.compare_keys-requires-clause-other
 compare_keys-requires-clause-other c = subst (λ e. IfSome e (IsKeyHeld c.args.sw.now)) c.in-Some.is c.requires.edge
 
-pub number_of-2-requires : goal.number_of-2-requires
-number_of-2-requires c = subst (λ e. IfSome e (IsKeyHeld c.args.sw.now)) c.in-Some.is c.requires.edge
+pub number_of-requires-2 : goal.number_of-requires-2
+number_of-requires-2 c = record { key = subst (λ e. IfSome e (IsKeyHeld c.args.sw.now)) c.in-Some.is c.requires.edge }

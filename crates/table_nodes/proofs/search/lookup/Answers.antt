@@ -1,17 +1,17 @@
 use Rattle.std.proofs.Common.{◌∙◌, ◌-◌, Option, Ok, Err, ℕ, subst, arith, refl}
-use Rattle.heap_places.proofs.of_swizzle.TouchLaws.{keeps-trans}
+use Rattle.heap_places.proofs.of_swizzle.TouchLaws.{keeps-refl, keeps-trans}
 use Rattle.table_nodes.specs.Sought.{kind_of, key_in}
 use Rattle.table_nodes.specs.Steps.{place}
 use Rattle.table_nodes.specs.Bringing.{Brings}
 use Rattle.table_nodes.specs.Searching.{IsDown, IsStep, came_by}
-use Rattle.table_nodes.proofs.BringLaws.{brings_more, brings_touched}
+use Rattle.table_nodes.proofs.BringLaws.{brings_more, brings_none, brings_touched}
 use Rattle.table_nodes.specs.declared.search.Step.{Step}
 use Rattle.table_nodes.specs.declared.search.Step.TheVariants.{Found, Down}
 use Rattle.table_nodes.proofs.NodeLaws.{fetch_back}
 use Rattle.table_nodes.proofs.SoughtLaws.{key_held_kept, key_in_kept}
 use Rattle.table_nodes.proofs.SpanLaws.{value_found}
-use Rattle.table_nodes.proofs.StepLaws.{touches_then}
-use Rattle.table_nodes.proofs.Seeking.{looked_none, looked_found, Sought, at_node, sought_none, height_read, sought_found, sought_down}
+use Rattle.table_nodes.proofs.StepLaws.{touches_none, touches_then}
+use Rattle.table_nodes.proofs.Seeking.{sought_whole, looked_none, looked_found, Sought, at_node, sought_none, height_read, sought_found, sought_down}
 use Rattle.table_nodes.proofs.FaultLaws.{node_fault_back, height_tested, the_node}
 use Rattle.table_nodes.proofs.search.lookup.Goals as goal
 
@@ -162,3 +162,21 @@ pub returns-in-Ok-clause-value : goal.returns-in-Ok-clause-value
 returns-in-Ok-clause-value g c =
     let found = subst (λ (w : Step). IsDown c.look.new.sw c.in-Some.node c.args.key w) c.in-Ok-Found.field-0-is c.in-Ok-Found.ensures.down in
     value_found c.look.new.sw c.value.new.sw c.in-Some.node c.in-Ok.value c.args.key c.in-Ok.ensures.keeps (key_held_kept c.loop-at.sw c.look.new.sw c.args.key c.in-Ok-Found.ensures.keeps c.loop-at.invariant.key) found c.in-Ok.ensures.slot
+
+pub loop-at-init : goal.loop-at-init
+loop-at-init g c =
+    let old = place c.args.sw.now (g.V.Vault.outside c.args.vault.now) in
+    record {
+      node = c.requires.root;
+      span = record { low_is = tt; high_is = tt };
+      some = c.requires.bound;
+      cost = omega arith;
+      key = c.requires.key;
+      same = refl;
+      keeps = keeps-refl c.args.sw.now;
+      grows = touches_none old c.sound.ensures;
+      more = omega arith;
+      brings = brings_none c.args.sw.now _;
+      alive = c.requires.alive;
+      sought = λ t h low. sought_whole (kind_of c.args.key) (key_in c.args.sw.now c.args.key) old c.args.root c.args.bound c.args.steps.now t h low;
+    }

@@ -27,6 +27,8 @@ returns-in-Ok-attach-clause-ok g c =
       found = is.found;
       live = refl;
       used = used;
+      unstaged = refl;
+      unpinned = is.unpinned;
       holds = subst (λ (n : ℕ). (space : Space) → (spaces n v.table new).contents space → After old.contents IsSpaceOf space) (sym used)
           (opened_holds old new v.live v.table is (g.met.H.Host.is_image v.host));
       stays = subst (λ (n : ℕ). (space : Space) → After old.contents IsSpaceOf space → (spaces n v.table new).contents space) (sym used)
@@ -44,5 +46,5 @@ invariant_of-result g c =
       alive = λ live. is.alive;
       has = λ live. subst (λ (n : ℕ). HasPages v.table (pages_of_words n)) (sym used) (λ page lt. committed_staged v.table is.alive.is_table page lt);
       pages = λ live. none_kept c.in-Ok.kept.places.items v.table (o v.host) c.in-Ok.ensures;
-      unpinned = λ live. is.unpinned;
+      unstaged = λ live no. record { pages = is.blank; words = used };
     }
