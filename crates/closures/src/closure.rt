@@ -43,7 +43,7 @@ pub fn code_of<V: Vault>(sw: &mut Swizzle, vault: &mut V, closure: u32) -> Resul
     requires alive { V.alive vault.old }
     requires held { IsHeld sw.old closure }
     ensures told { TellsCode sw.old sw.new (V.outside vault.old) (V.outside vault.new) closure result }
-    ensures numbers { SameNumbers V.used_words V.directory_at V.most_words vault.old vault.new }
+    ensures numbers { SameNumbers V.used_words V.directory_at V.most_words V.access vault.old vault.new }
     ensures alive { OnOk result (V.alive vault.new) }
 {
     match open_slot(sw, vault, closure, CODE) {
@@ -69,7 +69,7 @@ pub fn scope_of<V: Vault>(
     requires alive { V.alive vault.old }
     requires held { IsHeld sw.old closure }
     ensures told { TellsScope sw.old sw.new (V.outside vault.old) (V.outside vault.new) closure result }
-    ensures numbers { SameNumbers V.used_words V.directory_at V.most_words vault.old vault.new }
+    ensures numbers { SameNumbers V.used_words V.directory_at V.most_words V.access vault.old vault.new }
     ensures alive { OnOk result (V.alive vault.new) }
 {
     match open_slot(sw, vault, closure, SCOPE) {
@@ -96,7 +96,7 @@ fn open_slot<V: Vault>(
     requires held { IsHeld sw.old closure }
     requires slot { slot < 2 }
     ensures opened { OpensSlot sw.old sw.new (V.outside vault.old) (V.outside vault.new) closure slot result }
-    ensures numbers { SameNumbers V.used_words V.directory_at V.most_words vault.old vault.new }
+    ensures numbers { SameNumbers V.used_words V.directory_at V.most_words V.access vault.old vault.new }
     ensures alive { OnOk result (V.alive vault.new) }
 {
     sw.sound();

@@ -1,6 +1,6 @@
 //! The images of new objects, stored behind what a vault holds.
 ghost use Rattle.std.specs.Prelude.{◌≡◌, ◌+◌, ◌≤◌, [], ◌∷◌, filter, length, true, MatchResult, OnOk};
-ghost use Rattle.swizzle.specs.obj_layout.Storing.{DeadIfErr};
+ghost use Rattle.swizzle.specs.obj_layout.Storing.{DeadIfErr, LacksPages};
 ghost use Rattle.swizzle.specs.Heap.{IsHeld};
 ghost use Rattle.commit_images.specs.Images.{is_new, new_in};
 ghost use Rattle.commit_images.specs.Staging.{Stages, AreReady, Appends, FailsAppend};
@@ -27,6 +27,7 @@ fn append_one<V: Vault>(
     buffer: &mut [u64],
 ) -> Result<bool, VaultFault>
     requires alive { V.alive vault.old }
+    requires writable { (V.access vault.old).writes ≡ true }
     requires held { IsHeld sw.now object }
     requires ready { AreReady sw.now (filter (is_new sw.now first) (object ∷ [])) }
     requires room { sw.now.size ≤ length buffer.old + 1 }
@@ -35,7 +36,8 @@ fn append_one<V: Vault>(
         × Appends sw.now (filter (is_new sw.now first) (object ∷ [])) (V.outside vault.old) (V.outside vault.new) (V.used_words vault.old) (V.used_words vault.new) (V.most_words vault.old))
         (FailsAppend sw.now (filter (is_new sw.now first) (object ∷ [])) (V.outside vault.old) (V.outside vault.new) (V.used_words vault.old) (V.most_words vault.old)) }
     ensures stages { Stages (V.outside vault.old) (V.outside vault.new) }
-    ensures numbers { (V.directory_at vault.new ≡ V.directory_at vault.old) × (V.most_words vault.new ≡ V.most_words vault.old) }
+    ensures pages { LacksPages (V.access vault.old) result }
+    ensures numbers { (V.directory_at vault.new ≡ V.directory_at vault.old) × (V.most_words vault.new ≡ V.most_words vault.old) × (V.access vault.new ≡ V.access vault.old) }
     ensures alive { OnOk result (V.alive vault.new) }
     ensures dead { DeadIfErr (V.alive vault.new) result }
     ensures buffer { length buffer.new ≡ length buffer.old }
@@ -59,6 +61,7 @@ pub fn append_all<V: Vault>(
     buffer: &mut [u64],
 ) -> Result<u32, VaultFault>
     requires alive { V.alive vault.old }
+    requires writable { (V.access vault.old).writes ≡ true }
     requires ready { AreReady sw.now (new_in sw.now first) }
     requires room { sw.now.size ≤ length buffer.old + 1 }
     ensures stored { MatchResult result
@@ -66,7 +69,8 @@ pub fn append_all<V: Vault>(
         × Appends sw.now (new_in sw.now first) (V.outside vault.old) (V.outside vault.new) (V.used_words vault.old) (V.used_words vault.new) (V.most_words vault.old))
         (FailsAppend sw.now (new_in sw.now first) (V.outside vault.old) (V.outside vault.new) (V.used_words vault.old) (V.most_words vault.old)) }
     ensures stages { Stages (V.outside vault.old) (V.outside vault.new) }
-    ensures numbers { (V.directory_at vault.new ≡ V.directory_at vault.old) × (V.most_words vault.new ≡ V.most_words vault.old) }
+    ensures pages { LacksPages (V.access vault.old) result }
+    ensures numbers { (V.directory_at vault.new ≡ V.directory_at vault.old) × (V.most_words vault.new ≡ V.most_words vault.old) × (V.access vault.new ≡ V.access vault.old) }
     ensures alive { OnOk result (V.alive vault.new) }
     ensures dead { DeadIfErr (V.alive vault.new) result }
     ensures buffer { length buffer.new ≡ length buffer.old }

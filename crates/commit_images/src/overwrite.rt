@@ -1,6 +1,6 @@
 //! The images of changed objects, put in place of the words that a vault holds.
 ghost use Rattle.std.specs.Prelude.{◌≡◌, ◌+◌, ◌≤◌, [], ◌∷◌, filter, length, true, MatchResult, OnOk, nat_eq, ◌&&◌};
-ghost use Rattle.swizzle.specs.obj_layout.Storing.{DeadIfErr, SameNumbers};
+ghost use Rattle.swizzle.specs.obj_layout.Storing.{DeadIfErr, LacksPages, SameNumbers};
 ghost use Rattle.swizzle.specs.obj_layout.Kind.{kind_number};
 ghost use Rattle.swizzle.specs.Heap.{IsHeld, header_at, object_at, is_reached};
 ghost use Rattle.commit_images.specs.Images.{is_changed, changed_in};
@@ -50,6 +50,7 @@ fn overwrite_one<V: Vault>(
     buffer: &mut [u64],
 ) -> Result<bool, VaultFault>
     requires alive { V.alive vault.old }
+    requires writable { (V.access vault.old).writes ≡ true }
     requires held { IsHeld sw.now object }
     requires ready { AreReady sw.now (filter (is_changed sw.now first) (object ∷ [])) }
     requires room { sw.now.size ≤ length buffer.old + 1 }
@@ -57,7 +58,8 @@ fn overwrite_one<V: Vault>(
         (λ stored. (stored ≡ is_changed sw.now first object) × Overwrites sw.now (filter (is_changed sw.now first) (object ∷ [])) (V.outside vault.old) (V.outside vault.new))
         (FailsOverwrite sw.now (filter (is_changed sw.now first) (object ∷ [])) (V.outside vault.old) (V.outside vault.new)) }
     ensures stages { Stages (V.outside vault.old) (V.outside vault.new) }
-    ensures numbers { SameNumbers V.used_words V.directory_at V.most_words vault.old vault.new }
+    ensures pages { LacksPages (V.access vault.old) result }
+    ensures numbers { SameNumbers V.used_words V.directory_at V.most_words V.access vault.old vault.new }
     ensures alive { OnOk result (V.alive vault.new) }
     ensures dead { DeadIfErr (V.alive vault.new) result }
     ensures buffer { length buffer.new ≡ length buffer.old }
@@ -82,13 +84,15 @@ pub fn overwrite_all<V: Vault>(
     buffer: &mut [u64],
 ) -> Result<u32, VaultFault>
     requires alive { V.alive vault.old }
+    requires writable { (V.access vault.old).writes ≡ true }
     requires ready { AreReady sw.now (changed_in sw.now first) }
     requires room { sw.now.size ≤ length buffer.old + 1 }
     ensures stored { MatchResult result
         (λ count. (count ≡ length (changed_in sw.now first)) × Overwrites sw.now (changed_in sw.now first) (V.outside vault.old) (V.outside vault.new))
         (FailsOverwrite sw.now (changed_in sw.now first) (V.outside vault.old) (V.outside vault.new)) }
     ensures stages { Stages (V.outside vault.old) (V.outside vault.new) }
-    ensures numbers { SameNumbers V.used_words V.directory_at V.most_words vault.old vault.new }
+    ensures pages { LacksPages (V.access vault.old) result }
+    ensures numbers { SameNumbers V.used_words V.directory_at V.most_words V.access vault.old vault.new }
     ensures alive { OnOk result (V.alive vault.new) }
     ensures dead { DeadIfErr (V.alive vault.new) result }
     ensures buffer { length buffer.new ≡ length buffer.old }

@@ -1,7 +1,7 @@
 //! All images of a commit, stored and settled.
-ghost use Rattle.std.specs.Prelude.{◌≡◌, ◌+◌, ◌<◌, ◌≤◌, ℕ, length, IfOk, IfErr, OnOk};
+ghost use Rattle.std.specs.Prelude.{◌≡◌, ◌+◌, ◌<◌, ◌≤◌, ℕ, true, length, IfOk, IfErr, OnOk};
 ghost use Rattle.swizzle.specs.obj_layout.Stored.{Space};
-ghost use Rattle.swizzle.specs.obj_layout.Storing.{Becomes, Settles, DeadIfErr};
+ghost use Rattle.swizzle.specs.obj_layout.Storing.{Becomes, Settles, DeadIfErr, LacksPages};
 ghost use Rattle.commit_images.specs.Images.{words_of, with_images, new_in, changed_in};
 ghost use Rattle.commit_images.specs.Staging.{AreReady, AreThere};
 ghost use Rattle.commit_images.specs.Saved.{saved, saving, FailsSave};
@@ -29,6 +29,7 @@ pub fn save<V: Vault>(
     buffer: &mut [u64],
 ) -> Result<Saved, VaultFault>
     requires alive { V.alive vault.old }
+    requires writable { (V.access vault.old).writes ≡ true }
     requires new { AreReady sw.now (new_in sw.now first) }
     requires changed { AreReady sw.now (changed_in sw.now first) }
     requires directory { directory < V.used_words vault.old + words_of sw.now (new_in sw.now first) }
@@ -43,6 +44,8 @@ pub fn save<V: Vault>(
     ensures room { OnOk result (1 ≤ length (new_in sw.now first) → V.used_words vault.new ≤ V.most_words vault.old) }
     ensures directory { OnOk result (V.directory_at vault.new ≡ directory) }
     ensures most { V.most_words vault.new ≡ V.most_words vault.old }
+    ensures access { V.access vault.new ≡ V.access vault.old }
+    ensures pages { LacksPages (V.access vault.old) result }
     ensures fault { IfErr result (FailsSave sw.now (new_in sw.now first) (changed_in sw.now first) (V.outside vault.old) (V.outside vault.new) (V.used_words vault.old) (V.most_words vault.old)) }
     ensures alive { OnOk result (V.alive vault.new) }
     ensures dead { DeadIfErr (V.alive vault.new) result }

@@ -32,7 +32,7 @@ counting-right bytes h r = record {
   closed = λ x y c goes. elim (r.closed x y c goes) [ inl is ↦ inl is | inr a ↦ inr (record { place = a.place; there = a.there; object_is = a.object_is }) ];
 }
 
-replied-right : (replies : List Reply) (h : Held) → IsRight h → IsRight (record h { replies = replies })
+pub replied-right : (replies : List Reply) (h : Held) → IsRight h → IsRight (record h { replies = replies })
 replied-right replies h r = record {
   sound = record { committed = r.sound.committed; open_too = r.sound.open_too };
   there = r.there;
@@ -68,13 +68,13 @@ under-ids order key (Some id) (e ∷ es) y l =
       | Greater ↦ λ m. elim m [ inl is ↦ inl (inl is) | inr n ↦ elim (under-ids order key (Some id) es y n) [ inl old ↦ inl (inr old) | inr new ↦ inr new ] ]
     ]) l
 
-abbrev ids_of : Table → List ℕ
+abbrev pub ids_of : Table → List ℕ
 ids_of table = object_ids (Some (Keyed table))
 
 yielded : {A : Type 0} {a b : A} → Yields a ≡ Yields b → a ≡ b
 yielded e = cc
 
-entered-ids : (key : Key) (object : Option ℕ) (old new : Table) → entered key object old ≡ Yields new → (y : ℕ) → IsIn y (ids_of new) → IsIn y (ids_of old) ⊎ (object ≡ Some y)
+pub entered-ids : (key : Key) (object : Option ℕ) (old new : Table) → entered key object old ≡ Yields new → (y : ℕ) → IsIn y (ids_of new) → IsIn y (ids_of old) ⊎ (object ≡ Some y)
 unfolding entered
 entered-ids (string_key key) None without_keys new e y l = inl (subst (λ t. IsIn y (ids_of t)) (sym (yielded e)) l)
 entered-ids (string_key key) (Some id) without_keys new e y l = under-ids order_of key (Some id) [] y (subst (λ t. IsIn y (ids_of t)) (sym (yielded e)) l)
@@ -85,10 +85,10 @@ entered-ids (int_key key) (Some id) without_keys new e y l = under-ids int_cmp k
 entered-ids (int_key key) object (by_ints entries) new e y l = under-ids int_cmp key object entries y (subst (λ t. IsIn y (ids_of t)) (sym (yielded e)) l)
 entered-ids (int_key key) object (by_strings entries) new e y l = absurd (cc)
 
-record IsTableAt (heap : Heap) (v : Value) (t : Table) : Type 0 where
-  id : ℕ
-  v_is : v ≡ Pointer id
-  there : object_at heap id ≡ Some (Keyed t)
+pub record IsTableAt (heap : Heap) (v : Value) (t : Table) : Type 0 where
+  pub id : ℕ
+  pub v_is : v ≡ Pointer id
+  pub there : object_at heap id ≡ Some (Keyed t)
 
 table-in : (o : Option Object) (t : Table) → table_in o ≡ Yields t → o ≡ Some (Keyed t)
 table-in None t e = absurd (cc)
@@ -97,7 +97,7 @@ table-in (Some (Elements ty low elements)) t e = absurd (cc)
 table-in (Some (Scope text parent names)) t e = absurd (cc)
 table-in (Some (Keyed table)) t e = ap (λ x. Some (Keyed x)) (yielded e)
 
-table-at : (heap : Heap) (v : Value) (t : Table) → table_of heap v ≡ Yields t → IsTableAt heap v t
+pub table-at : (heap : Heap) (v : Value) (t : Table) → table_of heap v ≡ Yields t → IsTableAt heap v t
 unfolding table_of
 table-at heap (Num z) t e = absurd (cc)
 table-at heap (Flag b) t e = absurd (cc)
@@ -108,7 +108,7 @@ table-at heap (Vector id) t e = absurd (cc)
 table-at heap (Procedure does scope) t e = absurd (cc)
 table-at heap Nothing t e = absurd (cc)
 
-value-id : (v : Value) (y : ℕ) → object_of_value v ≡ Some y → IsIn y (value_ids v)
+pub value-id : (v : Value) (y : ℕ) → object_of_value v ≡ Some y → IsIn y (value_ids v)
 value-id (Num z) y e = absurd (cc)
 value-id (Flag b) y e = absurd (cc)
 value-id (Text bytes) y e = absurd (cc)
@@ -161,7 +161,7 @@ enter-right key table v h new r low e = first (table_of h.objects table) refl e
 
 -- Databases open for writing.
 
-each-in : (before ns : List ℕ) (n : ℕ) → IsIn n (each_once before ns) → IsIn n ns
+pub each-in : (before ns : List ℕ) (n : ℕ) → IsIn n (each_once before ns) → IsIn n ns
 unfolding each_once
 each-in before [] n l = absurd l
 each-in before (m ∷ ms) n l =
@@ -209,7 +209,7 @@ writing-last : (openings : List Opening) (n : ℕ) → IsIn n (open_for_writing 
 unfolding is_in
 writing-last openings n = in-each [] (numbers_for_writing (openings ++ record { number = n; mode = Writing } ∷ [])) n (numbers-last openings n) refl
 
-opened-right : (openings more : List Opening) (h : Held) → h.openings ≡ openings → IsRight h → IsRight (record h { openings = openings ++ more })
+pub opened-right : (openings more : List Opening) (h : Held) → h.openings ≡ openings → IsRight h → IsRight (record h { openings = openings ++ more })
 opened-right openings more h is r = record {
   sound = record { committed = r.sound.committed; open_too = λ n l. writing-more openings more n (subst (λ os. IsIn n (open_for_writing os)) is (r.sound.open_too n l)) };
   there = r.there;
@@ -220,7 +220,7 @@ opened-right openings more h is r = record {
 refused-right : (context : List ℕ) (fault : Fault) (h : Held) → IsRight h → IsRight (refused context fault h).held
 refused-right context fault h r = counting-right (whole_weight h.weigh (error_record context fault)) (with_object (error_record context fault) h) (made-right (error_record context fault) h r (λ y l. absurd l))
 
-created-right : (name password : List ℕ) (h : Held) → IsRight h → IsRight (created_database name password h).held
+pub created-right : (name password : List ℕ) (h : Held) → IsRight h → IsRight (created_database name password h).held
 created-right name password h r =
     let m = made-right (Keyed without_keys) h r (λ y l. absurd l) in
     let number = suc (length h.directory) in

@@ -70,7 +70,7 @@ in-loose_from homes from (suc n) id none low high =
           ]
     ]
 
-in-loose : (h : Held) (id : ℕ) → home_at h.homes id ≡ None → id < length h.objects → IsIn id (loose h)
+pub in-loose : (h : Held) (id : ℕ) → home_at h.homes id ≡ None → id < length h.objects → IsIn id (loose h)
 unfolding loose
 in-loose h id none l = in-loose_from h.homes 0 (length h.objects) id none (omega arith) (omega (arith, l))
 

@@ -31,7 +31,7 @@ roots-in directory [] n x m l = absurd m
 roots-in directory (m ∷ ns) n x (inl e) l = in-front x (root_of (database_at directory m)) (roots_of directory ns) (subst (λ k. IsIn x (root_of (database_at directory k))) e l)
 roots-in directory (m ∷ ns) n x (inr k) l = in-behind x (root_of (database_at directory m)) (roots_of directory ns) (roots-in directory ns n x k l)
 
-in_after_places : (heap : Heap) (places : List Place) (x : ℕ) → IsIn x (after_places heap places) → (place : Place) × HasPlace place places × IsIn x (next_in heap (object_of place))
+pub in_after_places : (heap : Heap) (places : List Place) (x : ℕ) → IsIn x (after_places heap places) → (place : Place) × HasPlace place places × IsIn x (next_in heap (object_of place))
 unfolding after_places
 in_after_places heap [] x l = absurd l
 in_after_places heap (q ∷ qs) x l =
@@ -58,7 +58,7 @@ at_home-has homes n (q ∷ qs) place (inr h) e =
       | inr not ↦ subst (HasPlace place) (sym (else_is (is_home n (home_at homes (object_of q))) (q ∷ at_home homes n qs) (at_home homes n qs) not)) (at_home-has homes n qs place h e)
     ]
 
-has-at_home : (homes : List (Option ℕ)) (n : ℕ) (places : List Place) (place : Place) → HasPlace place (at_home homes n places) → HasPlace place places
+pub has-at_home : (homes : List (Option ℕ)) (n : ℕ) (places : List Place) (place : Place) → HasPlace place (at_home homes n places) → HasPlace place places
 unfolding at_home
 has-at_home homes n [] place h = h
 has-at_home homes n (q ∷ qs) place h =

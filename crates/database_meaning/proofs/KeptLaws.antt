@@ -11,14 +11,14 @@ use Rattle.ps_heap.specs.Tables.{is_same_key}
 use Rattle.ps_heap.specs.Objects.{Object, Structure, Elements, Scope, Keyed, Heap, object_at}
 use Rattle.ps_heap.specs.References.{with_part, scope_ids, value_ids, values_ids, object_ids, next_in}
 use Rattle.ps_heap.specs.Databases.{every_root, is_there}
-use Rattle.ps_heap.specs.Held.{Held, Place, Part, Under, object_of, weight_at, is_same_place, is_among, home_at, home_if, places_with, noted, put_part, assigned_part, with_object, touching, StoredHeap, row, every_id, reached_from_roots, Reply, started}
+use Rattle.ps_heap.specs.Held.{Held, Place, Part, Under, object_of, is_same_place, is_among, home_at, home_if, places_with, noted, put_part, assigned_part, with_object, touching, StoredHeap, row, every_id, reached_from_roots, Reply, started}
 use Rattle.ps_heap.specs.Commit.{homes_after, Saves, saved, decision, after_decision}
 use Rattle.database_meaning.specs.Sound.{HasPlace, IsCommitted, AreThere, IsAssigned, AreHomed, IsRight}
 use Rattle.database_meaning.proofs.CommitLaws.{none≢some, row-at, row-below, after-below, saved-is, closed}
 
 -- The start.
 
-in-row : (from n id : ℕ) → from ≤ id → id < from + n → IsIn id (row (λ k. k) from n)
+pub in-row : (from n id : ℕ) → from ≤ id → id < from + n → IsIn id (row (λ k. k) from n)
 unfolding row
 in-row from zero id low high = absurd (omega (arith, low, high))
 in-row from (suc n) id low high =
@@ -27,7 +27,7 @@ in-row from (suc n) id low high =
       | inr apart ↦ inr (in-row (suc from) n id (omega (arith, low, eqb-false id from apart)) (omega (arith, high)))
     ]
 
-home-if : (b : Bool) (home : Option ℕ) (n : ℕ) → home_if b home ≡ Some n → (b ≡ true) × (home ≡ Some n)
+pub home-if : (b : Bool) (home : Option ℕ) (n : ℕ) → home_if b home ≡ Some n → (b ≡ true) × (home ≡ Some n)
 home-if true home n e = (refl, e)
 home-if false home n e = absurd (none≢some e)
 
@@ -65,16 +65,16 @@ module _ (weigh : Routine → ℕ) (replies : List Reply) (counted : ℕ) (store
 
 -- Objects of a heap that grew, and of one in which one object is another.
 
-object-low : (heap : Heap) (new : Object) (id : ℕ) → id < length heap → object_at (heap ++ new ∷ []) id ≡ object_at heap id
+pub object-low : (heap : Heap) (new : Object) (id : ℕ) → id < length heap → object_at (heap ++ new ∷ []) id ≡ object_at heap id
 object-low [] new id l = absurd (omega (arith, l))
 object-low (o ∷ os) new zero l = refl
 object-low (o ∷ os) new (suc id) l = object-low os new id (omega (arith, l))
 
-object-last : (heap : Heap) (new : Object) → object_at (heap ++ new ∷ []) (length heap) ≡ Some new
+pub object-last : (heap : Heap) (new : Object) → object_at (heap ++ new ∷ []) (length heap) ≡ Some new
 object-last [] new = refl
 object-last (o ∷ os) new = object-last os new
 
-object-high : (heap : Heap) (id : ℕ) → length heap ≤ id → object_at heap id ≡ None
+pub object-high : (heap : Heap) (id : ℕ) → length heap ≤ id → object_at heap id ≡ None
 object-high [] id l = refl
 object-high (o ∷ os) zero l = absurd (omega (arith, l))
 object-high (o ∷ os) (suc id) l = object-high os id (omega (arith, l))
@@ -118,25 +118,25 @@ made-right object h r ids = record {
 
 -- A place that is assigned.
 
-has-append : (p : Place) (ps qs : List Place) → HasPlace p (ps ++ qs) → HasPlace p ps ⊎ HasPlace p qs
+pub has-append : (p : Place) (ps qs : List Place) → HasPlace p (ps ++ qs) → HasPlace p ps ⊎ HasPlace p qs
 has-append p [] qs h = inr h
 has-append p (q ∷ ps) qs (inl e) = inl (inl e)
 has-append p (q ∷ ps) qs (inr h) = elim (has-append p ps qs h) [ inl a ↦ inl (inr a) | inr b ↦ inr b ]
 
-has-before : (p : Place) (ps qs : List Place) → HasPlace p ps → HasPlace p (ps ++ qs)
+pub has-before : (p : Place) (ps qs : List Place) → HasPlace p ps → HasPlace p (ps ++ qs)
 has-before p [] qs h = absurd h
 has-before p (q ∷ ps) qs (inl e) = inl e
 has-before p (q ∷ ps) qs (inr h) = inr (has-before p ps qs h)
 
-has-last : (p : Place) (ps : List Place) → HasPlace p (ps ++ p ∷ [])
+pub has-last : (p : Place) (ps : List Place) → HasPlace p (ps ++ p ∷ [])
 has-last p [] = inl refl
 has-last p (q ∷ ps) = inr (has-last p ps)
 
-both-true : (a b : Bool) → (a && b) ≡ true → a ≡ true
+pub both-true : (a b : Bool) → (a && b) ≡ true → a ≡ true
 both-true true b e = refl
 both-true false b e = e
 
-same-object : (p q : Place) → is_same_place p q ≡ true → object_of q ≡ object_of p
+pub same-object : (p q : Place) → is_same_place p q ≡ true → object_of q ≡ object_of p
 same-object (Part a i) (Part b j) e = sym (eqb-true a b (both-true (nat_eq a b) (nat_eq i j) e))
 same-object (Under a k) (Under b l) e = sym (eqb-true a b (both-true (nat_eq a b) (is_same_key k l) e))
 same-object (Part a i) (Under b l) e = absurd (true≢false (sym e))
@@ -156,7 +156,7 @@ among p (q ∷ qs) e =
       | inr apart ↦ let a = among p qs (sym (else_is (is_same_place p q) true (is_among p qs) apart) ∙ e) in record { place = a.place; there = inr a.there; object_is = a.object_is }
     ]
 
-committed-is : (homes : List (Option ℕ)) (id : ℕ) → is_there (home_at homes id) ≡ true → IsCommitted homes id
+pub committed-is : (homes : List (Option ℕ)) (id : ℕ) → is_there (home_at homes id) ≡ true → IsCommitted homes id
 committed-is homes id e = go (home_at homes id) refl
   where
     go : (home : Option ℕ) → home_at homes id ≡ home → IsCommitted homes id
@@ -231,7 +231,7 @@ module _ (h : Held) (objects : Heap) (place : Place) (r : IsRight h) (long : len
 
 -- A field, an element or a kept name.
 
-set-ids : (vs : List Value) (n : ℕ) (v : Value) (y : ℕ) → IsIn y (values_ids (set vs n v)) → IsIn y (values_ids vs) ⊎ IsIn y (value_ids v)
+pub set-ids : (vs : List Value) (n : ℕ) (v : Value) (y : ℕ) → IsIn y (values_ids (set vs n v)) → IsIn y (values_ids vs) ⊎ IsIn y (value_ids v)
 set-ids [] n v y l = inl l
 set-ids (w ∷ ws) zero v y l = elim (in-append y (value_ids v) (values_ids ws) l) [ inl a ↦ inr a | inr b ↦ inl (in-behind y (value_ids w) (values_ids ws) b) ]
 set-ids (w ∷ ws) (suc n) v y l =
@@ -240,7 +240,7 @@ set-ids (w ∷ ws) (suc n) v y l =
       | inr b ↦ elim (set-ids ws n v y b) [ inl c ↦ inl (in-behind y (value_ids w) (values_ids ws) c) | inr d ↦ inr d ]
     ]
 
-part-ids : (o : Object) (n : ℕ) (v : Value) (y : ℕ) → IsIn y (object_ids (Some (with_part o n v))) → IsIn y (object_ids (Some o)) ⊎ IsIn y (value_ids v)
+pub part-ids : (o : Object) (n : ℕ) (v : Value) (y : ℕ) → IsIn y (object_ids (Some (with_part o n v))) → IsIn y (object_ids (Some o)) ⊎ IsIn y (value_ids v)
 part-ids (Structure class fields) n v y l = set-ids fields n v y l
 part-ids (Elements ty low elements) n v y l = set-ids elements n v y l
 part-ids (Scope text parent names) n v y l =

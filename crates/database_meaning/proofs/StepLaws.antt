@@ -2,7 +2,7 @@
 use Rattle.std.proofs.Common.{arith, Bool, true, false, inl, inr, ◌≡◌, ◌≢◌, ℕ, ◌+◌, List, [], ◌∷◌, refl, sym, ap, ◌∙◌, Option, Some, None, if◌then◌else◌}
 use Rattle.std.specs.Prelude.{not, ◌&&◌}
 use Rattle.std.proofs.lemmas.Bool.{cases_Bool, true≢false}
-use Rattle.reaching.specs.Reaching.{IsIn, is_in}
+use Rattle.reaching.specs.Reaching.{IsIn}
 use Rattle.reaching.proofs.Lists.{then_is, in-is_in, not_in}
 use Rattle.ps_heap.specs.Databases.{open_for_writing, is_there}
 use Rattle.ps_heap.specs.Held.{Held, StoredHeap, Place, object_of, home_at, weight_at, is_first_touch, touched_after, touched_weight, touching}

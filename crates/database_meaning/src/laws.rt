@@ -1,4 +1,6 @@
 ghost use Rattle.database_meaning.specs.TableLaws.{AreFiniteMaps};
+ghost use Rattle.database_meaning.specs.SamePrograms.{ProgramsGoTheSame};
+ghost use Rattle.database_meaning.specs.SameRuns.{StayTheSame};
 ghost use Rattle.database_meaning.specs.Laws.{ComputedIsLeast, IdsAreKept, SameIsAnEquivalence, HomesStay, ReachedAreCommitted, CommittedAreClosed, HomesAreTotal, StepsAreInOrder, TouchedOnce, RunsStayRight};
 
 /// The newly reached objects, as they are computed, are the least set that the definition names.
@@ -54,4 +56,14 @@ pub fn tables_are_finite_maps()
 /// What a run holds stays as the laws of commits ask for: at its start, through each call of the library, and where an object is made or a place assigned.
 pub fn runs_stay_right()
     ensures { RunsStayRight }
+{}
+
+/// Runs over heaps that are the same but for ids stay the same but for ids: at their start, where an object is made or a place assigned, and through each call of the library, with the same events and with commits of the same heaps.
+pub fn runs_over_the_same_heap_stay_the_same()
+    ensures { StayTheSame }
+{}
+
+/// A program over heaps that are the same but for ids has the same events but for ids, where it is given the same turns, input and replies: it asks and outputs the same, with the same counted bytes, and commits heaps that are the same but for ids.
+pub fn programs_over_the_same_heap_go_the_same()
+    ensures { ProgramsGoTheSame }
 {}

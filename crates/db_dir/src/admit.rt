@@ -73,7 +73,7 @@ pub fn admit<V: Vault>(
     ensures root { IfOk result (IsRoot sw.new) }
     ensures reads { OnOk result (ReadsSome sw.old sw.new (V.outside vault.old) (V.outside vault.new)) }
     ensures fails { IfErr result (FailsReading (V.outside vault.old) (V.outside vault.new)) }
-    ensures numbers { SameNumbers V.used_words V.directory_at V.most_words vault.old vault.new }
+    ensures numbers { SameNumbers V.used_words V.directory_at V.most_words V.access vault.old vault.new }
     ensures alive { OnOk result (V.alive vault.new) }
 {
     sw.sound();
@@ -105,7 +105,7 @@ fn admit_in<V: Vault>(
     ensures opens { Opens sw.old sw.new (V.outside vault.old) (V.outside vault.new) (text_at sw.old name) (text_at sw.old password) (text_at sw.old mode) (Some directory) result }
     ensures reads { OnOk result (ReadsSome sw.old sw.new (V.outside vault.old) (V.outside vault.new)) }
     ensures fails { IfErr result (FailsReading (V.outside vault.old) (V.outside vault.new)) }
-    ensures numbers { SameNumbers V.used_words V.directory_at V.most_words vault.old vault.new }
+    ensures numbers { SameNumbers V.used_words V.directory_at V.most_words V.access vault.old vault.new }
     ensures alive { OnOk result (V.alive vault.new) }
 {
     sw.sound();
@@ -137,7 +137,7 @@ fn open_at<V: Vault>(
     ensures opens { OpensAt sw.old sw.new (V.outside vault.old) (V.outside vault.new) (text_at sw.old password) (text_at sw.old mode) directory (number - 1) result }
     ensures reads { OnOk result (ReadsSome sw.old sw.new (V.outside vault.old) (V.outside vault.new)) }
     ensures fails { IfErr result (FailsReading (V.outside vault.old) (V.outside vault.new)) }
-    ensures numbers { SameNumbers V.used_words V.directory_at V.most_words vault.old vault.new }
+    ensures numbers { SameNumbers V.used_words V.directory_at V.most_words V.access vault.old vault.new }
     ensures alive { OnOk result (V.alive vault.new) }
 {
     sw.sound();
@@ -179,7 +179,7 @@ fn open_as<V: Vault>(
     ensures opens { TakesMode sw.old sw.new (V.outside vault.old) (V.outside vault.new) (text_at sw.old mode) directory place result }
     ensures reads { OnOk result (ReadsSome sw.old sw.new (V.outside vault.old) (V.outside vault.new)) }
     ensures fails { IfErr result (FailsReading (V.outside vault.old) (V.outside vault.new)) }
-    ensures numbers { SameNumbers V.used_words V.directory_at V.most_words vault.old vault.new }
+    ensures numbers { SameNumbers V.used_words V.directory_at V.most_words V.access vault.old vault.new }
     ensures alive { OnOk result (V.alive vault.new) }
 {
     sw.sound();

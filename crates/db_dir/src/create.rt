@@ -156,7 +156,7 @@ pub fn create<V: Vault>(
     ensures keeps { OnOk result (Keeps sw.old sw.new) }
     ensures leaves { LeavesOutside (V.outside vault.old) (V.outside vault.new) }
     ensures fails { FailsAsReading (V.outside vault.old) (V.outside vault.new) result }
-    ensures numbers { SameNumbers V.used_words V.directory_at V.most_words vault.old vault.new }
+    ensures numbers { SameNumbers V.used_words V.directory_at V.most_words V.access vault.old vault.new }
     ensures alive { OnOk result (V.alive vault.new) }
 {
     sw.sound();
@@ -183,7 +183,7 @@ fn try_create<V: Vault>(
     requires root { IsHeld sw.old root }
     ensures tries { Tries sw.old sw.new (V.outside vault.old) (V.outside vault.new) directory name password root result }
     ensures fails { FailsAsReading (V.outside vault.old) (V.outside vault.new) result }
-    ensures numbers { SameNumbers V.used_words V.directory_at V.most_words vault.old vault.new }
+    ensures numbers { SameNumbers V.used_words V.directory_at V.most_words V.access vault.old vault.new }
     ensures alive { OnOk result (V.alive vault.new) }
 {
     if let Some(fault) = wrong_lengths(sw, name, password) {

@@ -28,7 +28,7 @@ pub fn touch_entry<V: Vault>(
     ensures touched { MatchResult result (IsEntry sw.old sw.new object slot kind) (Misses sw.old sw.new (V.outside vault.old) (V.outside vault.new) object slot kind) }
     ensures reads { OnOk result (ReadsSome sw.old sw.new (V.outside vault.old) (V.outside vault.new)) }
     ensures fails { IfErr result (FailsReading (V.outside vault.old) (V.outside vault.new)) }
-    ensures numbers { SameNumbers V.used_words V.directory_at V.most_words vault.old vault.new }
+    ensures numbers { SameNumbers V.used_words V.directory_at V.most_words V.access vault.old vault.new }
     ensures alive { OnOk result (V.alive vault.new) }
 {
     sw.sound();
@@ -61,7 +61,7 @@ pub fn touch_text<V: Vault>(
     ensures touched { MatchResult result (IsTextEntry sw.old sw.new object slot least most) (MissesText sw.old sw.new (V.outside vault.old) (V.outside vault.new) object slot least most) }
     ensures reads { OnOk result (ReadsSome sw.old sw.new (V.outside vault.old) (V.outside vault.new)) }
     ensures fails { IfErr result (FailsReading (V.outside vault.old) (V.outside vault.new)) }
-    ensures numbers { SameNumbers V.used_words V.directory_at V.most_words vault.old vault.new }
+    ensures numbers { SameNumbers V.used_words V.directory_at V.most_words V.access vault.old vault.new }
     ensures alive { OnOk result (V.alive vault.new) }
 {
     match touch_entry(sw, vault, object, slot, Kind::Text) {
@@ -98,7 +98,7 @@ pub fn has_text<V: Vault>(
     ensures compared { MatchResult result (Compares sw.old sw.new object slot least most (text_at sw.old text)) (MissesText sw.old sw.new (V.outside vault.old) (V.outside vault.new) object slot least most) }
     ensures reads { OnOk result (ReadsSome sw.old sw.new (V.outside vault.old) (V.outside vault.new)) }
     ensures fails { IfErr result (FailsReading (V.outside vault.old) (V.outside vault.new)) }
-    ensures numbers { SameNumbers V.used_words V.directory_at V.most_words vault.old vault.new }
+    ensures numbers { SameNumbers V.used_words V.directory_at V.most_words V.access vault.old vault.new }
     ensures alive { OnOk result (V.alive vault.new) }
 {
     match touch_text(sw, vault, object, slot, least, most) {

@@ -40,7 +40,7 @@ pub fn find<V: Vault>(
     ensures finds { Finds sw.old sw.new (V.outside vault.old) (V.outside vault.new) directory (text_at sw.old name) result }
     ensures reads { OnOk result (ReadsSome sw.old sw.new (V.outside vault.old) (V.outside vault.new)) }
     ensures fails { IfErr result (FailsReading (V.outside vault.old) (V.outside vault.new)) }
-    ensures numbers { SameNumbers V.used_words V.directory_at V.most_words vault.old vault.new }
+    ensures numbers { SameNumbers V.used_words V.directory_at V.most_words V.access vault.old vault.new }
     ensures alive { OnOk result (V.alive vault.new) }
 {
     sw.sound();
@@ -66,7 +66,7 @@ fn find_in<V: Vault>(
     ensures finds { Finds sw.old sw.new (V.outside vault.old) (V.outside vault.new) (Some directory) (text_at sw.old name) result }
     ensures reads { OnOk result (ReadsSome sw.old sw.new (V.outside vault.old) (V.outside vault.new)) }
     ensures fails { IfErr result (FailsReading (V.outside vault.old) (V.outside vault.new)) }
-    ensures numbers { SameNumbers V.used_words V.directory_at V.most_words vault.old vault.new }
+    ensures numbers { SameNumbers V.used_words V.directory_at V.most_words V.access vault.old vault.new }
     ensures alive { OnOk result (V.alive vault.new) }
 {
     let count = database_count(sw, directory);

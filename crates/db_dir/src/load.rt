@@ -32,7 +32,7 @@ pub fn load_directory<V: Vault>(
     ensures reads { OnOk result (ReadsSome sw.old sw.new (V.outside vault.old) (V.outside vault.new)) }
     ensures damaged { IfErr result (FailsLoading sw.old sw.new (V.outside vault.old) (V.directory_at vault.old)) }
     ensures fails { IfErr result (FailsReading (V.outside vault.old) (V.outside vault.new)) }
-    ensures numbers { SameNumbers V.used_words V.directory_at V.most_words vault.old vault.new }
+    ensures numbers { SameNumbers V.used_words V.directory_at V.most_words V.access vault.old vault.new }
     ensures alive { OnOk result (V.alive vault.new) }
 {
     sw.sound();

@@ -9,7 +9,7 @@ use Rattle.ps_soundness.specs.ps_program.declared.place.Place.TheVariants.{Plain
 use Rattle.ps_soundness.specs.ps_program.Node.{Param, Node, Nodes, none, more, BodyNode, body}
 use Rattle.ps_soundness.specs.ps_program.Node as node
 use Rattle.ps_soundness.specs.ps_type_text.Texts.{Field}
-use Rattle.ps_soundness.specs.ps_typing.WellTyped.{Rule}
+use Rattle.ps_soundness.specs.ps_typing.WellTyped.{Rule, IsBody}
 use Rattle.ps_soundness.specs.ps_typing.WellTyped as typed
 use Rattle.ps_heap.specs.Texts.{is_string}
 use Rattle.ps_heap.specs.Values.{Num, Pointer}
@@ -116,6 +116,12 @@ turned_fits = of_params unscoped fit.no_more
     (fit.block unscoped (a_value refl fit.as_local (literal_int (record { locals = []; levels = [] }))
     (a_value refl fit.as_local (by_rule typed.int refl fit.no_more) (a_clause (name (inr (inl (refl, refl)))) at_end))))
     (record { nums_apart = ((λ e. absurd (omega (arith, e)), tt), (tt, tt)); nums_in = (omega arith, (omega arith, tt)); refs_apart = tt; refs_in = tt; few = omega arith })
+
+-- It has no types by the rules, which give the first name the first slot: so what is proved of evaluating typed bodies doesn't reach it.
+turned_has_no_types : (scopes : List (List Field)) → IsBody scopes turned → ⊥
+turned_has_no_types scopes (typed.of_params typed.unscoped typed.Takes.no_more at_last (typed.block typed.unscoped (typed.a_value isnt (typed.as_local e) value rest) last)) = absurd (omega (arith, e))
+turned_has_no_types scopes (typed.of_params typed.unscoped typed.Takes.no_more at_last (typed.block typed.unscoped (typed.a_clause (typed.by_rule r are) rest) last)) = elim r [ ]
+turned_has_no_types scopes (typed.of_params typed.unscoped typed.Takes.no_more at_last (typed.by_rule r are)) = elim r [ ]
 
 -- What is no value of a type: a structure where a string is wanted, and a text that is too long.
 abbrev boxes : Heap

@@ -3,4 +3,8 @@
 
 mod laws;
 
-pub use laws::no_scope_is_its_own_parent;
+pub use laws::{
+    bodies_stay_fit, commits_have_fit_databases, literals_make_fit_procedures,
+    mentioned_names_hold_values, no_scope_is_its_own_parent, runs_keep_databases_fit,
+    typed_bodies_are_fit, typed_programs_are_fit,
+};

@@ -47,7 +47,7 @@ of-class seen heap pair n id it class one s p there is = of b.object b.means (su
         }
     of (Elements ty low elements) means like = let bad : kind.Vector ≡ kind.Structure = sym like.rows.kind_is ∙ is.kind in absurd (cc)
     of (Scope text parent names) means like = let bad : kind.Scope ≡ kind.Structure = sym like.kind_is ∙ is.kind in absurd (cc)
-    of (Keyed table) means like = absurd like
+    of (Keyed table) means like = let bad : kind.Table ≡ kind.Structure = sym like ∙ is.kind in absurd (cc)
 
 -- an object of another class, or of none
 pub of-other : (seen : Seen) (heap : Heap) (pair : Pairing) (n : reference.Reference) (id : ℕ) (it : Shown) (class : List ℕ) → IsOne seen → Stands seen heap pair → pair n id → seen n it

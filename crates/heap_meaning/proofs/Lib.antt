@@ -1,4 +1,6 @@
 pub mod StandingLaws
+pub mod TableLaws
+pub mod HeapLaws
 pub mod PlaceLaws
 pub mod WriteLaws
 pub mod FieldLaws
@@ -12,3 +14,4 @@ pub use Rattle.proc_values.proofs.of_swizzle as of_swizzle
 pub use Rattle.heap_ops.proofs.of_heap_places as of_heap_places
 pub use Rattle.heap_ops.proofs as of_heap_ops
 pub use Rattle.proc_values.proofs as of_proc_values
+pub use Rattle.node_rows.proofs as of_node_rows

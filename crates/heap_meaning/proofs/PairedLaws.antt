@@ -5,9 +5,12 @@ use Rattle.proc_values.specs.obj_layout.declared.reference.Reference as referenc
 use Rattle.proc_values.specs.swizzle.Joint.{Shown}
 use Rattle.proc_values.specs.swizzle.Changes.{Within, ChangedAt}
 use Rattle.proc_values.specs.ps_heap.Objects.{Heap, Object, with_object, with_new, new_number}
-use Rattle.heap_meaning.specs.Standing.{Seen, Pairing, IsLike, Stands, IsOne, with_pair}
+use Rattle.heap_meaning.specs.Tables.{IsNewTable}
+use Rattle.heap_meaning.specs.Standing.{Seen, Pairing, IsLike, IsPlain, Stands, IsOne, with_pair}
 use Rattle.heap_meaning.specs.Paired.{name_in, paired, StandsRow, and_name}
-use Rattle.heap_meaning.proofs.StandingLaws.{IsFixed, stands-within, stands-written, stands-made, like-more}
+use Rattle.heap_meaning.proofs.StandingLaws.{like-more}
+use Rattle.heap_meaning.proofs.TableLaws.{tables-same}
+use Rattle.heap_meaning.proofs.HeapLaws.{stands-within, stands-written, stands-made}
 
 pub name-before : (names : List reference.Reference) (m n : reference.Reference) (id : ℕ) → name_in names id ≡ Some m → name_in (and_name names n) id ≡ Some m
 name-before [] m n id is = absurd (cc)
@@ -33,6 +36,7 @@ stands-same seen heap pair other there back s = record {
       record { it = b.it; object = b.object; there = b.there; means = b.means; like = like-more seen seen pair other b.it b.object (λ m it k j. j) (λ m it j. record { it = it; there = j; kind_is = refl }) there b.like };
   one_number = λ n i j p q. s.one_number n i j (back n i p) (back n j q);
   one_name = λ n m id p q. s.one_name n m id (back n id p) (back m id q);
+  tables = tables-same seen heap pair other there back s.tables;
 }
 
 -- A reading: the same row.
@@ -40,17 +44,17 @@ pub row-within : (seen now : Seen) (heap : Heap) (names : List reference.Referen
 row-within seen now heap names grows r = record { stands = stands-within seen now heap (paired names) grows r.stands; long = r.long }
 
 -- A write on both sides: the same row.
-pub row-written : (seen now : Seen) (heap : Heap) (names : List reference.Reference) (n : reference.Reference) (id : ℕ) (it new : Shown) (object : Object) → IsOne seen → StandsRow seen heap names → paired names n id → seen n it → (IsFixed it.kind → ⊥)
+pub row-written : (seen now : Seen) (heap : Heap) (names : List reference.Reference) (n : reference.Reference) (id : ℕ) (it new : Shown) (object : Object) → IsOne seen → StandsRow seen heap names → paired names n id → seen n it → IsPlain object
     → new.kind ≡ it.kind → ChangedAt seen n new now → IsLike now (paired names) new object → StandsRow now (with_object heap id object) names
-row-written seen now heap names n id it new object one r p there other same_kind c like = record {
-  stands = stands-written seen now heap (paired names) n id it new object one r.stands p there other same_kind c like;
+row-written seen now heap names n id it new object one r p there plain same_kind c like = record {
+  stands = stands-written seen now heap (paired names) n id it new object one r.stands p there plain same_kind c like;
   long = r.long ∙ sym (length-set heap id object);
 }
 
 -- A new object on both sides: one name more, at the new number.
 pub row-made : (seen now : Seen) (heap : Heap) (names : List reference.Reference) (n : reference.Reference) (new : Shown) (object : Object) → StandsRow seen heap names → ((it : Shown) → seen n it → ⊥)
-    → ChangedAt seen n new now → IsLike now (paired (and_name names n)) new object → StandsRow now (with_new heap object) (and_name names n)
-row-made seen now heap names n new object r fresh c like =
+    → ChangedAt seen n new now → IsLike now (paired (and_name names n)) new object → IsNewTable new object → StandsRow now (with_new heap object) (and_name names n)
+row-made seen now heap names n new object r fresh c like table =
     let more = with_pair (paired names) n (new_number heap) in
     let there : (m : reference.Reference) (id : ℕ) → more m id → paired (and_name names n) m id = λ m id p. elim p [
       | inl q ↦ name-before names m n id q
@@ -62,6 +66,6 @@ row-made seen now heap names n new object r fresh c like =
     ] in
     record {
       stands = stands-same now (with_new heap object) more (paired (and_name names n)) there back
-          (stands-made seen now heap (paired names) n new object r.stands fresh c (like-more now now (paired (and_name names n)) more new object (λ m it k j. j) (λ m it j. record { it = it; there = j; kind_is = refl }) back like));
+          (stands-made seen now heap (paired names) n new object r.stands fresh c (like-more now now (paired (and_name names n)) more new object (λ m it k j. j) (λ m it j. record { it = it; there = j; kind_is = refl }) back like) table);
       long = omega (arith, length-append names (n ∷ []), length-append heap (object ∷ []), r.long);
     }

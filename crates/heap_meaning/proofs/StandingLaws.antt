@@ -1,4 +1,4 @@
--- The pairing goes through readings, writes and new objects.
+-- What stands for a value or an object stands for it where more is seen; and what is read of a place and written to it.
 use Rattle.std.proofs.Common.{arith, inl, inr, ◌≡◌, ◌≢◌, ℕ, zero, suc, ◌+◌, List, [], ◌∷◌, ◌++◌, length, get_or, set, slice_index, slice_set, replicate, refl, sym, ap, ◌∙◌, subst, Option, Some, None}
 use Rattle.std.proofs.lemmas.Bool.{cases_eq}
 use Rattle.proc_values.specs.obj_layout.declared.kind.Kind.{Kind}
@@ -17,7 +17,7 @@ use Rattle.proc_values.specs.ps_base.CodeUnit.{UnitView, ConstantView, Constants
 use Rattle.proc_values.specs.ps_heap.Values.{Value, Num, Flag, Text, Nil, Pointer, Vector, Procedure, Nothing, as_written, as_compiled}
 use Rattle.proc_values.specs.ps_heap.Objects.{Heap, Object, Structure, Elements, Scope, Keyed, object_at, with_object, with_new, new_number}
 use Rattle.heap_meaning.specs.Units.{IsUnitSeen, AreSeen, IsConstantSeen}
-use Rattle.heap_meaning.specs.Standing.{Seen, Pairing, IsKindOf, StandsForScope, IsClosure, StandsFor, IsWordOf, AreFor, IsAs, IsLike, Both, Stands, IsOne, with_pair}
+use Rattle.heap_meaning.specs.Standing.{Seen, Pairing, IsKindOf, IsPointed, StandsForScope, IsClosure, StandsFor, IsWordOf, AreFor, IsAs, IsLike, IsOne}
 
 -- What stands for a value stands for it where more is seen, and where more is paired.
 
@@ -41,6 +41,12 @@ Kinds seen now = (n : reference.Reference) (it : Shown) → seen n it → IsKind
 
 pub kind-more : (seen now : Seen) (n : reference.Reference) (of : Kind) → Kinds seen now → IsKindOf seen n of → IsKindOf now n of
 kind-more seen now n of kinds k = subst (IsKindOf now n) k.kind_is (kinds n k.it k.there)
+
+pub pointed-more : (seen now : Seen) (n : reference.Reference) → Kinds seen now → IsPointed seen n → IsPointed now n
+pointed-more seen now n kinds p = elim p [
+  | inl k ↦ inl (kind-more seen now n kind.Structure kinds k)
+  | inr k ↦ inr (kind-more seen now n kind.Table kinds k)
+]
 
 -- every pair stays
 abbrev pub Pairs : Pairing → Pairing → Type 0
@@ -88,7 +94,7 @@ closure-more seen now pair more it of scope fixed kinds pairs c = record {
 pub stands-more : (seen now : Seen) (pair more : Pairing) (n : reference.Reference) (v : Value) → Fixed seen now → Kinds seen now → Pairs pair more → StandsFor seen pair n v → StandsFor now more n v
 stands-more seen now pair more n Nil fixed kinds pairs s = s
 stands-more seen now pair more n (Text bytes) fixed kinds pairs s = fixed-text seen now n bytes fixed s
-stands-more seen now pair more n (Pointer id) fixed kinds pairs s = (pairs n id s.0, kind-more seen now n kind.Structure kinds s.1)
+stands-more seen now pair more n (Pointer id) fixed kinds pairs s = (pairs n id s.0, pointed-more seen now n kinds s.1)
 stands-more seen now pair more n (Vector id) fixed kinds pairs s = (pairs n id s.0, kind-more seen now n kind.Vector kinds s.1)
 stands-more seen now pair more n (Num z) fixed kinds pairs s = absurd s
 stands-more seen now pair more n (Flag b) fixed kinds pairs s = absurd s
@@ -151,17 +157,7 @@ like-more seen now pair more it (Scope text parent names) fixed kinds pairs l = 
   is_parent = scope-more seen now pair more l.parent_name parent kinds pairs l.is_parent;
   are = are-more seen now pair more (forms_of text) l.names l.words names fixed kinds pairs l.are;
 }
-like-more seen now pair more it (Keyed table) fixed kinds pairs l = absurd l
-
--- A reading, and whatever loses no object: the same pairing.
-pub stands-within : (seen now : Seen) (heap : Heap) (pair : Pairing) → Within seen now → Stands seen heap pair → Stands now heap pair
-stands-within seen now heap pair grows s = record {
-  both = λ n id p.
-      let b = s.both n id p in
-      record { it = b.it; object = b.object; there = grows n b.it b.there; means = b.means; like = like-more seen now pair pair b.it b.object (λ m it k j. grows m it j) (λ m it j. record { it = it; there = grows m it j; kind_is = refl }) (λ m i q. q) b.like };
-  one_number = s.one_number;
-  one_name = s.one_name;
-}
+like-more seen now pair more it (Keyed table) fixed kinds pairs l = l
 
 -- Reading a place.
 
@@ -327,12 +323,17 @@ pub not-fixed : (seen : Seen) (pair : Pairing) (it : Shown) (object : Object) �
 not-fixed seen pair it (Structure class fields) l = subst IsFixed l.kind_is
 not-fixed seen pair it (Elements ty low elements) l = subst IsFixed l.rows.kind_is
 not-fixed seen pair it (Scope text parent names) l = subst IsFixed l.kind_is
-not-fixed seen pair it (Keyed table) l = absurd l
+not-fixed seen pair it (Keyed table) l = subst IsFixed l
+
+-- where one object changed, those stay that are of other kinds
+pub others-stay : (of : Kind → Type 0) (seen now : Seen) (n : reference.Reference) (it new : Shown) → IsOne seen → seen n it → (of it.kind → ⊥) → ChangedAt seen n new now
+    → (m : reference.Reference) (t : Shown) → of t.kind → seen m t → now m t
+others-stay of seen now n it new one there other c m t k j =
+    c.stays m t (λ e. other (subst of (sym (ap (λ (x : Shown). x.kind) (one n it t there (subst (λ (r : reference.Reference). seen r t) e j)))) k)) j
 
 -- where one object that may be written changed, those that may not stay
 pub fixed-changed : (seen now : Seen) (n : reference.Reference) (it new : Shown) → IsOne seen → seen n it → (IsFixed it.kind → ⊥) → ChangedAt seen n new now → Fixed seen now
-fixed-changed seen now n it new one there other c = λ m t k j.
-    c.stays m t (λ e. other (subst IsFixed (sym (ap (λ (x : Shown). x.kind) (one n it t there (subst (λ (r : reference.Reference). seen r t) e j)))) k)) j
+fixed-changed seen now n it new one there other c = others-stay IsFixed seen now n it new one there other c
 
 -- and each name keeps its kind, where the changed one does
 pub kinds-changed : (seen now : Seen) (n : reference.Reference) (it new : Shown) → IsOne seen → seen n it → new.kind ≡ it.kind → ChangedAt seen n new now → Kinds seen now
@@ -343,70 +344,3 @@ kinds-changed seen now n it new one there same c m t j =
           subst (λ (r : reference.Reference). IsKindOf now r t.kind) (sym e) (record { it = new; there = c.there; kind_is = same ∙ ap (λ (x : Shown). x.kind) is })
       | inr ne ↦ record { it = t; there = c.stays m t ne j; kind_is = refl }
     ]
-
--- A write on both sides: the same pairing.
-pub stands-written : (seen now : Seen) (heap : Heap) (pair : Pairing) (n : reference.Reference) (id : ℕ) (it new : Shown) (object : Object) → IsOne seen → Stands seen heap pair → pair n id → seen n it → (IsFixed it.kind → ⊥)
-    → new.kind ≡ it.kind → ChangedAt seen n new now → IsLike now pair new object → Stands now (with_object heap id object) pair
-stands-written seen now heap pair n id it new object one s p there other same_kind c like =
-    let fixed = fixed-changed seen now n it new one there other c in
-    let kinds = kinds-changed seen now n it new one there same_kind c in
-    record {
-      both = λ m i q. elim (cases_eq i id) [
-        | inl same ↦
-            let names : n ≡ m = s.one_name n m i (subst (λ (k : ℕ). pair n k) (sym same) p) q in
-            let mine = s.both n id p in
-            subst (λ (r : reference.Reference). Both now (with_object heap id object) pair r i) names
-            (subst (λ (k : ℕ). Both now (with_object heap id object) pair n k) (sym same)
-            (record { it = new; object = object; there = c.there; means = object-set heap id mine.object object mine.means; like = like }))
-        | inr apart ↦
-            let b = s.both m i q in
-            let ne : m ≢ n = λ e. apart (s.one_number n i id (subst (λ (r : reference.Reference). pair r i) e q) p) in
-            record {
-              it = b.it;
-              object = b.object;
-              there = c.stays m b.it ne b.there;
-              means = object-set_other heap id i object apart ∙ b.means;
-              like = like-more seen now pair pair b.it b.object fixed kinds (λ m i q. q) b.like;
-            }
-      ];
-      one_number = s.one_number;
-      one_name = s.one_name;
-    }
-
--- A new object on both sides: one more pair.
-pub stands-made : (seen now : Seen) (heap : Heap) (pair : Pairing) (n : reference.Reference) (new : Shown) (object : Object) → Stands seen heap pair → ((it : Shown) → seen n it → ⊥)
-    → ChangedAt seen n new now → IsLike now (with_pair pair n (new_number heap)) new object → Stands now (with_new heap object) (with_pair pair n (new_number heap))
-stands-made seen now heap pair n new object s fresh c like =
-    let more = with_pair pair n (new_number heap) in
-    let apart : (m : reference.Reference) (i : ℕ) → pair m i → m ≢ n = λ m i p e. let b = s.both m i p in fresh b.it (subst (λ (r : reference.Reference). seen r b.it) e b.there) in
-    let apart_id : (m : reference.Reference) (i : ℕ) → pair m i → i ≢ new_number heap = λ m i p e.
-    let b = s.both m i p in
-    let bad : Some b.object ≡ None = sym b.means ∙ ap (object_at heap) e ∙ object-none heap in absurd (cc) in
-    let stays : Within seen now = λ m it j. c.stays m it (λ e. fresh it (subst (λ (r : reference.Reference). seen r it) e j)) j in
-    let fixed : Fixed seen now = λ m it k j. stays m it j in
-    let kinds : Kinds seen now = λ m it j. record { it = it; there = stays m it j; kind_is = refl } in
-    record {
-      both = λ m i q. elim q [
-        | inl p ↦
-            let b = s.both m i p in
-            record {
-              it = b.it;
-              object = b.object;
-              there = c.stays m b.it (apart m i p) b.there;
-              means = object-before heap object b.object i b.means;
-              like = like-more seen now pair more b.it b.object fixed kinds (λ m i q. inl q) b.like;
-            }
-        | inr e ↦
-            subst (λ (r : reference.Reference). Both now (with_new heap object) more r i) (sym e.0)
-            (subst (λ (k : ℕ). Both now (with_new heap object) more n k) (sym e.1)
-            (record { it = new; object = object; there = c.there; means = object-last heap object; like = like }))
-      ];
-      one_number = λ m i j p q. elim p [
-        | inl a ↦ elim q [ inl b ↦ s.one_number m i j a b | inr b ↦ absurd (apart m i a b.0) ]
-        | inr a ↦ elim q [ inl b ↦ absurd (apart m j b a.0) | inr b ↦ a.1 ∙ sym b.1 ]
-      ];
-      one_name = λ m k i p q. elim p [
-        | inl a ↦ elim q [ inl b ↦ s.one_name m k i a b | inr b ↦ absurd (apart_id m i a b.1) ]
-        | inr a ↦ elim q [ inl b ↦ absurd (apart_id k i b a.1) | inr b ↦ a.0 ∙ sym b.0 ]
-      ];
-    }

@@ -1,4 +1,6 @@
 pub mod Units
+pub mod Values
+pub mod Tables
 pub mod Standing
 pub mod Denoting
 pub mod Paired
@@ -13,3 +15,5 @@ pub use Rattle.proc_values.specs.heap_texts as heap_texts
 pub use Rattle.heap_ops.specs.heap_places as heap_places
 pub use Rattle.heap_ops.specs as heap_ops
 pub use Rattle.proc_values.specs as proc_values
+pub use Rattle.node_rows.specs as node_rows
+pub use Rattle.node_rows.specs.avl_trees as avl_trees

@@ -1,69 +1,18 @@
--- Objects that are seen stand for objects of a heap. Structures, vectors and scopes have a name here and a number there, and a pairing says which
--- name goes with which number. A text is a value, and its object stands for its bytes; so is a procedure, whose object stands for its unit of code
--- and the scope that it was made in.
+-- Objects that are seen stand for the objects of a heap, under a pairing of their names with numbers: structures, vectors, scopes and tables.
 use Rattle.std.specs.Prelude.{◌≡◌, ◌⊎◌, ℕ, ℤ, true, List, [], ◌∷◌, ◌++◌, length, replicate, Option, Some, None}
-use Rattle.proc_values.specs.ps_base.CodeUnit.{UnitView}
 use Rattle.proc_values.specs.obj_layout.declared.kind.Kind.{Kind}
 use Rattle.proc_values.specs.obj_layout.declared.kind.Kind.TheVariants as kind
 use Rattle.proc_values.specs.obj_layout.declared.reference.Reference as reference
-use Rattle.proc_values.specs.obj_layout.declared.reference.Reference.TheVariants as name
 use Rattle.proc_values.specs.swizzle.Joint.{Shown}
 use Rattle.proc_values.specs.text_forms.declared.forms.Form.{Form}
 use Rattle.proc_values.specs.text_forms.declared.forms.Form.TheVariants as form
 use Rattle.proc_values.specs.text_forms.Forms.{forms_of, element_of}
 use Rattle.heap_ops.specs.heap_places.Words.{int_in, flag_in}
 use Rattle.heap_ops.specs.heap_places.Shapes.{IsText}
-use Rattle.proc_values.specs.Loaded.{IsFitUnit}
-use Rattle.proc_values.specs.ps_heap.Values.{Value, Num, Flag, Text, Nil, Pointer, Vector, Procedure, as_compiled}
+use Rattle.proc_values.specs.ps_heap.Values.{Value, Num, Flag}
 use Rattle.proc_values.specs.ps_heap.Objects.{Heap, Object, Structure, Elements, Scope, Keyed, object_at, is_vector}
-use Rattle.heap_meaning.specs.Units.{IsUnitSeen}
-
--- what is seen: which object a name has
-abbrev pub Seen : Type 1
-Seen = reference.Reference → Shown → Type 0
-
--- which name goes with which number
-abbrev pub Pairing : Type 1
-Pairing = reference.Reference → ℕ → Type 0
-
--- what is seen under a name is of this kind
-pub record IsKindOf (seen : Seen) (n : reference.Reference) (of : Kind) : Type 0 where
-  pub it : Shown
-  pub there : seen n it
-  pub kind_is : it.kind ≡ of
-
--- a name stands for a scope, or nil for none
-abbrev pub StandsForScope : Seen → Pairing → reference.Reference → Option ℕ → Type 0
-StandsForScope seen pair n None = n ≡ name.Nil
-StandsForScope seen pair n (Some id) = pair n id × IsKindOf seen n kind.Scope
-
--- What is seen of a closure: it refers to the code object of its unit, whose numbers fit their places, and to its scope.
-pub record IsClosure (seen : Seen) (pair : Pairing) (it : Shown) (of : UnitView) (scope : Option ℕ) : Type 0 where
-  pub kind_is : it.kind ≡ kind.Closure
-  pub code_name : reference.Reference
-  pub scope_name : reference.Reference
-  pub home : ℕ
-  pub refs : it.refs ≡ code_name ∷ scope_name ∷ []
-  pub nums : it.nums ≡ home ∷ []
-  pub is_unit : IsUnitSeen seen code_name of
-  pub fit : IsFitUnit of
-  pub is_scope : StandsForScope seen pair scope_name scope
-
--- a name is that of such a closure
-pub record StandsForProcedure (seen : Seen) (pair : Pairing) (n : reference.Reference) (of : UnitView) (scope : Option ℕ) : Type 0 where
-  pub it : Shown
-  pub there : seen n it
-  pub is : IsClosure seen pair it of scope
-
--- A name stands for a value that isn't a number: nil for nil, a text's for its bytes, a structure's or a vector's for the number that goes
--- with it, a closure's for the procedure of its unit and its scope. Nothing stands for a procedure as it is written.
-abbrev pub StandsFor : Seen → Pairing → reference.Reference → Value → Type 0
-StandsFor seen pair n Nil = n ≡ name.Nil
-StandsFor seen pair n (Text bytes) = IsText seen n bytes
-StandsFor seen pair n (Pointer id) = pair n id × IsKindOf seen n kind.Structure
-StandsFor seen pair n (Vector id) = pair n id × IsKindOf seen n kind.Vector
-StandsFor seen pair n (Procedure (as_compiled of) scope) = StandsForProcedure seen pair n of scope
-StandsFor seen pair n _ = ⊥
+use Rattle.heap_meaning.specs.Tables.{TablesStand}
+pub use Rattle.heap_meaning.specs.Values.{Seen, Pairing, IsKindOf, IsPointed, StandsForScope, IsClosure, StandsForProcedure, StandsFor}
 
 -- a word stands for an int or a bool
 abbrev pub IsWordOf : ℕ → Form → Value → Type 0
@@ -116,13 +65,17 @@ pub record IsScope (seen : Seen) (pair : Pairing) (it : Shown) (text : List ℕ)
   pub is_parent : StandsForScope seen pair parent_name parent
   pub are : AreFor seen pair (forms_of text) names words values
 
--- What is seen stands for an object of the heap.
+-- What is seen stands for an object of the heap. What a table's words and nodes tell is said of all tables at once (`TablesStand`).
 abbrev pub IsLike : Seen → Pairing → Shown → Object → Type 0
 IsLike seen pair it (Structure class fields) = IsStructure seen pair it class fields
 IsLike seen pair it (Elements ty low elements) = IsVector seen pair it ty low elements
 IsLike seen pair it (Scope text parent names) = IsScope seen pair it text parent names
--- nothing seen stands for a table yet
-IsLike seen pair it (Keyed table) = ⊥
+IsLike seen pair it (Keyed table) = it.kind ≡ kind.Table
+
+-- an object that is no table
+abbrev pub IsPlain : Object → Type 0
+IsPlain (Keyed table) = ⊥
+IsPlain object = Unit {0}
 
 -- The object of a name and that of the number that goes with it.
 pub record Both (seen : Seen) (heap : Heap) (pair : Pairing) (n : reference.Reference) (id : ℕ) : Type 0 where
@@ -132,11 +85,12 @@ pub record Both (seen : Seen) (heap : Heap) (pair : Pairing) (n : reference.Refe
   pub means : object_at heap id ≡ Some object
   pub like : IsLike seen pair it object
 
--- What is seen stands for the heap: the pairing is one-to-one, and what is paired is alike.
+-- What is seen stands for the heap: the pairing is one-to-one, what is paired is alike, and tables have their entries.
 pub record Stands (seen : Seen) (heap : Heap) (pair : Pairing) : Type 0 where
   pub both : (n : reference.Reference) (id : ℕ) → pair n id → Both seen heap pair n id
   pub one_number : (n : reference.Reference) (i j : ℕ) → pair n i → pair n j → i ≡ j
   pub one_name : (n m : reference.Reference) (id : ℕ) → pair n id → pair m id → n ≡ m
+  pub tables : TablesStand seen heap pair
 
 -- a name has one object
 abbrev pub IsOne : Seen → Type 0

@@ -3,5 +3,6 @@
 
 pub use heap_ops;
 pub use heap_ops::heap_places;
+pub use node_rows;
 pub use proc_values;
 pub use proc_values::{heap_texts, obj_layout, swizzle, text_forms};

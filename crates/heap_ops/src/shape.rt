@@ -173,7 +173,7 @@ pub fn read_shape<V: Vault>(
     requires held { IsHeld sw.old vector }
     ensures read { ReadsShape sw.old sw.new (V.outside vault.old) (V.outside vault.new) vector result }
     ensures typed { IfOk result (λ shape. HasType sw.new vector shape.form) }
-    ensures numbers { SameNumbers V.used_words V.directory_at V.most_words vault.old vault.new }
+    ensures numbers { SameNumbers V.used_words V.directory_at V.most_words V.access vault.old vault.new }
     ensures alive { OnOk result (V.alive vault.new) }
 {
     if !sw.is_kind(vector, Kind::Vector) {

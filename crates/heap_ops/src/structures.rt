@@ -45,7 +45,7 @@ pub fn is_class<V: Vault>(
     requires class { IsHeld sw.old class }
     requires text { (header_at sw.old class).kind ≡ Kind.Text }
     ensures told { TellsClass sw.old sw.new (V.outside vault.old) (V.outside vault.new) object (text_at sw.old class) result }
-    ensures numbers { SameNumbers V.used_words V.directory_at V.most_words vault.old vault.new }
+    ensures numbers { SameNumbers V.used_words V.directory_at V.most_words V.access vault.old vault.new }
     ensures alive { OnOk result (V.alive vault.new) }
 {
     match object {
@@ -70,7 +70,7 @@ pub fn get_field<V: Vault>(
     requires text { (header_at sw.old class).kind ≡ Kind.Text }
     requires field { IsNamed (text_at sw.old class) located }
     ensures got { GetsField sw.old sw.new (V.outside vault.old) (V.outside vault.new) object (text_at sw.old class) located result }
-    ensures numbers { SameNumbers V.used_words V.directory_at V.most_words vault.old vault.new }
+    ensures numbers { SameNumbers V.used_words V.directory_at V.most_words V.access vault.old vault.new }
     ensures alive { UnlessFault result (V.alive vault.new) }
 {
     let at = match open_structure(sw, vault, object, class, located.rows) {
@@ -106,7 +106,7 @@ pub fn set_field<V: Vault>(
     requires near { IsNear sw.old to }
     requires fits { fit_damage located.place.form to ≡ None }
     ensures set { SetsField sw.old sw.new (V.outside vault.old) (V.outside vault.new) object (text_at sw.old class) located to result }
-    ensures numbers { SameNumbers V.used_words V.directory_at V.most_words vault.old vault.new }
+    ensures numbers { SameNumbers V.used_words V.directory_at V.most_words V.access vault.old vault.new }
     ensures alive { UnlessFault result (V.alive vault.new) }
     ensures stands { UnlessFault result (Stands sw.old sw.new) }
 {
@@ -133,7 +133,7 @@ fn open_structure<V: Vault>(
     requires class { IsHeld sw.old class }
     requires text { (header_at sw.old class).kind ≡ Kind.Text }
     ensures opened { OpensFields sw.old sw.new (V.outside vault.old) (V.outside vault.new) object (text_at sw.old class) rows result }
-    ensures numbers { SameNumbers V.used_words V.directory_at V.most_words vault.old vault.new }
+    ensures numbers { SameNumbers V.used_words V.directory_at V.most_words V.access vault.old vault.new }
     ensures alive { UnlessFault result (V.alive vault.new) }
 {
     let Some(at) = object else {
@@ -162,7 +162,7 @@ fn is_of_class<V: Vault>(
     requires class { IsHeld sw.old class }
     requires text { (header_at sw.old class).kind ≡ Kind.Text }
     ensures told { TellsClass sw.old sw.new (V.outside vault.old) (V.outside vault.new) (Some object) (text_at sw.old class) result }
-    ensures numbers { SameNumbers V.used_words V.directory_at V.most_words vault.old vault.new }
+    ensures numbers { SameNumbers V.used_words V.directory_at V.most_words V.access vault.old vault.new }
     ensures alive { OnOk result (V.alive vault.new) }
 {
     if !sw.is_kind(object, Kind::Structure) {

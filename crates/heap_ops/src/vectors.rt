@@ -77,7 +77,7 @@ pub fn low<V: Vault>(sw: &mut Swizzle, vault: &mut V, vector: u32) -> Result<i32
     requires alive { V.alive vault.old }
     requires held { IsHeld sw.old vector }
     ensures told { TellsLow sw.old sw.new (V.outside vault.old) (V.outside vault.new) vector result }
-    ensures numbers { SameNumbers V.used_words V.directory_at V.most_words vault.old vault.new }
+    ensures numbers { SameNumbers V.used_words V.directory_at V.most_words V.access vault.old vault.new }
     ensures alive { OnOk result (V.alive vault.new) }
 {
     match read_shape(sw, vault, vector) {
@@ -92,7 +92,7 @@ pub fn high<V: Vault>(sw: &mut Swizzle, vault: &mut V, vector: u32) -> Result<i3
     requires alive { V.alive vault.old }
     requires held { IsHeld sw.old vector }
     ensures told { TellsHigh sw.old sw.new (V.outside vault.old) (V.outside vault.new) vector result }
-    ensures numbers { SameNumbers V.used_words V.directory_at V.most_words vault.old vault.new }
+    ensures numbers { SameNumbers V.used_words V.directory_at V.most_words V.access vault.old vault.new }
     ensures alive { OnOk result (V.alive vault.new) }
 {
     match read_shape(sw, vault, vector) {
@@ -113,7 +113,7 @@ pub fn get_element<V: Vault>(
     requires alive { V.alive vault.old }
     requires held { IsHeld sw.old vector }
     ensures got { GetsElement sw.old sw.new (V.outside vault.old) (V.outside vault.new) vector at result }
-    ensures numbers { SameNumbers V.used_words V.directory_at V.most_words vault.old vault.new }
+    ensures numbers { SameNumbers V.used_words V.directory_at V.most_words V.access vault.old vault.new }
     ensures alive { UnlessFault result (V.alive vault.new) }
 {
     let shape = match read_shape(sw, vault, vector) {
@@ -148,7 +148,7 @@ pub fn set_element<V: Vault>(
     requires held { IsHeld sw.old vector }
     requires near { IsNear sw.old to }
     ensures set { SetsElement sw.old sw.new (V.outside vault.old) (V.outside vault.new) vector at to result }
-    ensures numbers { SameNumbers V.used_words V.directory_at V.most_words vault.old vault.new }
+    ensures numbers { SameNumbers V.used_words V.directory_at V.most_words V.access vault.old vault.new }
     ensures alive { UnlessFault result (V.alive vault.new) }
     ensures stands { UnlessFault result (Stands sw.old sw.new) }
 {

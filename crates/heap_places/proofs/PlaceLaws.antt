@@ -3,7 +3,7 @@ use Rattle.std.proofs.Common.{Bool, ℤ, ◌^◌, ◌≡◌, ℕ, ◌<◌, [], �
 use Rattle.std.specs.Prelude.{Ok}
 use Rattle.heap_texts.specs.ps_outside.Outside.{Outside}
 use Rattle.heap_texts.specs.obj_layout.Stored.{Space, Damage, damage}
-use Rattle.heap_texts.specs.obj_layout.declared.vault.VaultFault.TheVariants.{Damaged, Device, Output, Full}
+use Rattle.heap_texts.specs.obj_layout.declared.vault.VaultFault.TheVariants.{Damaged, Device, Output, Full, NoPages}
 use Rattle.heap_texts.specs.obj_layout.declared.reference.Reference.{Reference}
 use Rattle.heap_texts.specs.text_forms.declared.forms.Form.{Form}
 use Rattle.heap_texts.specs.text_forms.declared.forms.Form.TheVariants as form
@@ -83,6 +83,7 @@ fails-damage a b at found wanted fault leaves e = record {
   cause = λ device. let no : Vault (Damaged at found wanted) ≡ Vault Device = sym e ∙ device in absurd (cc);
   other = λ output. let no : Vault (Damaged at found wanted) ≡ Vault Output = sym e ∙ output in cc;
   full = λ used most capacity full. let no : Vault (Damaged at found wanted) ≡ Vault (Full used most capacity) = sym e ∙ full in cc;
+  pages = λ held lacked all full. let no : Vault (Damaged at found wanted) ≡ Vault (NoPages held lacked all) = sym e ∙ full in cc;
 }
 
 -- objects that stand twice

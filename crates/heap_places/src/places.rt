@@ -50,7 +50,7 @@ pub fn read_place<V: Vault>(
     requires held { IsHeld sw.old object }
     requires place { HasPlace (shown_at sw.old object) place.form place.index }
     ensures read { ReadsPlace sw.old sw.new (V.outside vault.old) (V.outside vault.new) object place.form place.index result }
-    ensures numbers { SameNumbers V.used_words V.directory_at V.most_words vault.old vault.new }
+    ensures numbers { SameNumbers V.used_words V.directory_at V.most_words V.access vault.old vault.new }
     ensures alive { OnOk result (V.alive vault.new) }
 {
     sw.sound();

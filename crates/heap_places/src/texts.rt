@@ -21,7 +21,7 @@ pub fn first_text<V: Vault>(
     requires alive { V.alive vault.old }
     requires held { IsHeld sw.old object }
     ensures touched { TouchesText sw.old sw.new (V.outside vault.old) (V.outside vault.new) object result }
-    ensures numbers { SameNumbers V.used_words V.directory_at V.most_words vault.old vault.new }
+    ensures numbers { SameNumbers V.used_words V.directory_at V.most_words V.access vault.old vault.new }
     ensures alive { OnOk result (V.alive vault.new) }
 {
     sw.sound();

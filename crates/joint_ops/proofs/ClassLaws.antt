@@ -25,7 +25,7 @@ use Rattle.heap_meaning.proofs.FieldLaws.{same-text, other-text}
 use Rattle.heap_meaning.proofs.GivenLaws as given
 use Rattle.heap_meaning.specs.swizzle.Touch.{Keeps}
 use Rattle.joint_ops.specs.World.{IsWorld, seen, DenotesIn, Stands, Answers}
-use Rattle.joint_ops.proofs.SeenLaws.{none-nil, some-not_nil, text-denoted, pointer-denoted, vector-denoted, procedure-kind, StructureAt, structure-at, first-text, Known, known-text, reads-stands, IsCaused, caused-touch, breaks, text-is, no-text, no-damage, joint-one}
+use Rattle.joint_ops.proofs.SeenLaws.{none-nil, some-not_nil, text-denoted, vector-denoted, procedure-kind, StructureAt, structure-pointed, no-class, first-text, Known, known-text, reads-stands, IsCaused, caused-touch, breaks, text-is, no-text, no-damage, joint-one}
 
 -- A value that a structure denotes is a pointer.
 pub structure-value : (here : area.Heap) (outside : Outside Space) (names : List reference.Reference) (at : ℕ) (o : Value) → IsHeap here
@@ -44,16 +44,16 @@ structure-value here outside names at Nothing h d k = absurd (d.stands)
 
 -- and what no structure denotes is of no class
 pub other-value : (here : area.Heap) (outside : Outside Space) (of : Heap) (names : List reference.Reference) (at : ℕ) (o : Value) (text : List ℕ)
-    → IsHeap here → DenotesIn here outside names (Some at) o → (header_at here at).kind ≢ kind.Structure → is_class of o text ≡ false
+    → IsHeap here → IsWorld here outside of names → DenotesIn here outside names (Some at) o → (header_at here at).kind ≢ kind.Structure → is_class of o text ≡ false
 unfolding is_class
-other-value here outside of names at Nil text h d k = refl
-other-value here outside of names at (Text bytes) text h d k = refl
-other-value here outside of names at (Pointer id) text h d k = absurd (k (pointer-denoted here outside names at id h d).kind)
-other-value here outside of names at (Vector id) text h d k = refl
-other-value here outside of names at (Num z) text h d k = refl
-other-value here outside of names at (Flag b) text h d k = refl
-other-value here outside of names at (Procedure whole scope) text h d k = refl
-other-value here outside of names at Nothing text h d k = refl
+other-value here outside of names at Nil text h w d k = refl
+other-value here outside of names at (Text bytes) text h w d k = refl
+other-value here outside of names at (Pointer id) text h w d k = no-class here outside of names at id text h w d k
+other-value here outside of names at (Vector id) text h w d k = refl
+other-value here outside of names at (Num z) text h w d k = refl
+other-value here outside of names at (Flag b) text h w d k = refl
+other-value here outside of names at (Procedure whole scope) text h w d k = refl
+other-value here outside of names at Nothing text h w d k = refl
 
 pub none-value : (here : area.Heap) (outside : Outside Space) (of : Heap) (names : List reference.Reference) (o : Value) (text : List ℕ)
     → DenotesIn here outside names None o → is_class of o text ≡ false
@@ -132,8 +132,7 @@ module _ (old new : area.Heap) (before after : Outside Space) (of : Heap) (names
       → Answers old new before after (λ (x : Bool) (wanted : Bool). x ≡ wanted) of names (Yields (is_class of o text)) (Ok is)
   answers-class at given_text text o is e k d t =
       let p = structure-value old before names at o h d k in
-      let s = structure-at old before of names at (p.0) h w
-      (pointer-denoted old before names at (p.0) h (subst (DenotesIn old before names (Some at)) (p.1) d)) in
+      let s = structure-pointed old before of names at (p.0) h w (subst (DenotesIn old before names (Some at)) (p.1) d) k in
       let told = pointer-class at (p.0) text is s (subst (λ (x : List ℕ). TellsClass old new before after (Some at) x (Ok is)) e t) in
       (is_class of o text, refl, told.0 ∙ ap (λ (v : Value). is_class of v text) (sym (p.1)), told.1)
 
@@ -142,8 +141,7 @@ module _ (old new : area.Heap) (before after : Outside Space) (of : Heap) (names
       → Answers old new before after (λ (x : Bool) (wanted : Bool). x ≡ wanted) of names (Yields (is_class of o text)) (Err (op.Swizzle fault))
   breaks-class at given_text text o fault k d t =
       let p = structure-value old before names at o h d k in
-      let s = structure-at old before of names at (p.0) h w
-      (pointer-denoted old before names at (p.0) h (subst (DenotesIn old before names (Some at)) (p.1) d)) in
+      let s = structure-pointed old before of names at (p.0) h w (subst (DenotesIn old before names (Some at)) (p.1) d) k in
       breaks old new before after fault (t.0) (caused-class at (p.0) fault s (t.1))
 
 -- What is said whatever the vault.

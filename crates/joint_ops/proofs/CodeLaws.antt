@@ -155,7 +155,12 @@ unit-held here at (unit code cs frame) i = i.0.held
 pub no-names : (here : area.Heap) (outside : Outside Space) → IsWorld here outside [] []
 no-names here outside = record {
   row = record {
-    stands = record { both = λ n id p. absurd (cc); one_number = λ n i j p q. absurd (cc); one_name = λ n m id p q. absurd (cc) };
+    stands = record {
+      both = λ n id p. absurd (cc);
+      one_number = λ n i j p q. absurd (cc);
+      one_name = λ n m id p q. absurd (cc);
+      tables = record { nodes = λ id. []; each = λ n id table p is. absurd (cc); are_nodes = λ id n a. absurd a; apart = λ i j n a b. absurd a };
+    };
     long = refl;
   };
 }
@@ -340,6 +345,7 @@ damage-fails before after fault at found wanted is leaves = record {
   cause = λ e. let both = sym is ∙ e in absurd (cc);
   other = λ e. let both = sym is ∙ e in cc;
   full = λ used more capacity e. let both = sym is ∙ e in cc;
+  pages = λ held more all e. let both = sym is ∙ e in cc;
 }
 
 pub constant-fails : (old new : area.Heap) (before after : Outside Space) (code index : ℕ) (r : Result ℕ SwizzleFault)

@@ -345,6 +345,7 @@ module _ (old new : area.Heap) (before after : Outside Space) (of : Heap) (names
             (kind-with mid (shown_at mid at) index c)
             (element-written mid (seen mid after) (paired names) (shown_at mid at) v.ty v.low v.elements g.n c e there p.below
             (form-stored after mid names (element_of v.ty) c e shaped (for-carried old mid before after names names c e read.carries for)))
+            tt
             (rewritten mid new at index c g.heap stays.held written),
       )
   writes-element at id z y c e (Err (op.Trap t)) q v form for g =

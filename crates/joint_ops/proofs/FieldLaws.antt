@@ -34,7 +34,7 @@ use Rattle.heap_meaning.proofs.GivenLaws.{located-at, field-read, field-fits}
 use Rattle.heap_meaning.specs.heap_ops.Outcomes.{UnlessFault}
 use Rattle.heap_meaning.specs.swizzle.Touch.{Keeps}
 use Rattle.joint_ops.specs.World.{IsWorld, seen, DenotesIn, IsForIn, IsOfForm, Answers, BreaksAsReading}
-use Rattle.joint_ops.proofs.SeenLaws.{none-nil, some-not_nil, text-denoted, pointer-denoted, vector-denoted, procedure-kind, StructureAt, structure-at, Known, known-value, reads-within, as-within, reads-stands, IsCaused, caused-fetch, breaks, text-is, no-damage, joint-one}
+use Rattle.joint_ops.proofs.SeenLaws.{none-nil, some-not_nil, text-denoted, pointer-denoted, vector-denoted, procedure-kind, StructureAt, structure-pointed, no-class, Known, known-value, reads-within, as-within, reads-stands, IsCaused, caused-fetch, breaks, text-is, no-damage, joint-one}
 use Rattle.joint_ops.proofs.FormLaws.{holds-form, holds-near}
 use Rattle.joint_ops.proofs.ClassLaws.{class-text, class-is, other-class, field-at, caused-fields}
 
@@ -131,8 +131,12 @@ module _ (old new : area.Heap) (before after : Outside Space) (of : Heap) (names
       → DenotesIn old before names (Some at) o → located_in (forms_of text) n ≡ Some l
       → GetsField old new before after (Some at) text l result → Gives (field_of of o text n) l result
   unfolding field_of
-  some-field at text n (Pointer id) l result d is g =
-      pointer-field at id text n l result (structure-at old before of names at id h w (pointer-denoted old before names at id h d)) is g
+  some-field at text n (Pointer id) l result d is g = elim (pointer-denoted old before names at id h d).kind [
+    | inl k ↦ pointer-field at id text n l result (structure-pointed old before of names at id h w d k) is g
+    | inr k ↦
+        let ne : (header_at old at).kind ≢ kind.Structure = λ s. let bad : kind.Table ≡ kind.Structure = sym k ∙ s in absurd (cc) in
+        other-field at text l (field_of of (Pointer id) text n) result ne (no-field of id text n (no-class old before of names at id text h w d ne)) g
+  ]
   some-field at text n (Text bytes) l result d is g =
       other-field at text l (Fails trap.WrongClass) result
       (λ k. let bad : kind.Text ≡ kind.Structure = sym (text-denoted old before names at bytes h d).kind ∙ k in cc) refl g

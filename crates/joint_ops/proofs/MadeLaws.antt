@@ -1,7 +1,7 @@
 -- New structures and vectors, beside a vault.
 use mir.Val.{SFits}
 use Rattle.std.proofs.lemmas.Bool.{lt-ltb}
-use Rattle.std.proofs.Common.{arith, w32, ◌^◌, negsuc, ◌≡◌, ℕ, zero, suc, ◌+◌, ◌*◌, ℤ, pos, List, [], ◌∷◌, length, get_or, replicate, refl, sym, ap, ◌∙◌, subst, Option, Some, None, Bool, true, false}
+use Rattle.std.proofs.Common.{arith, inl, w32, ◌^◌, negsuc, ◌≡◌, ℕ, zero, suc, ◌+◌, ◌*◌, ℤ, pos, List, [], ◌∷◌, length, get_or, replicate, refl, sym, ap, ◌∙◌, subst, Option, Some, None, Bool, true, false}
 use Rattle.std.specs.Prelude.{Result, Ok, Err, ◌-ℤ◌, IfOk}
 use Rattle.std.proofs.lemmas.List.{length-replicate}
 use Rattle.heap_meaning.specs.ps_outside.Outside.{Outside}
@@ -38,6 +38,7 @@ use Rattle.heap_meaning.specs.ps_heap.Texts.{Yields}
 use Rattle.heap_meaning.specs.ps_heap.Objects.{Heap, Object, Structure, Elements, new_number, is_vector, is_made, vector_of, filled_vector, count_from}
 use Rattle.heap_meaning.specs.ps_heap.Objects as meaning
 use Rattle.heap_meaning.specs.ps_heap.Weights.{own_weight}
+use Rattle.heap_meaning.specs.Tables.{IsNewTable}
 use Rattle.heap_meaning.specs.Standing.{StandsFor, IsKindOf, IsLike}
 use Rattle.heap_meaning.specs.Paired.{name_in, paired, and_name}
 use Rattle.heap_meaning.proofs.StandingLaws.{Pairs, like-more}
@@ -101,9 +102,9 @@ module _ (outside : Outside Space) where
 
   pub object-made : (old new : area.Heap) (of : Heap) (names : List reference.Reference) (at : ℕ) (o : area_objects.Object) (object : Object)
       → IsHeap old → IsWorld old outside of names → IsInside old o → o.header.pid ≡ 0 → IsMade old new at o
-      → IsLike (seen old outside) (paired names) (shown (name_of old) o) object → 8 * size_of o ≡ own_weight object
+      → IsLike (seen old outside) (paired names) (shown (name_of old) o) object → IsNewTable (shown (name_of old) o) object → 8 * size_of o ≡ own_weight object
       → ObjectMade old new of names o.header.kind at object
-  object-made old new of names at o object h w inside no_pid m like weight =
+  object-made old new of names at o object h w inside no_pid m like blank weight =
       let keeps = made-keeps old new at o h m in
       let n = name.Local (top_of old) in
       let more = and_name names n in
@@ -121,7 +122,7 @@ module _ (outside : Outside Space) where
         more = more;
         world = record {
           row = row-made (seen old outside) (seen new outside) of names n (shown (name_of old) o) object w.row
-              (λ it j. name-fresh old (IsStored outside) it h j) changed grown;
+              (λ it j. name-fresh old (IsStored outside) it h j) changed grown blank;
         };
         carries = keeps-carries old new outside outside names more keeps grows pairs;
         top = omega (arith, made-top old new at o m, weight);
@@ -140,13 +141,13 @@ module _ (outside : Outside Space) where
       (cs : List code.Value) (at : ℕ) (object : Object) (denoting : ℕ → Value) → IsHeap old → IsWorld old outside of names
       → IsHeld old text → AreNear old cs → IsMade old new at (filled k text low cs)
       → IsLike (seen old outside) (paired names) (shown (name_of old) (filled k text low cs)) object
-      → 8 * size_of (filled k text low cs) ≡ own_weight object
+      → IsNewTable (shown (name_of old) (filled k text low cs)) object → 8 * size_of (filled k text low cs) ≡ own_weight object
       → ((n : reference.Reference) (id : ℕ) (more : List reference.Reference) → paired more n id → IsKindOf (seen new outside) n k
       → StandsFor (seen new outside) (paired more) n (denoting id))
       → IsNew old new outside of names denoting object at
   unfolding filled
-  new-object old new of names k text low cs at object denoting h w held near m like weight stands =
-      let made = object-made old new of names at (filled k text low cs) object h w (inside-filled old k text low cs held near) refl m like weight in
+  new-object old new of names k text low cs at object denoting h w held near m like blank weight stands =
+      let made = object-made old new of names at (filled k text low cs) object h w (inside-filled old k text low cs held near) refl m like blank weight in
       record {
         more = made.more;
         world = made.world;
@@ -172,8 +173,8 @@ module _ (outside : Outside Space) where
       (text-stands old names class text d) refl (are-of outside old names (forms_of text) cs vs are) in (
         Structure text vs,
         refl,
-        new-object old new of names kind.Structure class None cs at (Structure text vs) Pointer h w held near m like
-            (structure-weight kind.Structure class cs text vs (are-long outside old names (forms_of text) cs vs are)) (λ n id more p k. (p, k)),
+        new-object old new of names kind.Structure class None cs at (Structure text vs) Pointer h w held near m like tt
+            (structure-weight kind.Structure class cs text vs (are-long outside old names (forms_of text) cs vs are)) (λ n id more p k. (p, inl k)),
       )
 
   pub no-structure : (old new : area.Heap) (of : Heap) (names : List reference.Reference) (class : ℕ) (cs : List code.Value) (text : List ℕ)
@@ -215,7 +216,7 @@ module _ (outside : Outside Space) where
     Elements text low vs,
     refl,
     new-object old new of names kind.Vector ty (Some low) cs at (Elements text low vs) Vector h w held near m
-        (elements-like old names ty low cs text vs int fits d are)
+        (elements-like old names ty low cs text vs int fits d are) tt
         (vector-weight kind.Vector ty low cs text vs (are-long outside old names (replicate (length vs) (element_of text)) cs vs are))
         (λ n id more p k. (p, k)),
   )

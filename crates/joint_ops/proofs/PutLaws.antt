@@ -28,7 +28,7 @@ use Rattle.heap_meaning.specs.Paired.{paired}
 use Rattle.heap_meaning.proofs.FieldLaws.{field-put, no-field_put}
 use Rattle.heap_meaning.proofs.GivenLaws.{shown_with, field-written}
 use Rattle.joint_ops.specs.World.{IsWorld, seen, DenotesIn, IsForIn, IsOfForm, Writes, BreaksAsReading}
-use Rattle.joint_ops.proofs.SeenLaws.{none-nil, some-not_nil, text-denoted, pointer-denoted, vector-denoted, procedure-kind, StructureAt, structure-at, reads-within, as-within, reads-stands, breaks}
+use Rattle.joint_ops.proofs.SeenLaws.{none-nil, some-not_nil, text-denoted, pointer-denoted, vector-denoted, procedure-kind, StructureAt, structure-pointed, no-class, reads-within, as-within, reads-stands, breaks}
 use Rattle.joint_ops.proofs.FormLaws.{form-stored}
 use Rattle.joint_ops.proofs.ClassLaws.{class-is, other-class, field-at, caused-fields}
 use Rattle.joint_ops.proofs.RewriteLaws.{rewritten, write-stands, for-carried}
@@ -81,6 +81,7 @@ module _ (old new : area.Heap) (before after : Outside Space) (of : Heap) (names
             (no-bytes (header_at mid at).kind kind.Structure there.kind_is (λ e. cc) (λ e. cc))
             (kind-with mid (shown_at mid at) index c)
             (field-written mid (seen mid after) (paired names) (shown_at mid at) text s.fields n l c v there is stored)
+            tt
             (rewritten mid new at index c g.heap stays.held g.written),
       )
   pointer-put at id text n l c v (Err (op.Trap t)) s is form for g = (
@@ -102,8 +103,12 @@ module _ (old new : area.Heap) (before after : Outside Space) (of : Heap) (names
       → DenotesIn old before names (Some at) o → located_in (forms_of text) n ≡ Some l → IsOfForm l.place.form c → IsForIn old before names c v
       → SetsField old new before after (Some at) text l c result → Writes old new before after of names (with_field of o text n v) result
   unfolding with_field
-  some-put at text n (Pointer id) l c v result d is form for g =
-      pointer-put at id text n l c v result (structure-at old before of names at id h w (pointer-denoted old before names at id h d)) is form for g
+  some-put at text n (Pointer id) l c v result d is form for g = elim (pointer-denoted old before names at id h d).kind [
+    | inl k ↦ pointer-put at id text n l c v result (structure-pointed old before of names at id h w d k) is form for g
+    | inr k ↦
+        let ne : (header_at old at).kind ≢ kind.Structure = λ s. let bad : kind.Table ≡ kind.Structure = sym k ∙ s in absurd (cc) in
+        other-put at text l c (with_field of (Pointer id) text n v) result ne (no-field_put of id text n v (no-class old before of names at id text h w d ne)) g
+  ]
   some-put at text n (Text bytes) l c v result d is form for g =
       other-put at text l c (Fails trap.WrongClass) result
       (λ k. let bad : kind.Text ≡ kind.Structure = sym (text-denoted old before names at bytes h d).kind ∙ k in cc) refl g

@@ -234,9 +234,9 @@ module _ (outside : Outside Space) where
 pub write-stands : (old mid new : area.Heap) (before after : Outside Space) (of : Heap) (names : List reference.Reference) (at id : ℕ) (it : Shown)
     (object : Object) → IsHeap mid → ((a b : Space) → after.contents a → after.contents b → a ≡ b) → Stands old mid before after of names
     → IsHeld mid at → paired names (name_at mid at) id → (HasBytes (header_at mid at).kind → ⊥)
-    → it.kind ≡ (shown_at mid at).kind → standing.IsLike (seen mid after) (paired names) it object → Rewritten mid new at it
+    → it.kind ≡ (shown_at mid at).kind → standing.IsLike (seen mid after) (paired names) it object → standing.IsPlain object → Rewritten mid new at it
     → Stands old new before after (with_object of id object) names
-write-stands old mid new before after of names at id it object h is_one s there p none same like r =
+write-stands old mid new before after of names at id it object h is_one s there p none same like plain r =
     let a = seen mid after in
     let b = seen new after in
     let one = seen-one mid after h is_one in
@@ -248,7 +248,7 @@ write-stands old mid new before after of names at id it object h is_one s there 
     let passes : Passes mid new a b = record { names = rewritten-names mid new at it there r; fixed = fixed; kinds = kinds } in
     record {
       world = record {
-        row = row-written a b of names (name_at mid at) id (shown_at mid at) it object one s.world.row p seen_now written same changed
+        row = row-written a b of names (name_at mid at) id (shown_at mid at) it object one s.world.row p seen_now plain same changed
             (like-more a b (paired names) (paired names) it object fixed kinds (λ n i q. q) like);
       };
       carries = record {

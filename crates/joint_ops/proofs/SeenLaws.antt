@@ -1,5 +1,5 @@
 -- What is seen of area and vault, and what becomes of it as objects are fetched.
-use Rattle.std.proofs.Common.{ℤ, arith, inl, inr, ◌⊎◌, ◌≡◌, ℕ, ◌*◌, ◌≤◌, List, get_or, refl, sym, ap, ◌∙◌, subst, Option, Some, None}
+use Rattle.std.proofs.Common.{ℤ, arith, inl, inr, ◌⊎◌, ◌≡◌, ◌≢◌, false, ℕ, ◌*◌, ◌≤◌, List, get_or, refl, sym, ap, ◌∙◌, subst, Option, Some, None}
 use Rattle.std.specs.Prelude.{take, drop}
 use Rattle.heap_meaning.specs.ps_base.CodeUnit.{UnitView}
 use Rattle.heap_meaning.specs.ps_outside.Outside.{Outside, SameContents}
@@ -10,7 +10,7 @@ use Rattle.heap_meaning.specs.obj_layout.declared.kind.Kind.{Kind}
 use Rattle.heap_meaning.specs.obj_layout.declared.kind.Kind.TheVariants as kind
 use Rattle.heap_meaning.specs.obj_layout.declared.reference.Reference as reference
 use Rattle.heap_meaning.specs.obj_layout.declared.reference.Reference.TheVariants as name
-use Rattle.heap_meaning.specs.obj_layout.declared.vault.VaultFault.TheVariants.{Device, Output, Full, Damaged}
+use Rattle.heap_meaning.specs.obj_layout.declared.vault.VaultFault.TheVariants.{Device, Output, Full, NoPages, Damaged}
 use Rattle.heap_meaning.specs.swizzle.declared.fault.SwizzleFault.{SwizzleFault}
 use Rattle.heap_meaning.specs.swizzle.declared.fault.SwizzleFault.TheVariants.{AreaFull, Vault}
 use Rattle.heap_meaning.specs.swizzle.Objects.{words_before}
@@ -34,7 +34,7 @@ use Rattle.heap_meaning.specs.ps_heap.Values.{Value, Num, Flag, Text, Nil, Point
 use Rattle.heap_meaning.specs.ps_heap.Objects.{Heap, Object, Structure, Elements, Scope, Keyed}
 use Rattle.heap_meaning.specs.ps_heap.Objects as meaning
 use Rattle.heap_meaning.specs.Units.{IsUnitSeen}
-use Rattle.heap_meaning.specs.Standing.{Seen, Pairing, IsKindOf, StandsFor, IsAs, IsStructure, IsVector, IsLike, IsOne}
+use Rattle.heap_meaning.specs.Standing.{Seen, Pairing, IsKindOf, IsPointed, StandsFor, IsAs, IsStructure, IsVector, IsLike, IsOne}
 use Rattle.heap_meaning.specs.Denoting.{DenotesValue, DenotesScope}
 use Rattle.heap_meaning.specs.Paired.{paired}
 use Rattle.heap_meaning.proofs.StandingLaws.{Fixed, Kinds, Pairs, text-more, unit-more, as-more, stands-more, scope-more}
@@ -199,11 +199,15 @@ pub nil-unseen : (here : area.Heap) (outside : Outside Space) (it : Shown) → s
 nil-unseen here outside it (inl a) = name-not_nil here a.at (sym a.name_is)
 nil-unseen here outside it (inr v) = let bad : name.Nil ≡ name.Pid v.pid = v.name_is in absurd (cc)
 
+-- a structure or a table is known
+pointed-known : (here : area.Heap) (outside : Outside Space) (n : reference.Reference) → IsPointed (seen here outside) n → IsKnown (seen here outside) n
+pointed-known here outside n p = elim p [ inl k ↦ record { it = k.it; is = k.there } | inr k ↦ record { it = k.it; is = k.there } ]
+
 nil-stands : (here : area.Heap) (outside : Outside Space) (names : List reference.Reference) (n : reference.Reference) (v : Value) → n ≡ name.Nil
     → StandsFor (seen here outside) (paired names) n v → v ≡ Nil
 nil-stands here outside names n Nil e s = refl
 nil-stands here outside names n (Text bytes) e s = absurd (nil-unseen here outside s.it (subst (λ (m : reference.Reference). seen here outside m s.it) e s.there))
-nil-stands here outside names n (Pointer id) e s = absurd (nil-unseen here outside s.1.it (subst (λ (m : reference.Reference). seen here outside m s.1.it) e s.1.there))
+nil-stands here outside names n (Pointer id) e s = let k = pointed-known here outside n s.1 in absurd (nil-unseen here outside k.it (subst (λ (m : reference.Reference). seen here outside m k.it) e k.is))
 nil-stands here outside names n (Vector id) e s = absurd (nil-unseen here outside s.1.it (subst (λ (m : reference.Reference). seen here outside m s.1.it) e s.1.there))
 nil-stands here outside names n (Num z) e s = absurd s
 nil-stands here outside names n (Flag b) e s = absurd s
@@ -238,7 +242,7 @@ text-denoted here outside names at bytes h d =
     let kinds : (header_at here at).kind ≡ kind.Text = sym (ap (λ (x : Shown). x.kind) is) ∙ t.kind in
     record { held = d.denotes.0; kind = kinds; bytes_are = shown-bytes here at kinds ∙ sym (ap shown_text is) ∙ t.bytes_are }
 
--- An object that denotes a structure or a vector: its name is paired with the number, and its kind is known.
+-- An object that denotes a vector, or is a structure: its name is paired with the number, and its kind is known.
 pub record ObjectAt (here : area.Heap) (names : List reference.Reference) (at id : ℕ) (of : Kind) : Type 0 where
   pub held : IsHeld here at
   pub pair : paired names (name_at here at) id
@@ -252,9 +256,22 @@ object-denoted here outside names at id n of h held e s = record {
   kind = kind-at here outside at n of h held e s.1;
 }
 
+-- An object that denotes a pointer is a structure or a table.
+pub record PointedAt (here : area.Heap) (names : List reference.Reference) (at id : ℕ) : Type 0 where
+  pub held : IsHeld here at
+  pub pair : paired names (name_at here at) id
+  pub kind : ((header_at here at).kind ≡ kind.Structure) ⊎ ((header_at here at).kind ≡ kind.Table)
+
 pub pointer-denoted : (here : area.Heap) (outside : Outside Space) (names : List reference.Reference) (at id : ℕ) → IsHeap here
-    → DenotesIn here outside names (Some at) (Pointer id) → ObjectAt here names at id kind.Structure
-pointer-denoted here outside names at id h d = object-denoted here outside names at id d.name kind.Structure h d.denotes.0 d.denotes.1 d.stands
+    → DenotesIn here outside names (Some at) (Pointer id) → PointedAt here names at id
+pointer-denoted here outside names at id h d = record {
+  held = d.denotes.0;
+  pair = subst (λ (m : reference.Reference). paired names m id) (sym d.denotes.1) d.stands.0;
+  kind = elim d.stands.1 [
+    | inl k ↦ inl (kind-at here outside at d.name kind.Structure h d.denotes.0 d.denotes.1 k)
+    | inr k ↦ inr (kind-at here outside at d.name kind.Table h d.denotes.0 d.denotes.1 k)
+  ];
+}
 
 pub vector-denoted : (here : area.Heap) (outside : Outside Space) (names : List reference.Reference) (at id : ℕ) → IsHeap here
     → DenotesIn here outside names (Some at) (Vector id) → ObjectAt here names at id kind.Vector
@@ -297,7 +314,29 @@ structure-at here outside of names at id h w p = let b = both-at here outside of
     cases (Structure class fields) means like = record { held = p.held; pair = p.pair; class = class; fields = fields; means = means; is = like }
     cases (Elements ty low elements) means like = let bad : kind.Structure ≡ kind.Vector = sym p.kind ∙ like.rows.kind_is in absurd (cc)
     cases (Scope text parent values) means like = let bad : kind.Structure ≡ kind.Scope = sym p.kind ∙ like.kind_is in absurd (cc)
-    cases (Keyed table) means like = absurd like
+    cases (Keyed table) means like = let bad : kind.Structure ≡ kind.Table = sym p.kind ∙ like in absurd (cc)
+
+-- the structure, where the object of a pointer is one
+pub structure-pointed : (here : area.Heap) (outside : Outside Space) (of : Heap) (names : List reference.Reference) (at id : ℕ) → IsHeap here
+    → IsWorld here outside of names → DenotesIn here outside names (Some at) (Pointer id) → (header_at here at).kind ≡ kind.Structure
+    → StructureAt here outside of names at id
+structure-pointed here outside of names at id h w d k =
+    let p = pointer-denoted here outside names at id h d in structure-at here outside of names at id h w (record { held = p.held; pair = p.pair; kind = k })
+
+-- what is no structure is of no class
+pub no-class : (here : area.Heap) (outside : Outside Space) (of : Heap) (names : List reference.Reference) (at id : ℕ) (class : List ℕ) → IsHeap here
+    → IsWorld here outside of names → DenotesIn here outside names (Some at) (Pointer id) → (header_at here at).kind ≢ kind.Structure
+    → meaning.is_of (meaning.object_at of id) class ≡ false
+no-class here outside of names at id class h w d ne =
+    let p = pointer-denoted here outside names at id h d in
+    let b = both-at here outside of names at id h w p.held p.pair in
+    ap (λ (o : Option Object). meaning.is_of o class) (b.1) ∙ cases (b.0) (b.2)
+  where
+    cases : (o : Object) → IsLike (seen here outside) (paired names) (shown_at here at) o → meaning.is_of (Some o) class ≡ false
+    cases (Structure text fields) like = absurd (ne like.kind_is)
+    cases (Elements ty low elements) like = refl
+    cases (Scope text parent values) like = refl
+    cases (Keyed table) like = refl
 
 pub record VectorAt (here : area.Heap) (outside : Outside Space) (of : Heap) (names : List reference.Reference) (at id : ℕ) : Type 0 where
   pub held : IsHeld here at
@@ -317,7 +356,7 @@ vector-at here outside of names at id h w p = let b = both-at here outside of na
     cases (Elements ty low elements) means like =
         record { held = p.held; pair = p.pair; ty = ty; low = low; elements = elements; means = means; is = like }
     cases (Scope text parent values) means like = let bad : kind.Vector ≡ kind.Scope = sym p.kind ∙ like.kind_is in absurd (cc)
-    cases (Keyed table) means like = absurd like
+    cases (Keyed table) means like = let bad : kind.Vector ≡ kind.Table = sym p.kind ∙ like in absurd (cc)
 
 -- The text that such an object refers to first.
 pub first-text : (a : Seen) (pair : Pairing) (it : Shown) (of : Kind) (text : List ℕ) (first : ℕ → List ℕ)
@@ -336,7 +375,7 @@ pub known-value : (here : area.Heap) (outside : Outside Space) (names : List ref
     → StandsFor (seen here outside) (paired names) n v → Known here outside n
 known-value here outside names n Nil s = inl s
 known-value here outside names n (Text bytes) s = known-text here outside n bytes s
-known-value here outside names n (Pointer id) s = inr (record { it = s.1.it; is = s.1.there })
+known-value here outside names n (Pointer id) s = inr (pointed-known here outside n s.1)
 known-value here outside names n (Vector id) s = inr (record { it = s.1.it; is = s.1.there })
 known-value here outside names n (Num z) s = absurd s
 known-value here outside names n (Flag b) s = absurd s
@@ -376,6 +415,7 @@ caused-touch old new before after at slot (AreaFull top wanted size) h k t =
 caused-touch old new before after at slot (Vault Device) h k t = tt
 caused-touch old new before after at slot (Vault Output) h k t = tt
 caused-touch old new before after at slot (Vault (Full used wanted capacity)) h k t = tt
+caused-touch old new before after at slot (Vault (NoPages held wanted pages)) h k t = tt
 caused-touch old new before after at slot (Vault (Damaged where_at found wanted)) h k t =
     let a = away-stored old old new before after (slot_of (shown_at old at) slot) (t.0) h (keeps-refl old) k (slot-name old at slot ∙ ap (name_of old) (t.1)) (t.2) in
     far-held before t.0 (record { found = found; wanted = wanted }) a.words a.stored.header (t.3 where_at found wanted refl).1 a.stored.there a.stored.far
@@ -389,6 +429,7 @@ caused-later old mid new before after n (AreaFull top wanted size) h keeps k t =
 caused-later old mid new before after n (Vault Device) h keeps k t = tt
 caused-later old mid new before after n (Vault Output) h keeps k t = tt
 caused-later old mid new before after n (Vault (Full used wanted capacity)) h keeps k t = tt
+caused-later old mid new before after n (Vault (NoPages held wanted pages)) h keeps k t = tt
 caused-later old mid new before after n (Vault (Damaged where_at found wanted)) h keeps k t =
     let a = away-stored old mid new before after n (t.0) h keeps k (t.1) (t.2) in
     far-held before t.0 (record { found = found; wanted = wanted }) a.words a.stored.header (t.3 where_at found wanted refl).1 a.stored.there a.stored.far
@@ -404,6 +445,7 @@ breaks old new before after (AreaFull top wanted size) f caused = caused
 breaks old new before after (Vault Device) f caused = f.cause refl
 breaks old new before after (Vault Output) f caused = f.other refl
 breaks old new before after (Vault (Full used wanted capacity)) f caused = f.full used wanted capacity refl
+breaks old new before after (Vault (NoPages held wanted pages)) f caused = f.pages held wanted pages refl
 breaks old new before after (Vault (Damaged at found wanted)) f caused = caused
 
 -- An operation broke off that went on after a reading: so did the whole.
@@ -441,6 +483,7 @@ breaks-earlier old mid new start before after (Vault Device) h keeps leaves b =
     rose_more start.device_faults before.device_faults after.device_faults leaves.counts b
 breaks-earlier old mid new start before after (Vault Output) h keeps leaves b = b
 breaks-earlier old mid new start before after (Vault (Full used wanted capacity)) h keeps leaves b = b
+breaks-earlier old mid new start before after (Vault (NoPages held wanted pages)) h keeps leaves b = b
 breaks-earlier old mid new start before after (Vault (Damaged at found wanted)) h keeps leaves b = b
 
 -- What was seen under a name is what is seen, where no object was lost.

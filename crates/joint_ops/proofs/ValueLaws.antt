@@ -1,5 +1,5 @@
 -- Texts that objects of the area denote, of which sort a value is, and when two values are one object.
-use Rattle.std.proofs.Common.{arith, inl, inr, ◌≡◌, ◌≢◌, ℕ, ◌*◌, List, refl, sym, ap, ◌∙◌, subst, Option, Some, None, Bool, true, false, nat_eq}
+use Rattle.std.proofs.Common.{arith, inl, inr, ◌⊎◌, ◌≡◌, ◌≢◌, ℕ, ◌*◌, List, refl, sym, ap, ◌∙◌, subst, Option, Some, None, Bool, true, false, nat_eq}
 use Rattle.std.specs.Prelude.{drop}
 use Rattle.std.specs.Option.{option_eq}
 use Rattle.std.proofs.lemmas.Bool.{eq-eqb, cases_eq}
@@ -49,7 +49,8 @@ sorted-none here outside names v d = subst (λ (w : Value). IsOfSort w sort.Nil)
 -- the sort of an object of this kind
 pub sort_of : Kind → Sort
 sort_of kind.Text = sort.Text
-sort_of kind.Structure = sort.Structure
+sort_of kind.Structure = sort.Pointer
+sort_of kind.Table = sort.Pointer
 sort_of kind.Vector = sort.Vector
 sort_of kind.Closure = sort.Procedure
 sort_of _ = sort.Other
@@ -60,8 +61,10 @@ unfolding sort_of
 sorted-some here outside names at Nil h d = absurd (some-not_nil here outside names at d)
 sorted-some here outside names at (Text bytes) h d = subst (λ (k : Kind). IsOfSort (Text bytes) (sort_of k))
     (sym (text-denoted here outside names at bytes h d).kind) tt
-sorted-some here outside names at (Pointer id) h d = subst (λ (k : Kind). IsOfSort (Pointer id) (sort_of k))
-    (sym (pointer-denoted here outside names at id h d).kind) tt
+sorted-some here outside names at (Pointer id) h d = elim (pointer-denoted here outside names at id h d).kind [
+  | inl k ↦ subst (λ (of : Kind). IsOfSort (Pointer id) (sort_of of)) (sym k) tt
+  | inr k ↦ subst (λ (of : Kind). IsOfSort (Pointer id) (sort_of of)) (sym k) tt
+]
 sorted-some here outside names at (Vector id) h d = subst (λ (k : Kind). IsOfSort (Vector id) (sort_of k)) (sym (vector-denoted here outside names at id h d).kind) tt
 sorted-some here outside names at (Num z) h d = absurd (d.stands)
 sorted-some here outside names at (Flag b) h d = absurd (d.stands)
@@ -86,12 +89,15 @@ same-number here outside of names a b id i h w ha hb p q false yes_one other =
       | inr apart ↦ grind (arith, apart)
     ]
 
--- structures aren't vectors
-apart-kinds : (here : area.Heap) (a b : ℕ) → (header_at here a).kind ≡ kind.Structure → (header_at here b).kind ≡ kind.Vector → Some a ≢ Some b
+-- structures and tables aren't vectors
+apart-kinds : (here : area.Heap) (a b : ℕ) → ((header_at here a).kind ≡ kind.Structure) ⊎ ((header_at here a).kind ≡ kind.Table) → (header_at here b).kind ≡ kind.Vector → Some a ≢ Some b
 apart-kinds here a b s v e =
     let same : a ≡ b = cc in
-    let bad : kind.Structure ≡ kind.Vector = sym s ∙ ap (λ (k : ℕ). (header_at here k).kind) same ∙ v in
-    absurd (cc)
+    let at = ap (λ (k : ℕ). (header_at here k).kind) same ∙ v in
+    elim s [
+      | inl k ↦ let bad : kind.Structure ≡ kind.Vector = sym k ∙ at in absurd (cc)
+      | inr k ↦ let bad : kind.Table ≡ kind.Vector = sym k ∙ at in absurd (cc)
+    ]
 
 -- what the test of two places says
 abbrev pub Tells : Bool → Option ℕ → Option ℕ → Type 0

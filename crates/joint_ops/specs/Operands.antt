@@ -1,5 +1,5 @@
 -- Operands: values in code, and objects of the area, that denote values of the meaning.
-use Rattle.std.specs.Prelude.{◌≡◌, ℕ, List, [], ◌∷◌, Option, Some, None}
+use Rattle.std.specs.Prelude.{◌≡◌, ◌⊎◌, ℕ, List, [], ◌∷◌, Option, Some, None}
 use Rattle.heap_meaning.specs.ps_outside.Outside.{Outside}
 use Rattle.heap_meaning.specs.obj_layout.Stored.{Space}
 use Rattle.heap_meaning.specs.obj_layout.declared.kind.Kind.TheVariants as kind
@@ -29,7 +29,7 @@ form_in of id = element_of (type_in (object_at of id))
 abbrev pub IsOfSort : Value → Sort → Type 0
 IsOfSort Nil sort.Nil = Unit {0}
 IsOfSort (Text bytes) sort.Text = Unit {0}
-IsOfSort (Pointer id) sort.Structure = Unit {0}
+IsOfSort (Pointer id) sort.Pointer = Unit {0}
 IsOfSort (Vector id) sort.Vector = Unit {0}
 IsOfSort (Procedure does scope) sort.Procedure = Unit {0}
 IsOfSort _ _ = ⊥
@@ -38,7 +38,7 @@ IsOfSort _ _ = ⊥
 abbrev pub IsSorted : area.Heap → Option ℕ → Sort → Type 0
 IsSorted here None sort.Nil = Unit {0}
 IsSorted here (Some at) sort.Text = (header_at here at).kind ≡ kind.Text
-IsSorted here (Some at) sort.Structure = (header_at here at).kind ≡ kind.Structure
+IsSorted here (Some at) sort.Pointer = ((header_at here at).kind ≡ kind.Structure) ⊎ ((header_at here at).kind ≡ kind.Table)
 IsSorted here (Some at) sort.Vector = (header_at here at).kind ≡ kind.Vector
 IsSorted here (Some at) sort.Procedure = (header_at here at).kind ≡ kind.Closure
 IsSorted here (Some at) sort.Other = Unit {0}

@@ -5,7 +5,7 @@ use Rattle.heap_meaning.specs.ps_outside.Outside.{Outside, Rose}
 use Rattle.heap_meaning.specs.obj_layout.Stored.{Space, Holds}
 use Rattle.heap_meaning.specs.obj_layout.declared.header.Header.{Header}
 use Rattle.heap_meaning.specs.obj_layout.declared.reference.Reference as reference
-use Rattle.heap_meaning.specs.obj_layout.declared.vault.VaultFault.TheVariants.{Device, Output, Full, Damaged}
+use Rattle.heap_meaning.specs.obj_layout.declared.vault.VaultFault.TheVariants.{Device, Output, Full, NoPages, Damaged}
 use Rattle.heap_meaning.specs.text_forms.declared.forms.Form.{Form}
 use Rattle.heap_meaning.specs.text_forms.declared.forms.Form.TheVariants as form
 use Rattle.heap_meaning.specs.swizzle.declared.fault.SwizzleFault.{SwizzleFault}
@@ -94,6 +94,7 @@ module _ (old new : area.Heap) (before after : Outside Space) where
   BreaksOff (Vault Device) = Rose before.device_faults after.device_faults
   BreaksOff (Vault Output) = ⊥
   BreaksOff (Vault (Full used wanted capacity)) = ⊥
+  BreaksOff (Vault (NoPages held wanted pages)) = ⊥
   BreaksOff (Vault (Damaged at found wanted)) = ⊥
 
   -- An operation that reads: it gives what stands for what the meaning's yields, or ends in its trap, or broke off.

@@ -72,7 +72,7 @@ pub fn is_class<V: Vault>(
     ensures keeps { UnlessFault result (Keeps sw.old sw.new) }
     ensures fails { BreaksAsReading (V.outside vault.old) (V.outside vault.new) result }
     ensures leaves { LeavesOutside (V.outside vault.old) (V.outside vault.new) }
-    ensures numbers { SameNumbers V.used_words V.directory_at V.most_words vault.old vault.new }
+    ensures numbers { SameNumbers V.used_words V.directory_at V.most_words V.access vault.old vault.new }
     ensures alive { UnlessFault result (V.alive vault.new) }
 {
     sw.sound();
@@ -114,7 +114,7 @@ pub fn get_field<V: Vault>(
     ensures keeps { UnlessFault result (Keeps sw.old sw.new) }
     ensures fails { BreaksAsReading (V.outside vault.old) (V.outside vault.new) result }
     ensures leaves { LeavesOutside (V.outside vault.old) (V.outside vault.new) }
-    ensures numbers { SameNumbers V.used_words V.directory_at V.most_words vault.old vault.new }
+    ensures numbers { SameNumbers V.used_words V.directory_at V.most_words V.access vault.old vault.new }
     ensures alive { UnlessFault result (V.alive vault.new) }
 {
     sw.sound();
@@ -148,7 +148,7 @@ pub fn set_field<V: Vault>(
     ensures does { SetsField sw.old sw.new (V.outside vault.old) (V.outside vault.new) object (text_at sw.old class) located to result }
     ensures fails { BreaksAsReading (V.outside vault.old) (V.outside vault.new) result }
     ensures leaves { LeavesOutside (V.outside vault.old) (V.outside vault.new) }
-    ensures numbers { SameNumbers V.used_words V.directory_at V.most_words vault.old vault.new }
+    ensures numbers { SameNumbers V.used_words V.directory_at V.most_words V.access vault.old vault.new }
     ensures alive { UnlessFault result (V.alive vault.new) }
     ensures stands { UnlessFault result (AllStand sw.old sw.new) }
 {

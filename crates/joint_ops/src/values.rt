@@ -18,7 +18,8 @@ pub enum Sort {
     /// None.
     Nil,
     Text,
-    Structure,
+    /// A structure or a table.
+    Pointer,
     Vector,
     Procedure,
     /// An object that no value of a clause denotes.
@@ -39,7 +40,7 @@ pub fn sort_of<V: Vault>(sw: &Swizzle, to: Option<u32>) -> Sort
     };
     match sw.kind(at) {
         Kind::Text => Sort::Text,
-        Kind::Structure => Sort::Structure,
+        Kind::Structure | Kind::Table => Sort::Pointer,
         Kind::Vector => Sort::Vector,
         Kind::Closure => Sort::Procedure,
         _ => Sort::Other,

@@ -91,7 +91,7 @@ pub fn form_of<V: Vault>(sw: &mut Swizzle, vault: &mut V, vector: u32) -> Result
     ensures keeps { UnlessFault result (Keeps sw.old sw.new) }
     ensures fails { BreaksAsReading (V.outside vault.old) (V.outside vault.new) result }
     ensures leaves { LeavesOutside (V.outside vault.old) (V.outside vault.new) }
-    ensures numbers { SameNumbers V.used_words V.directory_at V.most_words vault.old vault.new }
+    ensures numbers { SameNumbers V.used_words V.directory_at V.most_words V.access vault.old vault.new }
     ensures alive { UnlessFault result (V.alive vault.new) }
 {
     sw.sound();
@@ -114,7 +114,7 @@ pub fn low<V: Vault>(sw: &mut Swizzle, vault: &mut V, vector: u32) -> Result<i32
     ensures keeps { UnlessFault result (Keeps sw.old sw.new) }
     ensures fails { BreaksAsReading (V.outside vault.old) (V.outside vault.new) result }
     ensures leaves { LeavesOutside (V.outside vault.old) (V.outside vault.new) }
-    ensures numbers { SameNumbers V.used_words V.directory_at V.most_words vault.old vault.new }
+    ensures numbers { SameNumbers V.used_words V.directory_at V.most_words V.access vault.old vault.new }
     ensures alive { UnlessFault result (V.alive vault.new) }
 {
     sw.sound();
@@ -137,7 +137,7 @@ pub fn high<V: Vault>(sw: &mut Swizzle, vault: &mut V, vector: u32) -> Result<i3
     ensures keeps { UnlessFault result (Keeps sw.old sw.new) }
     ensures fails { BreaksAsReading (V.outside vault.old) (V.outside vault.new) result }
     ensures leaves { LeavesOutside (V.outside vault.old) (V.outside vault.new) }
-    ensures numbers { SameNumbers V.used_words V.directory_at V.most_words vault.old vault.new }
+    ensures numbers { SameNumbers V.used_words V.directory_at V.most_words V.access vault.old vault.new }
     ensures alive { UnlessFault result (V.alive vault.new) }
 {
     sw.sound();
@@ -167,7 +167,7 @@ pub fn get_element<V: Vault>(
     ensures keeps { UnlessFault result (Keeps sw.old sw.new) }
     ensures fails { BreaksAsReading (V.outside vault.old) (V.outside vault.new) result }
     ensures leaves { LeavesOutside (V.outside vault.old) (V.outside vault.new) }
-    ensures numbers { SameNumbers V.used_words V.directory_at V.most_words vault.old vault.new }
+    ensures numbers { SameNumbers V.used_words V.directory_at V.most_words V.access vault.old vault.new }
     ensures alive { UnlessFault result (V.alive vault.new) }
 {
     sw.sound();
@@ -196,7 +196,7 @@ pub fn set_element<V: Vault>(
     ensures does { SetsElement sw.old sw.new (V.outside vault.old) (V.outside vault.new) vector at to result }
     ensures fails { BreaksAsReading (V.outside vault.old) (V.outside vault.new) result }
     ensures leaves { LeavesOutside (V.outside vault.old) (V.outside vault.new) }
-    ensures numbers { SameNumbers V.used_words V.directory_at V.most_words vault.old vault.new }
+    ensures numbers { SameNumbers V.used_words V.directory_at V.most_words V.access vault.old vault.new }
     ensures alive { UnlessFault result (V.alive vault.new) }
     ensures stands { UnlessFault result (AllStand sw.old sw.new) }
 {

@@ -272,6 +272,7 @@ module _ (mid : area.Heap) (before : Outside Space) (of : Heap) (names : List re
             (kind-with t.mid (shown_at t.mid at) index t.stored)
             (subst (λ (k : ℕ). IsScope b (paired names) (shown_with t.mid (shown_at t.mid at) k t.stored) s.text s.parent (set s.values which (kept_as (Some f) v))) (sym place)
             (scope-written t.mid b (paired names) (shown_at t.mid at) s.text s.parent s.values which f t.stored (kept_as (Some f) v) there a.form_is stored))
+            tt
             (rewritten t.mid new at index t.stored t.heap stays.held t.written);
       }
 
@@ -415,6 +416,7 @@ failed-then start before after fault first second = record {
   cause = λ e. rose_more start.device_faults before.device_faults after.device_faults first.counts (second.cause e);
   other = second.other;
   full = second.full;
+  pages = second.pages;
 }
 
 pub get-fails : (mid new : area.Heap) (start before after : Outside Space) (at which : ℕ) (result : Result code.Value SwizzleFault)

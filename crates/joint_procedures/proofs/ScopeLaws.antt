@@ -32,6 +32,7 @@ use Rattle.joint_ops.specs.ps_heap.Values.{Value, Text}
 use Rattle.joint_ops.specs.ps_heap.Objects.{Heap, Object, Structure, Elements, Scope, Keyed, object_at}
 use Rattle.joint_ops.specs.ps_heap.Scopes.{first_value, new_scope, scope_at, parent_in, scope_out}
 use Rattle.joint_ops.specs.ps_heap.Weights.{own_weight}
+use Rattle.joint_ops.specs.heap_meaning.Tables.{IsNewTable}
 use Rattle.joint_ops.specs.heap_meaning.Standing.{IsKindOf, StandsForScope, IsScope, IsLike}
 use Rattle.joint_ops.specs.heap_meaning.Paired.{paired}
 use Rattle.joint_ops.proofs.of_heap_meaning.StandingLaws.{scope-more}
@@ -95,6 +96,10 @@ words-weight : (bytes : List ℕ) (round : Option ℕ) → 8 * scope_words (rows
 unfolding scope_words new_scope
 words-weight bytes round = omega (arith, length-map (forms_of bytes) first_value, counted (forms_of bytes))
 
+scope-blank : (it : Shown) (bytes : List ℕ) (round : Option ℕ) → IsNewTable it (new_scope bytes round)
+unfolding new_scope
+scope-blank it bytes round = tt
+
 scope-pid : (text : ℕ) (parent : Option ℕ) (bytes : List ℕ) → (scope_object text parent (rows_of (forms_of bytes))).header.pid ≡ 0
 unfolding scope_object
 scope-pid text parent bytes = refl
@@ -110,7 +115,7 @@ makes-of : (old new : area.Heap) (outside : Outside Space) (of : Heap) (names : 
 makes-of old new outside of names text parent bytes round (Ok at) h w held there dt dp m =
     let o = scope_object text parent (rows_of (forms_of bytes)) in
     let made = object-made outside old new of names at o (new_scope bytes round) h w (inside-scope old text parent bytes held there) (scope-pid text parent bytes) m
-    (scope-like old outside names text parent bytes round dt dp) (scope-weight text parent bytes round) in
+    (scope-like old outside names text parent bytes round dt dp) (scope-blank (shown (name_of old) o) bytes round) (scope-weight text parent bytes round) in
     record {
       more = made.more;
       world = made.world;
@@ -162,7 +167,7 @@ module _ (here : area.Heap) (outside : Outside Space) (of : Heap) (names : List 
       cases (Structure class fields) means like scope = let bad : kind.Scope ≡ kind.Structure = sym scope ∙ like.kind_is in absurd (cc)
       cases (Elements ty low elements) means like scope = let bad : kind.Scope ≡ kind.Vector = sym scope ∙ like.rows.kind_is in absurd (cc)
       cases (Scope text parent values) means like scope = record { text = text; parent = parent; values = values; means = means; is = like }
-      cases (Keyed table) means like scope = absurd like
+      cases (Keyed table) means like scope = let bad : kind.Scope ≡ kind.Table = sym scope ∙ like in absurd (cc)
 
 -- an object that denotes a scope
 pub record ScopeAt (here : area.Heap) (outside : Outside Space) (of : Heap) (names : List reference.Reference) (at : ℕ) (within : Option ℕ) : Type 0 where

@@ -57,7 +57,7 @@ not-called : (v : Value) (s : Sort) → IsOfSort v s → s ≢ sort.Procedure �
 not-called (Procedure body scope) sort.Procedure is other next = absurd (other refl)
 not-called (Procedure body scope) sort.Nil is other next = absurd is
 not-called (Procedure body scope) sort.Text is other next = absurd is
-not-called (Procedure body scope) sort.Structure is other next = absurd is
+not-called (Procedure body scope) sort.Pointer is other next = absurd is
 not-called (Procedure body scope) sort.Vector is other next = absurd is
 not-called (Procedure body scope) sort.Other is other next = absurd is
 not-called (Num z) s is other next = refl

@@ -26,7 +26,7 @@ pub fn enter_scope<V: Vault>(m: &mut Machine, vault: &mut V, k: u32) -> Stepped
     ensures takes { Takes (V.outside vault.old) (V.outside vault.new) (enter_scope_of k) m.old m.new result }
     ensures fails { FailsAsReading (V.outside vault.old) (V.outside vault.new) result m.new }
     ensures leaves { LeavesOutside (V.outside vault.old) (V.outside vault.new) }
-    ensures numbers { SameNumbers V.used_words V.directory_at V.most_words vault.old vault.new }
+    ensures numbers { SameNumbers V.used_words V.directory_at V.most_words V.access vault.old vault.new }
     ensures alive { UnlessBroken result (V.alive vault.new) }
 {
     let code = m.code;
@@ -71,7 +71,7 @@ pub fn leave_scope<V: Vault>(m: &mut Machine, vault: &mut V) -> Stepped
     ensures takes { Takes (V.outside vault.old) (V.outside vault.new) leave_scope_of m.old m.new result }
     ensures fails { FailsAsReading (V.outside vault.old) (V.outside vault.new) result m.new }
     ensures leaves { LeavesOutside (V.outside vault.old) (V.outside vault.new) }
-    ensures numbers { SameNumbers V.used_words V.directory_at V.most_words vault.old vault.new }
+    ensures numbers { SameNumbers V.used_words V.directory_at V.most_words V.access vault.old vault.new }
     ensures alive { UnlessBroken result (V.alive vault.new) }
 {
     let Some(at) = scope::<V>(m) else {

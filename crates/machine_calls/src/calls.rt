@@ -31,7 +31,7 @@ pub fn call<V: Vault>(m: &mut Machine, vault: &mut V, n: u32, line: Line) -> Ste
     ensures takes { Takes (V.outside vault.old) (V.outside vault.new) (call_of n line) m.old m.new result }
     ensures fails { FailsAsReading (V.outside vault.old) (V.outside vault.new) result m.new }
     ensures leaves { LeavesOutside (V.outside vault.old) (V.outside vault.new) }
-    ensures numbers { SameNumbers V.used_words V.directory_at V.most_words vault.old vault.new }
+    ensures numbers { SameNumbers V.used_words V.directory_at V.most_words V.access vault.old vault.new }
     ensures alive { UnlessBroken result (V.alive vault.new) }
 {
     let Some(word) = ref_below::<V>(m, n) else {
@@ -77,7 +77,7 @@ fn call_procedure<V: Vault>(
     ensures takes { Takes (V.outside vault.old) (V.outside vault.new) (call_of n line) m.old m.new result }
     ensures fails { FailsAsReading (V.outside vault.old) (V.outside vault.new) result m.new }
     ensures leaves { LeavesOutside (V.outside vault.old) (V.outside vault.new) }
-    ensures numbers { SameNumbers V.used_words V.directory_at V.most_words vault.old vault.new }
+    ensures numbers { SameNumbers V.used_words V.directory_at V.most_words V.access vault.old vault.new }
     ensures alive { UnlessBroken result (V.alive vault.new) }
 {
     let _ = word;

@@ -30,7 +30,7 @@ pub fn kept_num<V: Vault>(m: &mut Machine, vault: &mut V, up: u32, name: u32) ->
     ensures takes { Takes (V.outside vault.old) (V.outside vault.new) (kept_num_of up name) m.old m.new result }
     ensures fails { FailsAsReading (V.outside vault.old) (V.outside vault.new) result m.new }
     ensures leaves { LeavesOutside (V.outside vault.old) (V.outside vault.new) }
-    ensures numbers { SameNumbers V.used_words V.directory_at V.most_words vault.old vault.new }
+    ensures numbers { SameNumbers V.used_words V.directory_at V.most_words V.access vault.old vault.new }
     ensures alive { UnlessBroken result (V.alive vault.new) }
 {
     let Some(at) = scope::<V>(m) else {
@@ -52,7 +52,7 @@ pub fn kept_ref<V: Vault>(m: &mut Machine, vault: &mut V, up: u32, name: u32) ->
     ensures takes { Takes (V.outside vault.old) (V.outside vault.new) (kept_ref_of up name) m.old m.new result }
     ensures fails { FailsAsReading (V.outside vault.old) (V.outside vault.new) result m.new }
     ensures leaves { LeavesOutside (V.outside vault.old) (V.outside vault.new) }
-    ensures numbers { SameNumbers V.used_words V.directory_at V.most_words vault.old vault.new }
+    ensures numbers { SameNumbers V.used_words V.directory_at V.most_words V.access vault.old vault.new }
     ensures alive { UnlessBroken result (V.alive vault.new) }
 {
     let Some(at) = scope::<V>(m) else {
@@ -104,7 +104,7 @@ pub fn keep_num<V: Vault>(m: &mut Machine, vault: &mut V, up: u32, name: u32) ->
     ensures takes { Takes (V.outside vault.old) (V.outside vault.new) (keep_num_of up name) m.old m.new result }
     ensures fails { FailsAsReading (V.outside vault.old) (V.outside vault.new) result m.new }
     ensures leaves { LeavesOutside (V.outside vault.old) (V.outside vault.new) }
-    ensures numbers { SameNumbers V.used_words V.directory_at V.most_words vault.old vault.new }
+    ensures numbers { SameNumbers V.used_words V.directory_at V.most_words V.access vault.old vault.new }
     ensures alive { UnlessBroken result (V.alive vault.new) }
 {
     match pop_num::<V>(m) {
@@ -122,7 +122,7 @@ pub fn keep_ref<V: Vault>(m: &mut Machine, vault: &mut V, up: u32, name: u32) ->
     ensures takes { Takes (V.outside vault.old) (V.outside vault.new) (keep_ref_of up name) m.old m.new result }
     ensures fails { FailsAsReading (V.outside vault.old) (V.outside vault.new) result m.new }
     ensures leaves { LeavesOutside (V.outside vault.old) (V.outside vault.new) }
-    ensures numbers { SameNumbers V.used_words V.directory_at V.most_words vault.old vault.new }
+    ensures numbers { SameNumbers V.used_words V.directory_at V.most_words V.access vault.old vault.new }
     ensures alive { UnlessBroken result (V.alive vault.new) }
 {
     match pop_ref::<V>(m) {
@@ -142,7 +142,7 @@ fn write_name<V: Vault>(m: &mut Machine, vault: &mut V, up: u32, name: u32, to: 
     ensures writes { WritesName (V.outside vault.old) (V.outside vault.new) up name to m.old m.new result }
     ensures fails { FailsAsReading (V.outside vault.old) (V.outside vault.new) result m.new }
     ensures leaves { LeavesOutside (V.outside vault.old) (V.outside vault.new) }
-    ensures numbers { SameNumbers V.used_words V.directory_at V.most_words vault.old vault.new }
+    ensures numbers { SameNumbers V.used_words V.directory_at V.most_words V.access vault.old vault.new }
     ensures alive { UnlessBroken result (V.alive vault.new) }
 {
     let Some(at) = scope::<V>(m) else {

@@ -79,6 +79,7 @@ module _ (here now : area.Heap) (before after : Outside Space) where
   broken-off s (Vault vault.Device) b = b
   broken-off s (Vault vault.Output) b = absurd b
   broken-off s (Vault (vault.Full used wanted capacity)) b = absurd b
+  broken-off s (Vault (vault.NoPages held wanted pages)) b = absurd b
   broken-off s (Vault (vault.Damaged at found wanted)) b = absurd b
 
   -- There was no room for the object that the step makes.
@@ -146,6 +147,7 @@ breaks-earlier before mid after size s (AreaFull top wanted its) same low (is, f
 breaks-earlier before mid after size s (Vault vault.Device) same low b = rose-earlier before.device_faults mid.device_faults after.device_faults low b
 breaks-earlier before mid after size s (Vault vault.Output) same low b = b
 breaks-earlier before mid after size s (Vault (vault.Full used wanted capacity)) same low b = b
+breaks-earlier before mid after size s (Vault (vault.NoPages held wanted pages)) same low b = b
 breaks-earlier before mid after size s (Vault (vault.Damaged at found wanted)) same low b = b
 
 pub breaks-behind : (before mid after : Outside Space) (size : ℕ) (s : Step) (fault : SwizzleFault) → LeavesOutside before mid

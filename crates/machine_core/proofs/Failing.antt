@@ -2,7 +2,7 @@
 use Rattle.std.proofs.Common.{◌≡◌, ◌≢◌, refl, sym, ◌∙◌, subst}
 use Rattle.joint_ops.specs.ps_outside.Outside.{Outside}
 use Rattle.joint_ops.specs.obj_layout.Stored.{Space}
-use Rattle.joint_ops.specs.obj_layout.declared.vault.VaultFault.TheVariants.{Device, Output, Full}
+use Rattle.joint_ops.specs.obj_layout.declared.vault.VaultFault.TheVariants.{Device, Output, Full, NoPages}
 use Rattle.joint_ops.specs.swizzle.Heap as area
 use Rattle.joint_ops.specs.swizzle.Reading.{LeavesOutside, FailsReading}
 use Rattle.joint_ops.specs.swizzle.declared.fault.SwizzleFault.{SwizzleFault}
@@ -51,6 +51,7 @@ room-failing outside old new fault l = record {
   cause = λ e. absurd (no-vault Device e);
   other = λ e. no-vault Output e;
   full = λ used wanted capacity e. no-vault (Full used wanted capacity) e;
+  pages = λ held wanted pages e. no-vault (NoPages held wanted pages) e;
 }
   where
     no-vault : (f : _) → fault ≡ Vault f → ⊥

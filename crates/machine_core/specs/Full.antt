@@ -2,7 +2,7 @@
 use Rattle.std.specs.Prelude.{◌≡◌, ◌⊎◌, ℕ, ◌<◌, ◌+◌, List, [], ◌∷◌, length, Option, Some}
 use Rattle.joint_ops.specs.ps_outside.Outside.{Outside, Rose}
 use Rattle.joint_ops.specs.obj_layout.Stored.{Space}
-use Rattle.joint_ops.specs.obj_layout.declared.vault.VaultFault.TheVariants.{Device, Output, Full, Damaged}
+use Rattle.joint_ops.specs.obj_layout.declared.vault.VaultFault.TheVariants.{Device, Output, Full, NoPages, Damaged}
 use Rattle.joint_ops.specs.swizzle.declared.fault.SwizzleFault.{SwizzleFault}
 use Rattle.joint_ops.specs.swizzle.declared.fault.SwizzleFault.TheVariants.{AreaFull, Vault}
 use Rattle.joint_ops.specs.World.{IsStored}
@@ -49,4 +49,5 @@ BreaksBy before after size s (AreaFull top wanted its) = (its ≡ size) × (size
 BreaksBy before after size s (Vault Device) = Rose before.device_faults after.device_faults
 BreaksBy before after size s (Vault Output) = ⊥
 BreaksBy before after size s (Vault (Full used wanted capacity)) = ⊥
+BreaksBy before after size s (Vault (NoPages held wanted pages)) = ⊥
 BreaksBy before after size s (Vault (Damaged at found wanted)) = s ≡ Stuck

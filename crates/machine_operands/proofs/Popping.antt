@@ -62,7 +62,7 @@ module _ (outside : Outside Space) (old new : Machine) (w : ℕ) (s : Sort) (p :
       stuck : (v : Value) (s : Sort) → s ≢ sort.Text → IsOfSort v s → (d : Config) (next : List ℕ → Config → Step) → text_of v d next ≡ Stuck
       stuck (Text b) sort.Text other is d next = absurd (other refl)
       stuck (Text b) sort.Nil other is d next = absurd is
-      stuck (Text b) sort.Structure other is d next = absurd is
+      stuck (Text b) sort.Pointer other is d next = absurd is
       stuck (Text b) sort.Vector other is d next = absurd is
       stuck (Text b) sort.Other other is d next = absurd is
       stuck (Text b) sort.Procedure other is d next = absurd is
@@ -77,7 +77,7 @@ module _ (outside : Outside Space) (old new : Machine) (w : ℕ) (s : Sort) (p :
   abbrev IsObject : Value → Type 0
   IsObject v = (d : Config) (next : Value → Config → Step) → object_of v d next ≡ next v d
 
-  -- nil, or a structure
+  -- nil, a structure or a table
   pub object-popped : (to : Option ℕ) → object_in w ≡ to → ((v : Value) → IsOfSort v s → (d : Config) (next : Value → Config → Step) → object_of v d next ≡ next v d) → PopsObject outside old new (Some to)
   object-popped to is object = record {
     gives = λ names c h.
@@ -90,7 +90,7 @@ module _ (outside : Outside Space) (old new : Machine) (w : ℕ) (s : Sort) (p :
     gives = λ names c h next. let g = p.gives names c h in g.2 (λ v d. object_of v d next) ∙ stuck g.1 (sorted names g.1 g.4) g.0 next;
   }
 
-  -- nil, a structure or a vector
+  -- nil, a structure, a table or a vector
   pub denoting-popped : (to : Option ℕ) → object_in w ≡ to → ((v : Value) → IsOfSort v s → IsByObject v × ((d : Config) (next : Value → Config → Step) → denoting_of v d next ≡ next v d)) → PopsDenoting outside old new (Some to)
   denoting-popped to is object = record {
     gives = λ names c h.
@@ -120,17 +120,17 @@ nil-object (Flag b) is d next = absurd is
 nil-object (Procedure of scope) is d next = absurd is
 nil-object Nothing is d next = absurd is
 
-pub structure-object : (v : Value) → IsOfSort v sort.Structure → (d : Config) (next : Value → Config → Step) → object_of v d next ≡ next v d
-structure-object (Pointer id) is d next = refl
-structure-object Nil is d next = absurd is
-structure-object (Text b) is d next = absurd is
-structure-object (Vector id) is d next = absurd is
-structure-object (Num z) is d next = absurd is
-structure-object (Flag b) is d next = absurd is
-structure-object (Procedure of scope) is d next = absurd is
-structure-object Nothing is d next = absurd is
+pub pointer-object : (v : Value) → IsOfSort v sort.Pointer → (d : Config) (next : Value → Config → Step) → object_of v d next ≡ next v d
+pointer-object (Pointer id) is d next = refl
+pointer-object Nil is d next = absurd is
+pointer-object (Text b) is d next = absurd is
+pointer-object (Vector id) is d next = absurd is
+pointer-object (Num z) is d next = absurd is
+pointer-object (Flag b) is d next = absurd is
+pointer-object (Procedure of scope) is d next = absurd is
+pointer-object Nothing is d next = absurd is
 
-pub other-object : (s : Sort) → s ≢ sort.Nil → s ≢ sort.Structure → (v : Value) → IsOfSort v s → (d : Config) (next : Value → Config → Step) → object_of v d next ≡ Stuck
+pub other-object : (s : Sort) → s ≢ sort.Nil → s ≢ sort.Pointer → (v : Value) → IsOfSort v s → (d : Config) (next : Value → Config → Step) → object_of v d next ≡ Stuck
 other-object s a b (Text bytes) is d next = refl
 other-object s a b (Vector id) is d next = refl
 other-object s a b (Num z) is d next = refl
@@ -139,13 +139,13 @@ other-object s a b (Procedure of scope) is d next = refl
 other-object s a b Nothing is d next = refl
 other-object sort.Nil a b Nil is d next = absurd (a refl)
 other-object sort.Text a b Nil is d next = absurd is
-other-object sort.Structure a b Nil is d next = absurd is
+other-object sort.Pointer a b Nil is d next = absurd is
 other-object sort.Vector a b Nil is d next = absurd is
 other-object sort.Other a b Nil is d next = absurd is
 other-object sort.Procedure a b Nil is d next = absurd is
 other-object sort.Nil a b (Pointer id) is d next = absurd is
 other-object sort.Text a b (Pointer id) is d next = absurd is
-other-object sort.Structure a b (Pointer id) is d next = absurd (b refl)
+other-object sort.Pointer a b (Pointer id) is d next = absurd (b refl)
 other-object sort.Vector a b (Pointer id) is d next = absurd is
 other-object sort.Other a b (Pointer id) is d next = absurd is
 other-object sort.Procedure a b (Pointer id) is d next = absurd is
@@ -160,15 +160,15 @@ nil-denoting (Flag b) is = absurd is
 nil-denoting (Procedure of scope) is = absurd is
 nil-denoting Nothing is = absurd is
 
-pub structure-denoting : (v : Value) → IsOfSort v sort.Structure → IsByObject v × ((d : Config) (next : Value → Config → Step) → denoting_of v d next ≡ next v d)
-structure-denoting (Pointer id) is = (tt, λ d next. refl)
-structure-denoting Nil is = absurd is
-structure-denoting (Text b) is = absurd is
-structure-denoting (Vector id) is = absurd is
-structure-denoting (Num z) is = absurd is
-structure-denoting (Flag b) is = absurd is
-structure-denoting (Procedure of scope) is = absurd is
-structure-denoting Nothing is = absurd is
+pub pointer-denoting : (v : Value) → IsOfSort v sort.Pointer → IsByObject v × ((d : Config) (next : Value → Config → Step) → denoting_of v d next ≡ next v d)
+pointer-denoting (Pointer id) is = (tt, λ d next. refl)
+pointer-denoting Nil is = absurd is
+pointer-denoting (Text b) is = absurd is
+pointer-denoting (Vector id) is = absurd is
+pointer-denoting (Num z) is = absurd is
+pointer-denoting (Flag b) is = absurd is
+pointer-denoting (Procedure of scope) is = absurd is
+pointer-denoting Nothing is = absurd is
 
 vector-of_sort : (v : Value) → IsOfSort v sort.Vector → (id : ℕ) × (v ≡ Vector id)
 vector-of_sort (Vector id) is = (id, refl)
@@ -184,7 +184,7 @@ pub vector-denoting : (v : Value) → IsOfSort v sort.Vector → IsByObject v ×
 vector-denoting v is = let it = vector-of_sort v is in subst (λ (x : Value). IsByObject x × ((d : Config) (next : Value → Config → Step) → denoting_of x d next ≡ next x d)) (sym it.1) (tt, λ d next. refl)
 
 -- of another sort nothing denotes an object
-pub other-denoting : (s : Sort) → s ≢ sort.Nil → s ≢ sort.Structure → s ≢ sort.Vector → (v : Value) → IsOfSort v s → (d : Config) (next : Value → Config → Step) → denoting_of v d next ≡ Stuck
+pub other-denoting : (s : Sort) → s ≢ sort.Nil → s ≢ sort.Pointer → s ≢ sort.Vector → (v : Value) → IsOfSort v s → (d : Config) (next : Value → Config → Step) → denoting_of v d next ≡ Stuck
 other-denoting s a b e (Text bytes) is d next = refl
 other-denoting s a b e (Num z) is d next = refl
 other-denoting s a b e (Flag f) is d next = refl
@@ -192,19 +192,19 @@ other-denoting s a b e (Procedure of scope) is d next = refl
 other-denoting s a b e Nothing is d next = refl
 other-denoting sort.Nil a b e Nil is d next = absurd (a refl)
 other-denoting sort.Text a b e Nil is d next = absurd is
-other-denoting sort.Structure a b e Nil is d next = absurd is
+other-denoting sort.Pointer a b e Nil is d next = absurd is
 other-denoting sort.Vector a b e Nil is d next = absurd is
 other-denoting sort.Other a b e Nil is d next = absurd is
 other-denoting sort.Procedure a b e Nil is d next = absurd is
 other-denoting sort.Nil a b e (Pointer id) is d next = absurd is
 other-denoting sort.Text a b e (Pointer id) is d next = absurd is
-other-denoting sort.Structure a b e (Pointer id) is d next = absurd (b refl)
+other-denoting sort.Pointer a b e (Pointer id) is d next = absurd (b refl)
 other-denoting sort.Vector a b e (Pointer id) is d next = absurd is
 other-denoting sort.Other a b e (Pointer id) is d next = absurd is
 other-denoting sort.Procedure a b e (Pointer id) is d next = absurd is
 other-denoting sort.Nil a b e (Vector id) is d next = absurd is
 other-denoting sort.Text a b e (Vector id) is d next = absurd is
-other-denoting sort.Structure a b e (Vector id) is d next = absurd is
+other-denoting sort.Pointer a b e (Vector id) is d next = absurd is
 other-denoting sort.Vector a b e (Vector id) is d next = absurd (e refl)
 other-denoting sort.Other a b e (Vector id) is d next = absurd is
 other-denoting sort.Procedure a b e (Vector id) is d next = absurd is
@@ -234,7 +234,7 @@ module _ (outside : Outside Space) (old new : Machine) (w : ℕ) (s : Sort) (hea
       stuck : (v : Value) (s : Sort) → s ≢ sort.Vector → IsOfSort v s → (d : Config) (next : List ℕ → Value → Config → Step) → of_type (type_of d.store.held.objects v) (λ ty. next ty v d) ≡ Stuck
       stuck (Vector id) sort.Vector other is d next = absurd (other refl)
       stuck (Vector id) sort.Nil other is d next = absurd is
-      stuck (Vector id) sort.Structure other is d next = absurd is
+      stuck (Vector id) sort.Pointer other is d next = absurd is
       stuck (Vector id) sort.Text other is d next = absurd is
       stuck (Vector id) sort.Other other is d next = absurd is
       stuck (Vector id) sort.Procedure other is d next = absurd is

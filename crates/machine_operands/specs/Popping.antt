@@ -46,7 +46,7 @@ module _ (outside : Outside Space) where
   abbrev pub PopsObject : Machine → Machine → Option (Option ℕ) → Type 0
   PopsObject = TakenAs (λ to. to) (λ v. v) anything pop_object
 
-  -- nil, a structure or a vector
+  -- nil, a structure, a table or a vector
   abbrev pub PopsDenoting : Machine → Machine → Option (Option ℕ) → Type 0
   PopsDenoting = TakenAs (λ to. to) (λ v. v) IsByObject pop_denoting
 

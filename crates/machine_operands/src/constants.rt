@@ -24,7 +24,7 @@ pub fn text_constant<V: Vault>(m: &mut Machine, vault: &mut V, k: u32) -> Result
     ensures text { IfOk result (IsKind Text m.new.objects) }
     ensures fails { FailsBrokenOff (V.outside vault.old) (V.outside vault.new) result m.new }
     ensures leaves { LeavesOutside (V.outside vault.old) (V.outside vault.new) }
-    ensures numbers { SameNumbers V.used_words V.directory_at V.most_words vault.old vault.new }
+    ensures numbers { SameNumbers V.used_words V.directory_at V.most_words V.access vault.old vault.new }
     ensures alive { UnlessBrokenOff result (V.alive vault.new) }
 {
     let got = m.objects.text_of(vault, m.code, k);

@@ -72,7 +72,7 @@ pub fn pop_text<V: Vault>(m: &mut Machine) -> Option<u32>
     }
 }
 
-/// Pops nil or a structure; None where neither is on top.
+/// Pops nil, a structure or a table; None where none of these is on top.
 #[inline(always)]
 pub fn pop_object<V: Vault>(m: &mut Machine) -> Option<Option<u32>>
     requires sound { IsSound m.old }
@@ -87,12 +87,12 @@ pub fn pop_object<V: Vault>(m: &mut Machine) -> Option<Option<u32>>
     m.objects.sound();
     match m.objects.sort_of::<V>(object(word)) {
         Sort::Nil => Some(None),
-        Sort::Structure => Some(object(word)),
+        Sort::Pointer => Some(object(word)),
         _ => None,
     }
 }
 
-/// Pops nil, a structure or a vector; None where none of these is on top.
+/// Pops nil, a structure, a table or a vector; None where none of these is on top.
 #[inline(always)]
 pub fn pop_denoting<V: Vault>(m: &mut Machine) -> Option<Option<u32>>
     requires sound { IsSound m.old }
@@ -107,7 +107,7 @@ pub fn pop_denoting<V: Vault>(m: &mut Machine) -> Option<Option<u32>>
     m.objects.sound();
     match m.objects.sort_of::<V>(object(word)) {
         Sort::Nil => Some(None),
-        Sort::Structure => Some(object(word)),
+        Sort::Pointer => Some(object(word)),
         Sort::Vector => Some(object(word)),
         _ => None,
     }

@@ -4,7 +4,7 @@ use Rattle.std.specs.Prelude.{Result, Ok, Err}
 use Rattle.std.proofs.lemmas.List.{append-nil}
 use Rattle.ps_port.specs.ps_outside.Outside.{Outside, SameContents, Rose}
 use Rattle.vault_output.specs.obj_layout.Stored.{Space}
-use Rattle.vault_output.specs.obj_layout.declared.vault.VaultFault.TheVariants.{Device, Output, Full, Damaged}
+use Rattle.vault_output.specs.obj_layout.declared.vault.VaultFault.TheVariants.{Device, Output, Full, NoPages, Damaged}
 use Rattle.machine_core.specs.swizzle.Reading.{LeavesOutside, FailsReading}
 use Rattle.machine_core.specs.swizzle.Heap.{IsHeap, object_at}
 use Rattle.machine_core.specs.swizzle.declared.fault.SwizzleFault.{SwizzleFault}
@@ -359,6 +359,7 @@ reading-cause old new (AreaFull top wanted size) r = tt
 reading-cause old new (Vault Device) r = r.cause refl
 reading-cause old new (Vault Output) r = absurd (r.other refl)
 reading-cause old new (Vault (Full used wanted capacity)) r = r.full used wanted capacity refl
+reading-cause old new (Vault (NoPages held wanted pages)) r = r.pages held wanted pages refl
 reading-cause old new (Vault (Damaged at found wanted)) r = tt
 
 rose-then : (a b c : ℕ) → a ≤ b → Rose b c → Rose a c
@@ -371,4 +372,5 @@ cause-then old now new (AreaFull top wanted size) l r = tt
 cause-then old now new (Vault Device) l r = rose-then old.device_faults now.device_faults new.device_faults l.device r
 cause-then old now new (Vault Output) l r = rose-then old.output_faults now.output_faults new.output_faults l.output r
 cause-then old now new (Vault (Full used wanted capacity)) l r = r
+cause-then old now new (Vault (NoPages held wanted pages)) l r = r
 cause-then old now new (Vault (Damaged at found wanted)) l r = tt

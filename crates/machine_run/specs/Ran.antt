@@ -2,7 +2,7 @@
 use Rattle.std.specs.Prelude.{◌≡◌, ℕ, ◌≤◌, List, [], ◌++◌, Result, Ok, Err}
 use Rattle.ps_port.specs.ps_outside.Outside.{Outside, LeavesSame, SameContents, TellsPrefix, ToldAll, Rose}
 use Rattle.vault_output.specs.obj_layout.Stored.{Space}
-use Rattle.vault_output.specs.obj_layout.declared.vault.VaultFault.TheVariants.{Device, Output, Full, Damaged}
+use Rattle.vault_output.specs.obj_layout.declared.vault.VaultFault.TheVariants.{Device, Output, Full, NoPages, Damaged}
 use Rattle.machine_core.specs.swizzle.declared.fault.SwizzleFault.{SwizzleFault}
 use Rattle.machine_core.specs.swizzle.declared.fault.SwizzleFault.TheVariants.{AreaFull, Vault}
 use Rattle.machine_core.specs.ps_heap.Ends.{report_of}
@@ -44,12 +44,13 @@ pub record FailsAfter (old new : Outside Space) (bytes : List ℕ) : Type 0 wher
   pub first : TellsFirst old new bytes
   pub rose : Rose old.output_faults new.output_faults
 
--- Why a run broke off, whatever its machine stood for: a fault names the device or the output only where that failed, and never that the vault is full.
+-- Why a run broke off, whatever its machine stood for: a fault names the device or the output only where that failed, and never that the vault is full or in want of pages.
 abbrev pub IsCause : Outside Space → Outside Space → SwizzleFault → Type 0
 IsCause old new (AreaFull top wanted size) = Unit {0}
 IsCause old new (Vault Device) = Rose old.device_faults new.device_faults
 IsCause old new (Vault Output) = Rose old.output_faults new.output_faults
 IsCause old new (Vault (Full used wanted capacity)) = ⊥
+IsCause old new (Vault (NoPages held wanted pages)) = ⊥
 IsCause old new (Vault (Damaged at found wanted)) = Unit {0}
 
 -- From this configuration on a run had some events up to a last configuration, in an area of this size. What was pending at its start, and then this,

@@ -43,7 +43,7 @@ fn advance<V: Vault>(m: &mut Machine, vault: &mut V, output: &mut Output) -> Adv
     ensures names { WhereOn result (NamesObjects m.new) }
     ensures leaves { LeavesAll (V.outside vault.old) (V.outside vault.new) }
     ensures caused { CausedBy (V.outside vault.old) (V.outside vault.new) m.new result }
-    ensures numbers { SameNumbers V.used_words V.directory_at V.most_words vault.old vault.new }
+    ensures numbers { SameNumbers V.used_words V.directory_at V.most_words V.access vault.old vault.new }
     ensures alive { StaysAlive result (V.alive vault.new) }
 {
     let own = m.at;
@@ -98,7 +98,7 @@ fn turned<V: Vault>(vault: &mut V, output: &mut Output) -> bool
     ensures sends { SendsOn (V.outside vault.old) (V.outside vault.new) output.old output.new result }
     ensures leaves { LeavesAll (V.outside vault.old) (V.outside vault.new) }
     ensures cleared { result ≡ false → output.new ≡ [] }
-    ensures numbers { SameNumbers V.used_words V.directory_at V.most_words vault.old vault.new }
+    ensures numbers { SameNumbers V.used_words V.directory_at V.most_words V.access vault.old vault.new }
     ensures alive { StaysAlive (advanced_where result) (V.alive vault.new) }
 {
     if output.owed().is_empty() {
@@ -114,7 +114,7 @@ fn let_go<V: Vault>(vault: &mut V, output: &mut Output) -> bool
     ensures sends { SendsOn (V.outside vault.old) (V.outside vault.new) output.old output.new result }
     ensures leaves { LeavesAll (V.outside vault.old) (V.outside vault.new) }
     ensures cleared { result ≡ false → output.new ≡ [] }
-    ensures numbers { SameNumbers V.used_words V.directory_at V.most_words vault.old vault.new }
+    ensures numbers { SameNumbers V.used_words V.directory_at V.most_words V.access vault.old vault.new }
     ensures alive { StaysAlive (advanced_where result) (V.alive vault.new) }
 {
     match output.flush(vault) {
@@ -131,7 +131,7 @@ fn wrote<V: Vault>(m: &Machine, vault: &mut V, output: &mut Output) -> bool
     ensures sends { SendsOn (V.outside vault.old) (V.outside vault.new) (output.old ++ text_of m.now.objects m.now.writing) output.new result }
     ensures leaves { LeavesAll (V.outside vault.old) (V.outside vault.new) }
     ensures cleared { result ≡ false → output.new ≡ [] }
-    ensures numbers { SameNumbers V.used_words V.directory_at V.most_words vault.old vault.new }
+    ensures numbers { SameNumbers V.used_words V.directory_at V.most_words V.access vault.old vault.new }
     ensures alive { StaysAlive (advanced_where result) (V.alive vault.new) }
 {
     match tell::writing(output, vault, &m.objects, m.writing) {
@@ -145,7 +145,7 @@ fn finish<V: Vault>(end: RunEnd, vault: &mut V, output: &mut Output) -> Result<R
     requires { V.alive vault.old }
     ensures reports { Reports (V.outside vault.old) (V.outside vault.new) output.old output.new end result }
     ensures leaves { LeavesAll (V.outside vault.old) (V.outside vault.new) }
-    ensures numbers { SameNumbers V.used_words V.directory_at V.most_words vault.old vault.new }
+    ensures numbers { SameNumbers V.used_words V.directory_at V.most_words V.access vault.old vault.new }
     ensures alive { OnOk result (V.alive vault.new) }
 {
     match tell::report(output, vault, end) {
@@ -170,7 +170,7 @@ pub fn run<V: Vault>(
         → Ran (V.outside vault.old) (V.outside vault.new) output.old output.new m.old.objects.size c result }
     ensures leaves { LeavesAll (V.outside vault.old) (V.outside vault.new) }
     ensures caused { IfErr result (IsCause (V.outside vault.old) (V.outside vault.new)) }
-    ensures numbers { SameNumbers V.used_words V.directory_at V.most_words vault.old vault.new }
+    ensures numbers { SameNumbers V.used_words V.directory_at V.most_words V.access vault.old vault.new }
     ensures alive { OnOk result (V.alive vault.new) }
 {
     let mut turns = m.turns;

@@ -43,7 +43,7 @@ pub fn step<V: Vault>(m: &mut Machine, vault: &mut V) -> Stepped
     ensures takes { TakesStep (V.outside vault.old) (V.outside vault.new) m.old m.new result }
     ensures fails { FailsAsReading (V.outside vault.old) (V.outside vault.new) result m.new }
     ensures leaves { LeavesOutside (V.outside vault.old) (V.outside vault.new) }
-    ensures numbers { SameNumbers V.used_words V.directory_at V.most_words vault.old vault.new }
+    ensures numbers { SameNumbers V.used_words V.directory_at V.most_words V.access vault.old vault.new }
     ensures alive { UnlessBroken result (V.alive vault.new) }
 {
     let own = m.at;
@@ -64,7 +64,7 @@ fn act<V: Vault>(m: &mut Machine, vault: &mut V, own: u32, instr: Instr) -> Step
     requires names { NamesObjects m.old }
     requires alive { V.alive vault.old }
     ensures acts { ActsAs (V.outside vault.old) (V.outside vault.new) instr own m.old m.new result }
-    ensures numbers { SameNumbers V.used_words V.directory_at V.most_words vault.old vault.new }
+    ensures numbers { SameNumbers V.used_words V.directory_at V.most_words V.access vault.old vault.new }
     ensures alive { UnlessBroken result (V.alive vault.new) }
 {
     match instr {

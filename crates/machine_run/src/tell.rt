@@ -29,7 +29,7 @@ pub(crate) fn writing<V: Vault>(
     requires item { IsItem objects.now writing.item }
     ensures sends { Sends (V.outside vault.old) (V.outside vault.new) (output.old ++ text_of objects.now writing) output.new result }
     ensures fault { IfErr result (λ fault. fault ≡ vault_fault.Output) }
-    ensures numbers { SameNumbers V.used_words V.directory_at V.most_words vault.old vault.new }
+    ensures numbers { SameNumbers V.used_words V.directory_at V.most_words V.access vault.old vault.new }
     ensures alive { OnOk result (V.alive vault.new) }
 {
     match writing.item {
@@ -54,7 +54,7 @@ fn placed<V: Vault>(
     requires alive { V.alive vault.old }
     ensures sends { Sends (V.outside vault.old) (V.outside vault.new) (output.old ++ in_places width text.now) output.new result }
     ensures fault { IfErr result (λ fault. fault ≡ vault_fault.Output) }
-    ensures numbers { SameNumbers V.used_words V.directory_at V.most_words vault.old vault.new }
+    ensures numbers { SameNumbers V.used_words V.directory_at V.most_words V.access vault.old vault.new }
     ensures alive { OnOk result (V.alive vault.new) }
 {
     match output.blanks(vault, blank_count(width, text.len())) {
@@ -89,7 +89,7 @@ pub(crate) fn report<V: Vault>(
     requires { V.alive vault.old }
     ensures sends { Sends (V.outside vault.old) (V.outside vault.new) (output.old ++ report_of (end_of end)) output.new result }
     ensures fault { IfErr result (λ fault. fault ≡ vault_fault.Output) }
-    ensures numbers { SameNumbers V.used_words V.directory_at V.most_words vault.old vault.new }
+    ensures numbers { SameNumbers V.used_words V.directory_at V.most_words V.access vault.old vault.new }
     ensures alive { OnOk result (V.alive vault.new) }
 {
     match end {
@@ -108,7 +108,7 @@ fn trapped<V: Vault>(
     requires { V.alive vault.old }
     ensures sends { Sends (V.outside vault.old) (V.outside vault.new) (output.old ++ report_of (Trapped trap line)) output.new result }
     ensures fault { IfErr result (λ fault. fault ≡ vault_fault.Output) }
-    ensures numbers { SameNumbers V.used_words V.directory_at V.most_words vault.old vault.new }
+    ensures numbers { SameNumbers V.used_words V.directory_at V.most_words V.access vault.old vault.new }
     ensures alive { OnOk result (V.alive vault.new) }
 {
     let mut of_trap = Buffer::new();
@@ -127,7 +127,7 @@ fn pieces<V: Vault>(output: &mut Output, vault: &mut V, parts: &[&[u8]]) -> Resu
     requires { V.alive vault.old }
     ensures sends { Sends (V.outside vault.old) (V.outside vault.new) (output.old ++ joined parts.now) output.new result }
     ensures fault { IfErr result (λ fault. fault ≡ vault_fault.Output) }
-    ensures numbers { SameNumbers V.used_words V.directory_at V.most_words vault.old vault.new }
+    ensures numbers { SameNumbers V.used_words V.directory_at V.most_words V.access vault.old vault.new }
     ensures alive { OnOk result (V.alive vault.new) }
 {
     for part in parts {

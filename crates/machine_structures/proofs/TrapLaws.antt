@@ -30,7 +30,7 @@ use Rattle.machine_core.specs.declared.stepped.Stepped.TheVariants.{Halts, Damag
 use Rattle.machine_core.specs.Holding.{IsSound}
 use Rattle.machine_core.specs.Naming.{NamesObjects}
 use Rattle.machine_core.specs.Stepped.{Does, UnlessBroken, end_of, ended}
-use Rattle.machine_operands.proofs.Popping.{nil-object, structure-object, other-object}
+use Rattle.machine_operands.proofs.Popping.{nil-object, pointer-object, other-object}
 use Rattle.machine_operands.proofs.Reading.{names-kept}
 use Rattle.machine_structures.specs.declared.traps.Field.{Field}
 use Rattle.machine_structures.specs.declared.traps.Row.{Row}
@@ -41,11 +41,11 @@ use Rattle.machine_structures.proofs.ClassFields.{stuck-in-row}
 -- What an object is, by its sort.
 module _ (here : area.Heap) (outside : Outside Space) (object : Option ℕ) (s : Sort)
     (sorted : (names : List Reference) (v : Value) → DenotesIn here outside names object v → IsOfSort v s) where
-  pub object-is : (s ≡ sort.Nil) ⊎ (s ≡ sort.Structure) → IsObject here outside object
+  pub object-is : (s ≡ sort.Nil) ⊎ (s ≡ sort.Pointer) → IsObject here outside object
   object-is (inl is) names v d c next = nil-object v (subst (IsOfSort v) is (sorted names v d)) c next
-  object-is (inr is) names v d c next = structure-object v (subst (IsOfSort v) is (sorted names v d)) c next
+  object-is (inr is) names v d c next = pointer-object v (subst (IsOfSort v) is (sorted names v d)) c next
 
-  pub other-is : s ≢ sort.Nil → s ≢ sort.Structure → IsNoObject here outside object
+  pub other-is : s ≢ sort.Nil → s ≢ sort.Pointer → IsNoObject here outside object
   other-is nil structure names v d c next = other-object s nil structure v (sorted names v d) c next
 
 -- by a form in the row the step follows

@@ -30,7 +30,7 @@ pub fn field_num<V: Vault>(m: &mut Machine, vault: &mut V, k: u32, n: u32, line:
     ensures takes { Takes (V.outside vault.old) (V.outside vault.new) (field_num_of k n line) m.old m.new result }
     ensures fails { FailsAsReading (V.outside vault.old) (V.outside vault.new) result m.new }
     ensures leaves { LeavesOutside (V.outside vault.old) (V.outside vault.new) }
-    ensures numbers { SameNumbers V.used_words V.directory_at V.most_words vault.old vault.new }
+    ensures numbers { SameNumbers V.used_words V.directory_at V.most_words V.access vault.old vault.new }
     ensures alive { UnlessBroken result (V.alive vault.new) }
 {
     let field = Field {
@@ -60,7 +60,7 @@ pub fn field_ref<V: Vault>(m: &mut Machine, vault: &mut V, k: u32, n: u32, line:
     ensures takes { Takes (V.outside vault.old) (V.outside vault.new) (field_ref_of k n line) m.old m.new result }
     ensures fails { FailsAsReading (V.outside vault.old) (V.outside vault.new) result m.new }
     ensures leaves { LeavesOutside (V.outside vault.old) (V.outside vault.new) }
-    ensures numbers { SameNumbers V.used_words V.directory_at V.most_words vault.old vault.new }
+    ensures numbers { SameNumbers V.used_words V.directory_at V.most_words V.access vault.old vault.new }
     ensures alive { UnlessBroken result (V.alive vault.new) }
 {
     let field = Field {
@@ -97,7 +97,7 @@ pub fn set_field_num<V: Vault>(
     ensures takes { Takes (V.outside vault.old) (V.outside vault.new) (set_field_num_of k n line) m.old m.new result }
     ensures fails { FailsAsReading (V.outside vault.old) (V.outside vault.new) result m.new }
     ensures leaves { LeavesOutside (V.outside vault.old) (V.outside vault.new) }
-    ensures numbers { SameNumbers V.used_words V.directory_at V.most_words vault.old vault.new }
+    ensures numbers { SameNumbers V.used_words V.directory_at V.most_words V.access vault.old vault.new }
     ensures alive { UnlessBroken result (V.alive vault.new) }
 {
     let field = Field {
@@ -126,7 +126,7 @@ pub fn set_field_ref<V: Vault>(
     ensures takes { Takes (V.outside vault.old) (V.outside vault.new) (set_field_ref_of k n line) m.old m.new result }
     ensures fails { FailsAsReading (V.outside vault.old) (V.outside vault.new) result m.new }
     ensures leaves { LeavesOutside (V.outside vault.old) (V.outside vault.new) }
-    ensures numbers { SameNumbers V.used_words V.directory_at V.most_words vault.old vault.new }
+    ensures numbers { SameNumbers V.used_words V.directory_at V.most_words V.access vault.old vault.new }
     ensures alive { UnlessBroken result (V.alive vault.new) }
 {
     let field = Field {
@@ -157,7 +157,7 @@ fn put_field<V: Vault>(
     ensures puts { PutsField (V.outside vault.old) (V.outside vault.new) field to line m.old m.new result }
     ensures fails { FailsAsReading (V.outside vault.old) (V.outside vault.new) result m.new }
     ensures leaves { LeavesOutside (V.outside vault.old) (V.outside vault.new) }
-    ensures numbers { SameNumbers V.used_words V.directory_at V.most_words vault.old vault.new }
+    ensures numbers { SameNumbers V.used_words V.directory_at V.most_words V.access vault.old vault.new }
     ensures alive { UnlessBroken result (V.alive vault.new) }
 {
     let Some(object) = pop_any::<V>(m) else {

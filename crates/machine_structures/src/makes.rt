@@ -34,7 +34,7 @@ pub fn make_structure<V: Vault>(m: &mut Machine, vault: &mut V, k: u32) -> Stepp
     ensures takes { Takes (V.outside vault.old) (V.outside vault.new) (make_structure_of k) m.old m.new result }
     ensures fails { FailsAsReading (V.outside vault.old) (V.outside vault.new) result m.new }
     ensures leaves { LeavesOutside (V.outside vault.old) (V.outside vault.new) }
-    ensures numbers { SameNumbers V.used_words V.directory_at V.most_words vault.old vault.new }
+    ensures numbers { SameNumbers V.used_words V.directory_at V.most_words V.access vault.old vault.new }
     ensures alive { UnlessBroken result (V.alive vault.new) }
 {
     let got = m.objects.class_rows(vault, m.code, k);
@@ -112,7 +112,7 @@ fn make_by_text<V: Vault>(m: &mut Machine, vault: &mut V, k: u32) -> Stepped
     ensures takes { Takes (V.outside vault.old) (V.outside vault.new) (make_structure_of k) m.old m.new result }
     ensures fails { FailsAsReading (V.outside vault.old) (V.outside vault.new) result m.new }
     ensures leaves { LeavesOutside (V.outside vault.old) (V.outside vault.new) }
-    ensures numbers { SameNumbers V.used_words V.directory_at V.most_words vault.old vault.new }
+    ensures numbers { SameNumbers V.used_words V.directory_at V.most_words V.access vault.old vault.new }
     ensures alive { UnlessBroken result (V.alive vault.new) }
 {
     let class = match text_constant(m, vault, k) {

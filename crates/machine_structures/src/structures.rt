@@ -72,7 +72,7 @@ pub fn is_of_class<V: Vault>(m: &mut Machine, vault: &mut V, k: u32) -> Stepped
     ensures takes { Takes (V.outside vault.old) (V.outside vault.new) (is_of_class_of k) m.old m.new result }
     ensures fails { FailsAsReading (V.outside vault.old) (V.outside vault.new) result m.new }
     ensures leaves { LeavesOutside (V.outside vault.old) (V.outside vault.new) }
-    ensures numbers { SameNumbers V.used_words V.directory_at V.most_words vault.old vault.new }
+    ensures numbers { SameNumbers V.used_words V.directory_at V.most_words V.access vault.old vault.new }
     ensures alive { UnlessBroken result (V.alive vault.new) }
 {
     let code = m.code;

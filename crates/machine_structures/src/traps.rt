@@ -1,5 +1,5 @@
-//! Traps of operations on fields. An operation names what it is asked of an object, whatever that is; an instruction has the trap only where the object is nil
-//! or a structure, and the field lies in the instruction's row.
+//! Traps of operations on fields. An operation names what it is asked of an object, whatever that is; an instruction has the trap only where the object is nil,
+//! a structure or a table, and the field lies in the instruction's row.
 ghost use Rattle.std.specs.Prelude.{◌≢◌, IfSome, MatchBool};
 ghost use Rattle.machine_core.specs.obj_layout.Storing.{SameNumbers};
 ghost use Rattle.machine_core.specs.swizzle.Heap.{IsHeld};
@@ -35,13 +35,13 @@ pub(crate) enum Row {
     References,
 }
 
-// Whether an object is nil or a structure.
+// Whether an object is nil, a structure or a table.
 #[inline(always)]
 fn is_object<V: Vault>(m: &Machine, object: Option<u32>) -> bool
     requires { IfSome object (IsHeld m.now.objects) }
     ensures { (v : V) → MatchBool result (IsObject m.now.objects (V.outside v) object) (IsNoObject m.now.objects (V.outside v) object) }
 {
-    matches!(m.objects.sort_of::<V>(object), Sort::Nil | Sort::Structure)
+    matches!(m.objects.sort_of::<V>(object), Sort::Nil | Sort::Pointer)
 }
 
 // Whether a field of this form lies in a row.
@@ -55,7 +55,7 @@ fn is_in_row(row: Row, form: Form) -> bool
     }
 }
 
-/// The trap of an operation on a field of this object; damaged where that is neither nil nor a structure.
+/// The trap of an operation on a field of this object; damaged where that is neither nil nor a structure nor a table.
 #[inline(never)]
 pub(crate) fn object_trapped<V: Vault>(
     m: &mut Machine,
@@ -74,7 +74,7 @@ pub(crate) fn object_trapped<V: Vault>(
     trapped::<V>(m, trap, line)
 }
 
-/// The trap of a reading of a field of this object. Damaged where that is neither nil nor a structure, or the field lies in the other row; it breaks off
+/// The trap of a reading of a field of this object. Damaged where that is neither nil nor a structure nor a table, or the field lies in the other row; it breaks off
 /// where that can't be found out.
 #[inline(never)]
 pub(crate) fn field_trapped<V: Vault>(
@@ -94,7 +94,7 @@ pub(crate) fn field_trapped<V: Vault>(
     ensures traps { TrapsAt (V.outside vault.old) (V.outside vault.new) field row object trap line m.old m.new result }
     ensures fails { FailsAsReading (V.outside vault.old) (V.outside vault.new) result m.new }
     ensures leaves { LeavesOutside (V.outside vault.old) (V.outside vault.new) }
-    ensures numbers { SameNumbers V.used_words V.directory_at V.most_words vault.old vault.new }
+    ensures numbers { SameNumbers V.used_words V.directory_at V.most_words V.access vault.old vault.new }
     ensures alive { UnlessBroken result (V.alive vault.new) }
 {
     if !is_object::<V>(m, object) {

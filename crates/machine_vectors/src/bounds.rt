@@ -23,7 +23,7 @@ pub fn lower_bound<V: Vault>(m: &mut Machine, vault: &mut V) -> Stepped
     ensures takes { Takes (V.outside vault.old) (V.outside vault.new) (bound_of low_of) m.old m.new result }
     ensures fails { FailsAsReading (V.outside vault.old) (V.outside vault.new) result m.new }
     ensures leaves { LeavesOutside (V.outside vault.old) (V.outside vault.new) }
-    ensures numbers { SameNumbers V.used_words V.directory_at V.most_words vault.old vault.new }
+    ensures numbers { SameNumbers V.used_words V.directory_at V.most_words V.access vault.old vault.new }
     ensures alive { UnlessBroken result (V.alive vault.new) }
 {
     let Some(vector) = pop_vector::<V>(m) else {
@@ -42,7 +42,7 @@ pub fn upper_bound<V: Vault>(m: &mut Machine, vault: &mut V) -> Stepped
     ensures takes { Takes (V.outside vault.old) (V.outside vault.new) (bound_of high_of) m.old m.new result }
     ensures fails { FailsAsReading (V.outside vault.old) (V.outside vault.new) result m.new }
     ensures leaves { LeavesOutside (V.outside vault.old) (V.outside vault.new) }
-    ensures numbers { SameNumbers V.used_words V.directory_at V.most_words vault.old vault.new }
+    ensures numbers { SameNumbers V.used_words V.directory_at V.most_words V.access vault.old vault.new }
     ensures alive { UnlessBroken result (V.alive vault.new) }
 {
     let Some(vector) = pop_vector::<V>(m) else {

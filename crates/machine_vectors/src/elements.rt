@@ -28,7 +28,7 @@ pub fn element_num<V: Vault>(m: &mut Machine, vault: &mut V, line: Line) -> Step
     ensures takes { Takes (V.outside vault.old) (V.outside vault.new) (element_num_of line) m.old m.new result }
     ensures fails { FailsAsReading (V.outside vault.old) (V.outside vault.new) result m.new }
     ensures leaves { LeavesOutside (V.outside vault.old) (V.outside vault.new) }
-    ensures numbers { SameNumbers V.used_words V.directory_at V.most_words vault.old vault.new }
+    ensures numbers { SameNumbers V.used_words V.directory_at V.most_words V.access vault.old vault.new }
     ensures alive { UnlessBroken result (V.alive vault.new) }
 {
     let Some(at) = pop_int::<V>(m) else {
@@ -59,7 +59,7 @@ fn find_number<V: Vault>(
     ensures finds { TakesVector (V.outside vault.old) (V.outside vault.new) anything (number_read line at) vector m.old m.new result }
     ensures fails { FailsAsReading (V.outside vault.old) (V.outside vault.new) result m.new }
     ensures leaves { LeavesOutside (V.outside vault.old) (V.outside vault.new) }
-    ensures numbers { SameNumbers V.used_words V.directory_at V.most_words vault.old vault.new }
+    ensures numbers { SameNumbers V.used_words V.directory_at V.most_words V.access vault.old vault.new }
     ensures alive { UnlessBroken result (V.alive vault.new) }
 {
     let got = m.objects.get_element(vault, vector, at);
@@ -76,7 +76,7 @@ pub fn element_ref<V: Vault>(m: &mut Machine, vault: &mut V, line: Line) -> Step
     ensures takes { Takes (V.outside vault.old) (V.outside vault.new) (element_ref_of line) m.old m.new result }
     ensures fails { FailsAsReading (V.outside vault.old) (V.outside vault.new) result m.new }
     ensures leaves { LeavesOutside (V.outside vault.old) (V.outside vault.new) }
-    ensures numbers { SameNumbers V.used_words V.directory_at V.most_words vault.old vault.new }
+    ensures numbers { SameNumbers V.used_words V.directory_at V.most_words V.access vault.old vault.new }
     ensures alive { UnlessBroken result (V.alive vault.new) }
 {
     let Some(at) = pop_int::<V>(m) else {
@@ -104,7 +104,7 @@ fn find_reference<V: Vault>(
     ensures finds { TakesVector (V.outside vault.old) (V.outside vault.new) anything (reference_read line at) vector m.old m.new result }
     ensures fails { FailsAsReading (V.outside vault.old) (V.outside vault.new) result m.new }
     ensures leaves { LeavesOutside (V.outside vault.old) (V.outside vault.new) }
-    ensures numbers { SameNumbers V.used_words V.directory_at V.most_words vault.old vault.new }
+    ensures numbers { SameNumbers V.used_words V.directory_at V.most_words V.access vault.old vault.new }
     ensures alive { UnlessBroken result (V.alive vault.new) }
 {
     let got = m.objects.get_element(vault, vector, at);

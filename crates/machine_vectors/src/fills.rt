@@ -33,7 +33,7 @@ pub fn fill_num<V: Vault>(m: &mut Machine, vault: &mut V, k: u32, line: Line) ->
     ensures takes { Takes (V.outside vault.old) (V.outside vault.new) (fill_num_of k line) m.old m.new result }
     ensures fails { FailsAsReading (V.outside vault.old) (V.outside vault.new) result m.new }
     ensures leaves { LeavesOutside (V.outside vault.old) (V.outside vault.new) }
-    ensures numbers { SameNumbers V.used_words V.directory_at V.most_words vault.old vault.new }
+    ensures numbers { SameNumbers V.used_words V.directory_at V.most_words V.access vault.old vault.new }
     ensures alive { UnlessBroken result (V.alive vault.new) }
 {
     match text_constant(m, vault, k) {
@@ -71,7 +71,7 @@ pub fn fill_ref<V: Vault>(m: &mut Machine, vault: &mut V, k: u32, line: Line) ->
     ensures takes { Takes (V.outside vault.old) (V.outside vault.new) (fill_ref_of k line) m.old m.new result }
     ensures fails { FailsAsReading (V.outside vault.old) (V.outside vault.new) result m.new }
     ensures leaves { LeavesOutside (V.outside vault.old) (V.outside vault.new) }
-    ensures numbers { SameNumbers V.used_words V.directory_at V.most_words vault.old vault.new }
+    ensures numbers { SameNumbers V.used_words V.directory_at V.most_words V.access vault.old vault.new }
     ensures alive { UnlessBroken result (V.alive vault.new) }
 {
     match text_constant(m, vault, k) {

@@ -31,7 +31,7 @@ pub fn set_element_num<V: Vault>(m: &mut Machine, vault: &mut V, line: Line) -> 
     ensures takes { Takes (V.outside vault.old) (V.outside vault.new) (set_element_num_of line) m.old m.new result }
     ensures fails { FailsAsReading (V.outside vault.old) (V.outside vault.new) result m.new }
     ensures leaves { LeavesOutside (V.outside vault.old) (V.outside vault.new) }
-    ensures numbers { SameNumbers V.used_words V.directory_at V.most_words vault.old vault.new }
+    ensures numbers { SameNumbers V.used_words V.directory_at V.most_words V.access vault.old vault.new }
     ensures alive { UnlessBroken result (V.alive vault.new) }
 {
     let Some(z) = pop_int::<V>(m) else {
@@ -63,7 +63,7 @@ fn write_number<V: Vault>(
     ensures puts { TakesVector (V.outside vault.old) (V.outside vault.new) anything (number_put line at z) vector m.old m.new result }
     ensures fails { FailsAsReading (V.outside vault.old) (V.outside vault.new) result m.new }
     ensures leaves { LeavesOutside (V.outside vault.old) (V.outside vault.new) }
-    ensures numbers { SameNumbers V.used_words V.directory_at V.most_words vault.old vault.new }
+    ensures numbers { SameNumbers V.used_words V.directory_at V.most_words V.access vault.old vault.new }
     ensures alive { UnlessBroken result (V.alive vault.new) }
 {
     match m.objects.known_form::<V>(vector, at) {
@@ -89,7 +89,7 @@ fn put_number<V: Vault>(
     ensures puts { TakesVector (V.outside vault.old) (V.outside vault.new) OfNumbers (number_put line at z) vector m.old m.new result }
     ensures fails { FailsAsReading (V.outside vault.old) (V.outside vault.new) result m.new }
     ensures leaves { LeavesOutside (V.outside vault.old) (V.outside vault.new) }
-    ensures numbers { SameNumbers V.used_words V.directory_at V.most_words vault.old vault.new }
+    ensures numbers { SameNumbers V.used_words V.directory_at V.most_words V.access vault.old vault.new }
     ensures alive { UnlessBroken result (V.alive vault.new) }
 {
     let set = m.objects.set_element(vault, vector, at, Value::Num(z));
@@ -113,7 +113,7 @@ fn place_number<V: Vault>(
     ensures puts { TakesVector (V.outside vault.old) (V.outside vault.new) anything (number_put line at z) vector m.old m.new result }
     ensures fails { FailsAsReading (V.outside vault.old) (V.outside vault.new) result m.new }
     ensures leaves { LeavesOutside (V.outside vault.old) (V.outside vault.new) }
-    ensures numbers { SameNumbers V.used_words V.directory_at V.most_words vault.old vault.new }
+    ensures numbers { SameNumbers V.used_words V.directory_at V.most_words V.access vault.old vault.new }
     ensures alive { UnlessBroken result (V.alive vault.new) }
 {
     let told = m.objects.element_form(vault, vector);
@@ -139,7 +139,7 @@ pub fn set_element_ref<V: Vault>(m: &mut Machine, vault: &mut V, line: Line) -> 
     ensures takes { Takes (V.outside vault.old) (V.outside vault.new) (set_element_ref_of line) m.old m.new result }
     ensures fails { FailsAsReading (V.outside vault.old) (V.outside vault.new) result m.new }
     ensures leaves { LeavesOutside (V.outside vault.old) (V.outside vault.new) }
-    ensures numbers { SameNumbers V.used_words V.directory_at V.most_words vault.old vault.new }
+    ensures numbers { SameNumbers V.used_words V.directory_at V.most_words V.access vault.old vault.new }
     ensures alive { UnlessBroken result (V.alive vault.new) }
 {
     let Some(to) = pop_any::<V>(m) else {
@@ -172,7 +172,7 @@ fn write_reference<V: Vault>(
     ensures puts { PutsReference (V.outside vault.old) (V.outside vault.new) anything line at to vector m.old m.new result }
     ensures fails { FailsAsReading (V.outside vault.old) (V.outside vault.new) result m.new }
     ensures leaves { LeavesOutside (V.outside vault.old) (V.outside vault.new) }
-    ensures numbers { SameNumbers V.used_words V.directory_at V.most_words vault.old vault.new }
+    ensures numbers { SameNumbers V.used_words V.directory_at V.most_words V.access vault.old vault.new }
     ensures alive { UnlessBroken result (V.alive vault.new) }
 {
     match m.objects.known_form::<V>(vector, at) {
@@ -199,7 +199,7 @@ fn put_reference<V: Vault>(
     ensures puts { PutsReference (V.outside vault.old) (V.outside vault.new) OfReferences line at to vector m.old m.new result }
     ensures fails { FailsAsReading (V.outside vault.old) (V.outside vault.new) result m.new }
     ensures leaves { LeavesOutside (V.outside vault.old) (V.outside vault.new) }
-    ensures numbers { SameNumbers V.used_words V.directory_at V.most_words vault.old vault.new }
+    ensures numbers { SameNumbers V.used_words V.directory_at V.most_words V.access vault.old vault.new }
     ensures alive { UnlessBroken result (V.alive vault.new) }
 {
     let set = m.objects.set_element(vault, vector, at, Value::Ref(to));
@@ -224,7 +224,7 @@ fn place_reference<V: Vault>(
     ensures puts { PutsReference (V.outside vault.old) (V.outside vault.new) anything line at to vector m.old m.new result }
     ensures fails { FailsAsReading (V.outside vault.old) (V.outside vault.new) result m.new }
     ensures leaves { LeavesOutside (V.outside vault.old) (V.outside vault.new) }
-    ensures numbers { SameNumbers V.used_words V.directory_at V.most_words vault.old vault.new }
+    ensures numbers { SameNumbers V.used_words V.directory_at V.most_words V.access vault.old vault.new }
     ensures alive { UnlessBroken result (V.alive vault.new) }
 {
     let told = m.objects.element_form(vault, vector);
@@ -251,7 +251,7 @@ fn refuse<V: Vault>(m: &mut Machine, vault: &mut V, vector: u32, at: i32, line: 
     ensures refuses { RefusesElement (V.outside vault.old) (V.outside vault.new) line at vector m.old m.new result }
     ensures fails { FailsAsReading (V.outside vault.old) (V.outside vault.new) result m.new }
     ensures leaves { LeavesOutside (V.outside vault.old) (V.outside vault.new) }
-    ensures numbers { SameNumbers V.used_words V.directory_at V.most_words vault.old vault.new }
+    ensures numbers { SameNumbers V.used_words V.directory_at V.most_words V.access vault.old vault.new }
     ensures alive { UnlessBroken result (V.alive vault.new) }
 {
     let got = m.objects.get_element(vault, vector, at);

@@ -2,7 +2,7 @@
 use Rattle.std.specs.Prelude.{◌≡◌, ℕ, ◌-◌, ◌^◌, min, max, Bool, true, false, nat_le, List, [], length, take, Option, Some, None, Result, Ok, Err}
 use Rattle.obj_layout.specs.ps_outside.Outside.{Outside, next_count}
 use Rattle.obj_layout.specs.declared.vault.VaultFault.{VaultFault}
-use Rattle.obj_layout.specs.declared.vault.VaultFault.TheVariants.{Device, Output, Full, Damaged}
+use Rattle.obj_layout.specs.declared.vault.VaultFault.TheVariants.{Device, Output, Full, NoPages, Damaged}
 use Rattle.obj_layout.specs.Stored.{Space, IsSpace}
 
 -- what a vault in memory keeps
@@ -73,6 +73,7 @@ abbrev pub failed : VaultFault → Memory → Memory
 failed Device memory = record memory { device_faults = next_count memory.device_faults; alive = false }
 failed Output memory = record memory { output_faults = next_count memory.output_faults; alive = false }
 failed (Full used wanted capacity) memory = record memory { alive = false }
+failed (NoPages held wanted pages) memory = record memory { alive = false }
 failed (Damaged at found wanted) memory = record memory { alive = false }
 
 -- the vault after a device call, and after one that had this answer

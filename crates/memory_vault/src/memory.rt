@@ -225,6 +225,7 @@ impl MemoryVault {
 impl Vault for MemoryVault {
     ghost use Rattle.std.proofs.Common.{arith, sym, ◌∙◌};
     ghost use Rattle.memory_vault.specs.Memory.{outside_of, used_of, most_of};
+    ghost use Rattle.obj_layout.specs.Storing.{unshared};
 
     ghost outside = { outside_of };
 
@@ -235,6 +236,8 @@ impl Vault for MemoryVault {
     ghost most_words = { most_of };
 
     ghost directory_at = { λ vault. vault.space.directory };
+
+    ghost access = { λ vault. unshared };
 
     fn length(&mut self, pid: u64) -> Result<u32, VaultFault> {
         let header = self.object(pid, None)?;
@@ -293,6 +296,10 @@ impl Vault for MemoryVault {
 
     fn directory(&self) -> u64 {
         self.directory
+    }
+
+    fn writable(&self) -> bool {
+        true
     }
 
     fn is_alive(&self) -> bool {

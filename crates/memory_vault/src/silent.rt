@@ -22,6 +22,7 @@ impl SilentVault {
 impl Vault for SilentVault {
     ghost use Rattle.std.proofs.Common.{arith};
     ghost use Rattle.memory_vault.specs.Silent.{nothing_told};
+    ghost use Rattle.obj_layout.specs.Storing.{unshared};
 
     ghost outside = { λ vault. nothing_told };
 
@@ -32,6 +33,8 @@ impl Vault for SilentVault {
     ghost most_words = { λ vault. 1 };
 
     ghost directory_at = { λ vault. 0 };
+
+    ghost access = { λ vault. unshared };
 
     fn length(&mut self, pid: u64) -> Result<u32, VaultFault> {
         self.ask();
@@ -87,6 +90,10 @@ impl Vault for SilentVault {
 
     fn directory(&self) -> u64 {
         0
+    }
+
+    fn writable(&self) -> bool {
+        true
     }
 
     fn is_alive(&self) -> bool {

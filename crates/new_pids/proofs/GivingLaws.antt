@@ -12,7 +12,8 @@ use Rattle.joint_ops.proofs.of_swizzle.JointLaws.{object-replaced, object-replac
 use Rattle.renames.specs.Renames.{Renames}
 use Rattle.joint_ops.specs.swizzle.Numbered.{numbered, with_pid, GivesPid}
 use Rattle.renames.specs.Numbered.{renamed_at}
-use Rattle.renames.proofs.RenameLaws.{renames-none, renames-then, row-renamed, stands-moved, scope-moved, unit-moved, name_in-map}
+use Rattle.renames.proofs.RenameLaws.{renames-none, renames-then, stands-moved, scope-moved, unit-moved}
+use Rattle.renames.proofs.RowLaws.{row-renamed, name_in-map}
 use Rattle.joint_ops.specs.ps_outside.Outside.{Outside}
 use Rattle.joint_ops.specs.obj_layout.Stored.{Space}
 use Rattle.joint_ops.specs.swizzle.Touch.{Denotes}

@@ -59,6 +59,7 @@ impl<H: Host> NoStore<H> {
 impl<H: Host> Vault for NoStore<H> {
     ghost use Rattle.std.proofs.Common.{arith};
     ghost use Rattle.no_store.specs.NoObjects.{outside_of};
+    ghost use Rattle.obj_layout.specs.Storing.{unshared};
 
     ghost outside = { λ vault. outside_of (H.outside vault.host) };
 
@@ -70,6 +71,8 @@ impl<H: Host> Vault for NoStore<H> {
     ghost most_words = { λ vault. 0 };
 
     ghost directory_at = { λ vault. 0 };
+
+    ghost access = { λ vault. unshared };
 
     fn length(&mut self, pid: u64) -> Result<u32, VaultFault> {
         Err(self.refuse(pid))
@@ -116,6 +119,10 @@ impl<H: Host> Vault for NoStore<H> {
 
     fn directory(&self) -> u64 {
         0
+    }
+
+    fn writable(&self) -> bool {
+        true
     }
 
     fn is_alive(&self) -> bool {

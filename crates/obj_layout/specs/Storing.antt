@@ -1,14 +1,24 @@
 -- What each call of a store says of the outside.
-use Rattle.std.specs.Prelude.{◌≡◌, ◌≢◌, ◌⊎◌, ℕ, ◌+◌, ◌*◌, ◌/◌, ◌≤◌, List, Option, Some, None, Result, Err, OnOk, OnErr}
+use Rattle.std.specs.Prelude.{◌≡◌, ◌≢◌, ◌⊎◌, ℕ, ◌+◌, ◌/◌, ◌≤◌, ◌<◌, Bool, true, false, List, Option, Some, None, Result, Err, OnOk, OnErr}
 use Rattle.ps_outside.specs.Outside.{Outside, Leaves, LeavesSame, SameContents, TellsNothing, TellsPrefix, ToldAll, Rose, seen_as}
 use Rattle.ps_outside.specs.Past.{KeepsPast}
 use Rattle.obj_layout.specs.declared.vault.VaultFault.{VaultFault}
-use Rattle.obj_layout.specs.declared.vault.VaultFault.TheVariants.{Device, Output, Full, Damaged}
+use Rattle.obj_layout.specs.declared.vault.VaultFault.TheVariants.{Device, Output, Full, NoPages, Damaged}
 use Rattle.obj_layout.specs.Stored.{Space, damage_at, without_file}
 
--- What a vault says of itself in numbers stays: its used words, where its directory is, and the most words that it may use.
-abbrev pub SameNumbers : {V : Type 0} → (V → ℕ) → (V → ℕ) → (V → ℕ) → V → V → Type 0
-SameNumbers used directory most old new = (used new ≡ used old) × (directory new ≡ directory old) × (most new ≡ most old)
+-- Who else uses a vault: whether it may be written, and whether it is alone, so that no snapshot holds pages of it.
+pub record Access : Type 0 where
+  pub writes : Bool
+  pub alone : Bool
+
+-- nobody else uses it
+abbrev pub unshared : Access
+unshared = record { writes = true; alone = true }
+
+-- What a vault says of itself stays: its used words, where its directory is, the most words that it may use, and who else uses it.
+abbrev pub SameNumbers : {V : Type 0} → (V → ℕ) → (V → ℕ) → (V → ℕ) → (V → Access) → V → V → Type 0
+SameNumbers used directory most access old new =
+    (used new ≡ used old) × (directory new ≡ directory old) × (most new ≡ most old) × (access new ≡ access old)
 
 -- an outside whose images are seen by their words and their directory, whatever their files
 abbrev pub unfiled : Outside Space → Outside Space
@@ -51,6 +61,14 @@ NeverDamaged result = (at found bound : ℕ) → result ≢ Err (Damaged at foun
 abbrev pub NeverFull : {T : Type 0} → Result T VaultFault → Type 0
 NeverFull result = (used wanted capacity : ℕ) → result ≢ Err (Full used wanted capacity)
 
+-- no page is wanted
+abbrev pub NeverLacksPages : {T : Type 0} → Result T VaultFault → Type 0
+NeverLacksPages result = (held wanted pages : ℕ) → result ≢ Err (NoPages held wanted pages)
+
+-- Pages are lacked only beside snapshots, and where those that are held and those that are wanted are more than there are.
+abbrev pub LacksPages : {T : Type 0} → Access → Result T VaultFault → Type 0
+LacksPages access result = (held wanted pages : ℕ) → result ≡ Err (NoPages held wanted pages) → (access.alone ≡ false) × (pages < held + wanted)
+
 -- after a fault no call may be made
 abbrev pub DeadIfErr : {T : Type 0} → Type 0 → Result T VaultFault → Type 0
 DeadIfErr alive result = OnErr result (alive → ⊥)
@@ -85,8 +103,8 @@ pub record Puts {T : Type 0} (old new : Outside Space) (bytes : List ℕ) (resul
   pub other : result ≢ Err Device
   pub calls : new.device_calls ≡ old.device_calls
 
--- how many device calls an object of so many words may take, read and written; and a settling with so many used words, of which each page may
--- be read and written anew
+-- how many device calls an object of so many words may take, read and written; and a settling with so many used words, of which each page of the
+-- map may be written, 1,024 pages of 512 words in each
 abbrev pub reading : ℕ → ℕ
 reading words = words / 512 + 4
 
@@ -94,4 +112,4 @@ abbrev pub writing : ℕ → ℕ
 writing words = words / 256 + 6
 
 abbrev pub settling : ℕ → ℕ
-settling used = 2 * ((used + 511) / 512) + 5
+settling used = (used + 524287) / 524288 + 6

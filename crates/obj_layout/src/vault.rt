@@ -1,7 +1,7 @@
 ghost use Rattle.std.specs.Prelude.{◌≡◌, ◌+◌, ◌≤◌, ◌<◌, ◌^◌, ◌↔◌, ℕ, List, length, Some, None, true, IfOk, OnOk, Err, drop};
 ghost use Rattle.ps_outside.specs.Outside.{Outside, SameContents};
 ghost use Rattle.obj_layout.specs.Stored.{Space, IsSpace, Holds, IsHeaded, length_there, words_there, appended, overwritten, directed};
-ghost use Rattle.obj_layout.specs.Storing.{IsStoreCall, IsStagingCall, TestsObject, NeverDamaged, NeverFull, DeadIfErr, Becomes, Settles, Puts, reading, writing, settling, SameNumbers};
+ghost use Rattle.obj_layout.specs.Storing.{IsStoreCall, IsStagingCall, TestsObject, NeverDamaged, NeverFull, Access, LacksPages, NeverLacksPages, DeadIfErr, Becomes, Settles, Puts, reading, writing, settling, SameNumbers};
 
 /// Why a vault didn't answer. After any fault the vault isn't alive.
 #[derive(Clone, Copy, PartialEq, Eq, Debug)]
@@ -15,6 +15,13 @@ pub enum VaultFault {
         used: u64,
         wanted: u64,
         capacity: u64,
+    },
+    /// So many pages are held, by what is committed, by what is staged and by snapshots, so many more are wanted, and there are only so many.
+    /// `append`, `overwrite` and `settle` alone answer it, and only beside snapshots (`docs/formats.md`, "Snapshots").
+    NoPages {
+        held: u32,
+        wanted: u32,
+        pages: u32,
     },
     /// At this PID a test of the object failed: the number that was tested, and its bound (`docs/formats.md`).
     Damaged {
@@ -38,6 +45,9 @@ pub trait Vault {
 
     ghost directory_at: { Self → ℕ };
 
+    /// Whether it may be written, and whether no snapshot holds pages of it.
+    ghost access: { Self → Access };
+
     /// How many words the object has, its header included. It goes by what stands at the PID alone: whether the rest of the space is cut into
     /// objects changes nothing.
     fn length(&mut self, pid: u64) -> Result<u32, VaultFault>
@@ -48,7 +58,8 @@ pub trait Vault {
         ensures call { IsStoreCall (outside self.old) (outside self.new) 2 result }
         ensures same { SameContents (outside self.old) (outside self.new) }
         ensures full { NeverFull result }
-        ensures numbers { SameNumbers used_words directory_at most_words self.old self.new }
+        ensures pages { NeverLacksPages result }
+        ensures numbers { SameNumbers used_words directory_at most_words access self.old self.new }
         ensures alive { OnOk result (alive self.new) }
         ensures dead { DeadIfErr (alive self.new) result };
 
@@ -63,48 +74,55 @@ pub trait Vault {
         ensures call { IsStoreCall (outside self.old) (outside self.new) (reading (length into.old)) result }
         ensures same { SameContents (outside self.old) (outside self.new) }
         ensures full { NeverFull result }
-        ensures numbers { SameNumbers used_words directory_at most_words self.old self.new }
+        ensures pages { NeverLacksPages result }
+        ensures numbers { SameNumbers used_words directory_at most_words access self.old self.new }
         ensures alive { OnOk result (alive self.new) }
         ensures dead { DeadIfErr (alive self.new) result };
 
     /// Stores a new object. Its PID is the number of used words before.
     fn append(&mut self, words: &[u64]) -> Result<u64, VaultFault>
         requires alive { alive self.old }
+        requires writable { (access self.old).writes ≡ true }
         requires headed { IsHeaded words.now }
         ensures pid { IfOk result (λ pid. pid ≡ used_words self.old) }
         ensures told { OnOk result (Becomes (outside self.old) (outside self.new) (appended words.now)) }
         ensures full { (used wanted capacity : ℕ) → result ≡ Err (VaultFault.Full used wanted capacity) →
             (used ≡ used_words self.old) × (wanted ≡ length words.now) × (capacity ≡ most_words self.old) × (capacity < used + wanted) }
         ensures room { OnOk result (used_words self.old + length words.now ≤ most_words self.old) }
+        ensures pages { LacksPages (access self.old) result }
         ensures call { IsStagingCall (outside self.old) (outside self.new) (writing (length words.now)) result }
         ensures sound { NeverDamaged result }
         ensures used { OnOk result (used_words self.new ≡ used_words self.old + length words.now) }
-        ensures numbers { (directory_at self.new ≡ directory_at self.old) × (most_words self.new ≡ most_words self.old) }
+        ensures numbers { (directory_at self.new ≡ directory_at self.old) × (most_words self.new ≡ most_words self.old) × (access self.new ≡ access self.old) }
         ensures alive { OnOk result (alive self.new) }
         ensures dead { DeadIfErr (alive self.new) result };
 
     /// Puts these words in place of the object's.
     fn overwrite(&mut self, pid: u64, words: &[u64]) -> Result<(), VaultFault>
         requires alive { alive self.old }
+        requires writable { (access self.old).writes ≡ true }
         requires headed { IsHeaded words.now }
         ensures told { OnOk result (Becomes (outside self.old) (outside self.new) (overwritten pid words.now)) }
         ensures tested { TestsObject (outside self.old) pid (Some (length words.now)) result }
         ensures call { IsStagingCall (outside self.old) (outside self.new) (writing (length words.now)) result }
         ensures full { NeverFull result }
-        ensures numbers { SameNumbers used_words directory_at most_words self.old self.new }
+        ensures pages { LacksPages (access self.old) result }
+        ensures numbers { SameNumbers used_words directory_at most_words access self.old self.new }
         ensures alive { OnOk result (alive self.new) }
         ensures dead { DeadIfErr (alive self.new) result };
 
     /// Keeps all that was stored, with this directory: at every moment a crash leaves all of it or none.
     fn settle(&mut self, directory: u64) -> Result<(), VaultFault>
         requires alive { alive self.old }
+        requires writable { (access self.old).writes ≡ true }
         requires below { directory < used_words self.old }
         ensures told { OnOk result (Becomes (outside self.old) (outside self.new) (directed directory)) }
         ensures settled { Settles (outside self.old) (outside self.new) (settling (used_words self.old)) (directed directory) result }
         ensures full { NeverFull result }
+        ensures pages { LacksPages (access self.old) result }
         ensures sound { NeverDamaged result }
         ensures directory { OnOk result (directory_at self.new ≡ directory) }
-        ensures numbers { (used_words self.new ≡ used_words self.old) × (most_words self.new ≡ most_words self.old) }
+        ensures numbers { (used_words self.new ≡ used_words self.old) × (most_words self.new ≡ most_words self.old) × (access self.new ≡ access self.old) }
         ensures alive { OnOk result (alive self.new) }
         ensures dead { DeadIfErr (alive self.new) result };
 
@@ -113,8 +131,9 @@ pub trait Vault {
         requires alive { alive self.old }
         ensures told { Puts (outside self.old) (outside self.new) bytes.now result }
         ensures full { NeverFull result }
+        ensures pages { NeverLacksPages result }
         ensures sound { NeverDamaged result }
-        ensures numbers { SameNumbers used_words directory_at most_words self.old self.new }
+        ensures numbers { SameNumbers used_words directory_at most_words access self.old self.new }
         ensures alive { OnOk result (alive self.new) }
         ensures dead { DeadIfErr (alive self.new) result };
 
@@ -129,6 +148,10 @@ pub trait Vault {
     /// The directory's PID, 0 where there is none.
     fn directory(&self) -> u64
         ensures { result ≡ directory_at self.now };
+
+    /// Whether it may be written: what it shows is what was committed last.
+    fn writable(&self) -> bool
+        ensures { result ≡ (access self.now).writes };
 
     /// Whether calls may be made.
     fn is_alive(&self) -> bool

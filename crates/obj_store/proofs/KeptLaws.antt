@@ -20,7 +20,7 @@ use Rattle.obj_store.specs.Kept.{AreHeld, AreNone, IsThere, IsAsHeld, kept_page}
 use Rattle.obj_store.proofs.ReadLaws.{seen_kept}
 use Rattle.obj_store.proofs.WriteLaws.{held_long}
 
-none_some : (page : KeptPage) → ◌≡◌ {A = Option KeptPage} None (Some page) → ⊥
+pub none_some : {A : Type 0} (page : A) → ◌≡◌ {A = Option A} None (Some page) → ⊥
 none_some page e = absurd (cc)
 
 pub set_past : {A : Type 0} (xs : List A) (i : ℕ) (x : A) → length xs ≤ i → set xs i x ≡ xs

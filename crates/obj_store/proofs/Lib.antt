@@ -2,6 +2,7 @@ mod WordLaws
 mod ReadLaws
 mod WriteLaws
 mod KeptLaws
+mod LackLaws
 mod SpaceLaws
 mod TestLaws
 mod ChangeLaws
@@ -9,6 +10,8 @@ mod HeldLaws
 mod SettleLaws
 mod FaultLaws
 mod OpenLaws
+mod ViewLaws
+mod CallLaws
 pub mod LeftLaws
 pub use Rattle.volume_parts.proofs as of_volume_parts
 pub use Rattle.paged_volume.proofs as of_paged_volume

@@ -31,7 +31,7 @@ module _ (old new : Outside (List ℕ)) (lives : Bool) (table : Table) (is : IsA
   held_there bytes was = held_says table bytes is.alive.is_table.fit is.alive.is_table.once (says bytes was)
 
   pub opened_order : IsInOrder table.committed.note.used table.committed
-  opened_order = record { fit = is.alive.is_table.fit; from = omega arith; within = is.alive.is_table.fit.within }
+  opened_order = record { fit = is.alive.is_table.fit; below = is.alive.is_table.fit.below; within = is.alive.is_table.fit.within }
 
   pub opened_holds : (space : Space) → (spaces table.committed.note.used table new).contents space → After old.contents IsSpaceOf space
   opened_holds space told =

@@ -3,10 +3,17 @@ use Rattle.std.proofs.Common.{◌≡◌, ◌⊎◌, inl, inr, ℕ, ◌+◌, ◌-
 use Rattle.std.proofs.lemmas.List.{get_or-take, get_or-drop}
 use Rattle.obj_layout.specs.ps_outside.Outside.{Outside, SameContents}
 use Rattle.volume_parts.specs.Holding.{Held}
-use Rattle.paged_volume.specs.Standing.{seen, staged_in}
+use Rattle.std.specs.Option.{option_map}
+use Rattle.volume_parts.specs.declared.note.Note.{Note}
+use Rattle.paged_volume.specs.Standing.{seen}
+use Rattle.paged_volume.specs.Pinning.{pinned_bytes, Holds, IsHeldBy}
+use Rattle.paged_volume.specs.declared.pinned.Pinned.{Pinned as PinHeld}
 use Rattle.paged_volume.specs.Staging.{page_of}
 use Rattle.paged_volume.specs.declared.table.Table.{Table}
-use Rattle.obj_store.specs.Spaces.{word_at}
+use Rattle.obj_store.specs.declared.source.Source.{Source}
+use Rattle.obj_store.specs.declared.source.Source.TheVariants.{Staged, Pinned}
+use Rattle.obj_store.specs.Spaces.{word_at, shown_in, shown}
+use Rattle.obj_store.specs.Viewing.{older}
 use Rattle.obj_store.specs.Words.{IsApart, IsRead, HoldsRead}
 use Rattle.obj_store.proofs.WordLaws.{word_same}
 
@@ -41,13 +48,26 @@ part_read page first at held buffer old new first_is is read = record {
     out k (inl before) = inl (omega arith)
     out k (inr behind) = inr (omega arith)
 
--- what is held is what was held before calls that only look
-pub seen_kept : (c d : Table) (a b : Outside (List ℕ)) → d ≡ c → SameContents a b → (found : Option Held) → (seen c a).contents found → (seen d b).contents found
-seen_kept c d a b is_c same found was = record {
+-- what is shown is what was shown before calls that only look
+pub shown_kept : (source : Source) (c d : Table) (a b : Outside (List ℕ)) → d ≡ c → SameContents a b → (found : Option Held) → (shown source c a).contents found → (shown source d b).contents found
+shown_kept source c d a b is_c same found was = record {
   from = was.from;
   was = same.kept was.from was.was;
-  by = (λ i. Some (staged_in (is_c i) was.from)) ∙ was.by;
+  by = (λ i. Some (shown_in source (is_c i) was.from)) ∙ was.by;
 }
+
+pub seen_kept : (c d : Table) (a b : Outside (List ℕ)) → d ≡ c → SameContents a b → (found : Option Held) → (seen c a).contents found → (seen d b).contents found
+seen_kept c d a b is_c same found was = shown_kept Staged c d a b is_c same found was
+
+-- a page that was read by a pin is the page that is shown
+pub pinned_read : (table : Table) (outside : Outside (List ℕ)) (pin : ℕ) (note : Note) (page : ℕ) (into : List ℕ) → IsHeldBy table pin (older note) →
+    ((held : Held) → Holds table pin outside held → into ≡ page_of page held) → (held : Held) → (shown (Pinned pin note) table outside).contents (Some held) → into ≡ page_of page held
+pinned_read table outside pin note page into is read held now =
+    read held (record {
+      from = now.from;
+      was = now.was;
+      by = ap (λ (o : Option PinHeld). option_map {U = Held} (λ (p : PinHeld). record { note = p.note; bytes = pinned_bytes table pin now.from }) o) is ∙ now.by;
+    })
 
 -- one page more
 pub more_read : (page at : ℕ) (held : Held) (start old new : List ℕ) → length old ≡ length start →

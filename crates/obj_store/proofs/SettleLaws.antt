@@ -1,5 +1,5 @@
 -- A switch of a volume, seen as spaces.
-use Rattle.std.proofs.Common.{◌≡◌, ◌⊎◌, inl, inr, ℕ, ◌+◌, ◌-◌, ◌*◌, ◌/◌, ◌<◌, ◌≤◌, Bool, List, [], ◌++◌, length, take, replicate, refl, sym, ◌∙◌, ap, subst, arith, Option, Some, None, Ok, Err}
+use Rattle.std.proofs.Common.{◌≡◌, ◌⊎◌, inl, inr, ℕ, ◌+◌, ◌-◌, ◌*◌, ◌/◌, ◌<◌, ◌≤◌, Bool, List, [], ◌++◌, length, take, replicate, refl, sym, ◌∙◌, ap, subst, arith, Option, Some, None, Result, Ok, Err}
 use Rattle.std.specs.Option.{option_map}
 use Rattle.std.proofs.lemmas.Option.{same_Some}
 use Rattle.std.proofs.lemmas.Grind.{same_number_lists}
@@ -17,16 +17,17 @@ use Rattle.volume_parts.specs.Calls.{Was}
 use Rattle.paged_volume.specs.Planning.{switched}
 use Rattle.paged_volume.specs.declared.table.Table.{Table}
 use Rattle.paged_volume.specs.declared.committed.Committed.{Committed}
-use Rattle.paged_volume.specs.declared.table.Table.{Table}
 use Rattle.paged_volume.specs.declared.volume.VolumeFault.{VolumeFault}
 use Rattle.paged_volume.specs.declared.volume.VolumeFault.TheVariants as volume
 use Rattle.paged_volume.proofs.Committing.{follows_switched}
-use Rattle.obj_layout.specs.declared.vault.VaultFault.TheVariants.{Device}
+use Rattle.obj_layout.specs.declared.vault.VaultFault.{VaultFault}
+use Rattle.obj_layout.specs.declared.vault.VaultFault.TheVariants.{Device, Output}
 use Rattle.obj_layout.specs.Stored.{Space, directed, without_file}
 use Rattle.obj_layout.specs.Storing.{Becomes, Settles, settling, unfiled}
 use Rattle.obj_store.specs.Spaces.{word_at, words_of, space_of, space_found, space_held, space_filed, IsInOrder, spaces}
+use Rattle.obj_store.specs.Lacking.{told_fault}
 use Rattle.obj_store.proofs.WordLaws.{word_same}
-use Rattle.obj_store.proofs.WriteLaws.{held_long, latest_unpinned}
+use Rattle.obj_store.proofs.WriteLaws.{held_long}
 use Rattle.obj_store.specs.StoreLaws.{length_words}
 use Rattle.obj_store.proofs.SpaceLaws.{word_of, stood, told_of}
 
@@ -179,7 +180,7 @@ module _ (used directory : ℕ) (p q : Table) (a b : Outside (List ℕ)) (order 
 pub switched_order : (used directory : ℕ) (p q : Committed) → IsInOrder used p → 1 ≤ used → directory < used → q ≡ switched used directory p → IsInOrder used q
 switched_order used directory p q order some below is = subst (λ (c : Committed). IsInOrder used c) (sym is) (record {
   fit = (follows_switched p used directory order.fit some order.within below).fit;
-  from = omega arith;
+  below = below;
   within = order.within;
 })
 
@@ -198,23 +199,28 @@ switch_settles used directory p q a b order order_next past some calls is = reco
   calls = let fits : b.device_calls ≤ a.device_calls + settling used = omega arith in fits;
 }
 
--- without pins nothing is committed only where the device failed
-pub switch_rose : {H : Type 0} (outside : H → Outside (List ℕ)) (old new : H) (lived lives : Bool) (p q : Table) (next : Committed) (fault : VolumeFault) → p.pins.items ≡ []
-    → IsSwitchFault outside old new lived lives p q next fault → Rose (outside old).device_faults (outside new).device_faults
-switch_rose outside old new lived lives p q next volume.Device none is = is.0
-switch_rose outside old new lived lives p q next (volume.Full held wanted pages) none is = absurd (is.7 (latest_unpinned p none))
+module _ {H : Type 0} (outside : H → Outside (List ℕ)) (old new : H) (lived lives : Bool) (used directory : ℕ) (p q : Table) (next : Committed) where
+  switch_cause : (fault : VolumeFault) → IsSwitchFault outside old new lived lives p q next fault → ◌≡◌ {A = Result (Unit {0}) VaultFault} (Err (told_fault fault)) (Err Device) →
+      Rose (outside old).device_faults (outside new).device_faults
+  switch_cause volume.Device is e = is.0
+  switch_cause (volume.Full held wanted pages) is e = absurd (cc)
 
-pub switch_fails : (used directory : ℕ) (p q : Table) (a b : Outside (List ℕ)) (fault : VolumeFault) → IsInOrder used p.committed → IsInOrder used q.committed → KeepsPast a b → Rose a.device_faults b.device_faults →
-    Switches {T = Unit {0}} {E = VolumeFault} (seen p a) (seen q b) p.committed.pages used directory (Err fault) →
-    Settles {T = Unit {0}} (spaces used p a) (spaces used q b) (settling used) (directed directory) (Err Device)
-switch_fails used directory p q a b fault order order_next past rose is = record {
-  told = is.told;
-  images = switch_images used directory p q a b order order_next is.images;
-  past = past_as a b space_filed past;
-  durable = tt;
-  counts = is.counts;
-  output = is.output;
-  cause = λ e. rose;
-  other = λ e. cc;
-  calls = tt;
-}
+  switch_other : (fault : VolumeFault) → ◌≡◌ {A = Result (Unit {0}) VaultFault} (Err (told_fault fault)) (Err Output) → ⊥
+  switch_other volume.Device e = cc
+  switch_other (volume.Full held wanted pages) e = cc
+
+  -- nothing is committed
+  pub switch_fails : (fault : VolumeFault) → IsInOrder used p.committed → IsInOrder used q.committed → KeepsPast (outside old) (outside new) →
+      IsSwitchFault outside old new lived lives p q next fault → Switches {T = Unit {0}} {E = VolumeFault} (seen p (outside old)) (seen q (outside new)) p.committed.pages used directory (Err fault) →
+      Settles {T = Unit {0}} (spaces used p (outside old)) (spaces used q (outside new)) (settling used) (directed directory) (Err (told_fault fault))
+  switch_fails fault order order_next past why is = record {
+    told = is.told;
+    images = switch_images used directory p q (outside old) (outside new) order order_next is.images;
+    past = past_as (outside old) (outside new) space_filed past;
+    durable = tt;
+    counts = is.counts;
+    output = is.output;
+    cause = switch_cause fault why;
+    other = switch_other fault;
+    calls = tt;
+  }

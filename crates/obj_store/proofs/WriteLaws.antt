@@ -1,10 +1,10 @@
 -- Words that are put page by page.
-use Rattle.std.proofs.Common.{◌≡◌, ◌≢◌, ◌⊎◌, inl, inr, ℕ, ◌+◌, ◌-◌, ◌*◌, ◌/◌, ◌<◌, ◌≤◌, min, max, Bool, List, [], length, get_or, refl, sym, ◌∙◌, ap, subst, arith, length-drop, length-take, Option, Some, None, Result, Ok, Err, OnOk, OnErr, IfErr}
+use Rattle.std.proofs.Common.{◌≡◌, ◌≢◌, ◌⊎◌, inl, inr, ℕ, ◌+◌, ◌-◌, ◌*◌, ◌/◌, ◌<◌, ◌≤◌, min, max, List, length, get_or, refl, sym, ◌∙◌, ap, subst, arith, length-drop, length-take, Option, Some, Result, Ok, Err, OnOk}
 use Rattle.std.specs.Option.{option_map}
 use Rattle.std.proofs.lemmas.Option.{same_Some}
 use Rattle.std.proofs.lemmas.Bool.{cases_eq}
 use Rattle.std.proofs.lemmas.List.{get_or_past}
-use Rattle.obj_layout.specs.ps_outside.Outside.{Outside, After, SameContents, Rose}
+use Rattle.obj_layout.specs.ps_outside.Outside.{Outside, After, SameContents}
 use Rattle.obj_layout.proofs.of_ps_outside.Moments.{along_then, along_now, same_as}
 use Rattle.ps_port.specs.Disk.{written, IsOutside}
 use Rattle.ps_port.specs.DiskLaws.{written_elsewhere, length-written}
@@ -12,12 +12,9 @@ use Rattle.volume_parts.specs.Layout.{pages_of_words}
 use Rattle.paged_volume.specs.Layout.{capacity_pages}
 use Rattle.volume_parts.specs.Holding.{Held}
 use Rattle.paged_volume.specs.Standing.{seen, staged_in, staged_bytes, held_in}
-use Rattle.paged_volume.specs.Staging.{page_of, with_page, HasPages, IsPutFault}
+use Rattle.paged_volume.specs.Pinning.{pinned_in, KeepsPins}
+use Rattle.paged_volume.specs.Staging.{page_of, with_page, HasPages}
 use Rattle.paged_volume.specs.Staging.{Marks as MarksPage}
-use Rattle.paged_volume.specs.Pinning.{AreLatest}
-use Rattle.paged_volume.specs.declared.pinned.Pinned.{Pinned}
-use Rattle.paged_volume.specs.declared.volume.VolumeFault.{VolumeFault}
-use Rattle.paged_volume.specs.declared.volume.VolumeFault.TheVariants.{Device, Full}
 use Rattle.volume_parts.specs.Calls.{Looks}
 use Rattle.paged_volume.specs.declared.table.Table.{Table}
 use Rattle.volume_parts.proofs.Gate.{written_inside}
@@ -25,7 +22,7 @@ use Rattle.paged_volume.proofs.Held.{length_bytes}
 use Rattle.obj_store.specs.Spaces.{word_at}
 use Rattle.obj_store.specs.Words.{IsApart, IsPut, HoldsPut, Differs}
 use Rattle.paged_volume.specs.Staging.{Stages}
-use Rattle.obj_store.specs.Staging.{Turns, Marks, LeavesStaged}
+use Rattle.obj_store.specs.Staging.{Turns, Marks, LeavesStaged, SamePins}
 use Rattle.obj_store.proofs.WordLaws.{word_same}
 use Rattle.obj_store.proofs.ReadLaws.{page_word, seen_kept}
 
@@ -251,16 +248,25 @@ leaves_then p q r a b c low high from to at put le ge first next held was there 
 pub leaves_same : (p q : Table) (a b : Outside (List ℕ)) (low high at : ℕ) (put : List ℕ) → q ≡ p → SameContents a b → LeavesStaged p q a b low high at put
 leaves_same p q a b low high at put is_q same held was there = (is_q, seen_kept p q a b is_q same (Some held) was)
 
--- without pins no pin holds an older list
-pub latest_unpinned : (table : Table) → table.pins.items ≡ [] → AreLatest table
-latest_unpinned table none = λ pin lt. inr (ap (λ (pins : List (Option Pinned)). get_or pins pin None) none)
+-- pins that hold what they held
+pub pins_same : (p q : Table) → q ≡ p → SamePins p q
+pins_same p q same = record { pins = ap (λ (t : Table). t.pins.items) same; lists = ap (λ (t : Table). t.map.pins) same; committed = ap (λ (t : Table). t.map.committed) same }
 
--- so a page isn't put only where the device failed
-pub put_rose : {H T : Type 0} (outside : H → Outside (List ℕ)) (old new : H) (lived lives : Bool) (p q : Table) (page : ℕ) (result : Result T VolumeFault) → p.pins.items ≡ []
-    → IfErr result (IsPutFault outside old new lived lives p q page) → OnErr result (Rose (outside old).device_faults (outside new).device_faults)
-put_rose outside old new lived lives p q page (Ok x) none fault = tt
-put_rose outside old new lived lives p q page (Err Device) none fault = fault.0
-put_rose outside old new lived lives p q page (Err (Full held wanted pages)) none fault = absurd (fault.4 (latest_unpinned p none))
+pub pins_then : (p q r : Table) → SamePins p q → SamePins q r → SamePins p r
+pins_then p q r first next = record { pins = next.pins ∙ first.pins; lists = next.lists ∙ first.lists; committed = next.committed ∙ first.committed }
+
+-- and what they hold stands
+pub keeps_looks : (p q : Table) (a b : Outside (List ℕ)) → q ≡ p → SameContents a b → KeepsPins p q a b
+keeps_looks p q a b is_q same = record {
+  kept = λ pin held was. record { from = was.from; was = same.kept was.from was.was; by = (λ i. pinned_in (is_q i) pin was.from) ∙ was.by };
+  no_other = λ pin held now. record { from = now.from; was = same.no_other now.from now.was; by = (λ i. pinned_in (sym is_q i) pin now.from) ∙ now.by };
+}
+
+pub keeps_then : (p q r : Table) (a b c : Outside (List ℕ)) → KeepsPins p q a b → KeepsPins q r b c → KeepsPins p r a c
+keeps_then p q r a b c first next = record {
+  kept = λ pin held was. next.kept pin held (first.kept pin held was);
+  no_other = λ pin held now. first.no_other pin held (next.no_other pin held now);
+}
 
 pub stages_then : {X : Type 0} (a b c : Outside X) (m n most : ℕ) → Stages a b m → Stages b c n → m + n ≤ most → Stages a c most
 stages_then a b c m n most first next fits = record {

@@ -21,3 +21,9 @@ pub record Marks (from to : ℕ) (old new : Table) : Type 0 where
 abbrev pub LeavesStaged : Table → Table → Outside (List ℕ) → Outside (List ℕ) → ℕ → ℕ → ℕ → List ℕ → Type 0
 LeavesStaged p q a b low high at put =
     (held : Held) → (seen p a).contents (Some held) → HoldsPut low high at put held held → (q ≡ p) × (seen q b).contents (Some held)
+
+-- What pins hold is as before, and so is what is committed: no pin becomes older.
+pub record SamePins (old new : Table) : Type 0 where
+  pub pins : new.pins.items ≡ old.pins.items
+  pub lists : new.map.pins ≡ old.map.pins
+  pub committed : new.map.committed ≡ old.map.committed

@@ -5,7 +5,12 @@ use Rattle.obj_layout.specs.declared.header.Header.{Header}
 use Rattle.obj_layout.specs.declared.vault.VaultFault.{VaultFault}
 use Rattle.obj_layout.specs.declared.vault.VaultFault.TheVariants.{Device, Full, Damaged}
 use Rattle.obj_layout.specs.Header.{HasFitLengths, HasFitFields, header_words, object_length}
+use Rattle.paged_volume.specs.Planning.{wanted_pages}
+use Rattle.paged_volume.specs.Committing.{HasRoom}
+use Rattle.paged_volume.specs.declared.committed.Committed.{Committed}
+use Rattle.paged_volume.specs.declared.table.Table.{Table}
 use Rattle.obj_layout.specs.Stored.{Space, Damage, damage_at}
+use Rattle.obj_store.specs.Lacking.{IsShort}
 
 -- an object with this header has its place, and is as long as is wanted
 pub record Fits (pid used : ℕ) (wanted : Option ℕ) (header : Header) : Type 0 where
@@ -37,10 +42,18 @@ abbrev pub IsObjectFault : Outside Space → Outside Space → ℕ → Option �
 IsObjectFault old new pid wanted fault =
     ((fault ≡ Device) × Rose old.device_faults new.device_faults) ⊎ TellsDamage pid wanted (AreHeld old) fault
 
--- why no object is appended: the device failed, or it doesn't fit
-abbrev pub IsAppendFault : {X : Type 0} → Outside X → Outside X → ℕ → ℕ → ℕ → VaultFault → Type 0
-IsAppendFault old new used wanted capacity fault =
-    ((fault ≡ Device) × Rose old.device_faults new.device_faults) ⊎ ((fault ≡ Full used wanted capacity) × (capacity < used + wanted))
+-- why an object isn't written over: the same, or there are too few pages, each page wanting one
+abbrev pub IsOverwriteFault : Outside Space → Outside Space → Table → ℕ → Option ℕ → VaultFault → Type 0
+IsOverwriteFault old new table pid wanted fault = IsObjectFault old new pid wanted fault ⊎ IsShort table 1 fault
+
+-- why no object is appended: the device failed, it doesn't fit, or there are too few pages
+abbrev pub IsAppendFault : {X : Type 0} → Outside X → Outside X → Table → ℕ → ℕ → ℕ → VaultFault → Type 0
+IsAppendFault old new table used wanted capacity fault =
+    ((fault ≡ Device) × Rose old.device_faults new.device_faults) ⊎ (((fault ≡ Full used wanted capacity) × (capacity < used + wanted)) ⊎ IsShort table 1 fault)
+
+-- why nothing is settled: the device failed, though there were the pages for it; or there are too few for what is committed next
+abbrev pub IsSettleFault : Table → Committed → VaultFault → Type 0
+IsSettleFault table next fault = ((fault ≡ Device) × HasRoom table next) ⊎ IsShort table (wanted_pages table.map next) fault
 
 -- the object of this PID passes all tests in what is held
 abbrev pub IsWhole : Outside Space → ℕ → Option ℕ → Type 0

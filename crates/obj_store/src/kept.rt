@@ -1,6 +1,6 @@
 //! The pages that were read or put last, which needn't be read again.
 
-ghost use Rattle.std.specs.Prelude.{◌≡◌, ℕ, ◌%◌, ◌<◌, [], List, length, set, Some, None, true, IfOk, IfErr, OnOk, OnErr, Option};
+ghost use Rattle.std.specs.Prelude.{◌≡◌, ℕ, ◌%◌, ◌<◌, List, length, set, Some, None, true, IfOk, IfErr, OnOk, OnErr, Option};
 ghost use Rattle.std.specs.Option.{option_map};
 ghost use Rattle.obj_layout.specs.ps_outside.Outside.{After, Rose};
 ghost use Rattle.obj_layout.specs.ps_outside.Past.{KeepsPast};
@@ -9,7 +9,10 @@ ghost use Rattle.volume_parts.specs.Holding.{Held};
 ghost use Rattle.paged_volume.specs.Layout.{capacity_pages};
 ghost use Rattle.paged_volume.specs.Staging.{page_of, with_page, Stages, Marks};
 ghost use Rattle.paged_volume.specs.Standing.{IsAlive, seen};
+ghost use Rattle.paged_volume.specs.Pinning.{KeepsPins};
 ghost use Rattle.obj_store.specs.Kept.{AreHeld, AreNone, IsThere, kept_page};
+ghost use Rattle.obj_store.specs.Lacking.{IsVolumeFault};
+ghost use Rattle.obj_store.specs.Staging.{SamePins};
 
 use paged_volume::layout::PAGE_BYTES;
 use paged_volume::{Volume, VolumeFault};
@@ -115,13 +118,18 @@ pub fn read_kept<H: Host>(
     ensures alive { OnOk result (IsAlive volume.new.live volume.new.table (H.outside volume.new.host)) }
     ensures kept { OnOk result (AreHeld kept.new.places.items volume.new.table (H.outside volume.new.host)) }
     ensures cause { OnErr result (Rose (H.outside volume.old.host).device_faults (H.outside volume.new.host).device_faults) }
+    ensures fault { IfErr result (IsVolumeFault (H.outside volume.old.host) (H.outside volume.new.host) volume.new.table 1) }
 {
     if kept.copy(page, into) {
         return Ok(());
     }
-    volume.read_page(page, into)?;
-    kept.keep(page, into);
-    Ok(())
+    match volume.read_page(page, into) {
+        Ok(()) => {
+            kept.keep(page, into);
+            Ok(())
+        }
+        Err(_) => Err(VolumeFault::Device),
+    }
 }
 
 /// Stages a page, as the volume does, and keeps it.
@@ -135,7 +143,6 @@ pub fn put_kept<H: Host>(
     requires kept { AreHeld kept.old.places.items volume.old.table (H.outside volume.old.host) }
     requires page { page < capacity_pages volume.old.table.committed.pages }
     requires size { length from.now ≡ 4096 }
-    requires unpinned { volume.old.table.pins.items ≡ [] }
     ensures put { OnOk result ((found : Option Held) → (seen volume.new.table (H.outside volume.new.host)).contents found →
         After (seen volume.old.table (H.outside volume.old.host)).contents (λ before after. option_map (with_page page from.now) before ≡ after) found) }
     ensures stays { OnOk result ((found : Option Held) → (seen volume.old.table (H.outside volume.old.host)).contents found →
@@ -144,12 +151,17 @@ pub fn put_kept<H: Host>(
     ensures past { KeepsPast (H.outside volume.old.host) (H.outside volume.new.host) }
     ensures committed { volume.new.table.committed ≡ volume.old.table.committed }
     ensures marks { OnOk result (Marks page volume.old.table volume.new.table) }
-    ensures unpinned { volume.new.table.pins.items ≡ [] }
+    ensures pins { SamePins volume.old.table volume.new.table }
+    ensures pinned { OnOk result (KeepsPins volume.old.table volume.new.table (H.outside volume.old.host) (H.outside volume.new.host)) }
     ensures alive { OnOk result (IsAlive volume.new.live volume.new.table (H.outside volume.new.host)) }
     ensures kept { OnOk result (AreHeld kept.new.places.items volume.new.table (H.outside volume.new.host)) }
-    ensures cause { OnErr result (Rose (H.outside volume.old.host).device_faults (H.outside volume.new.host).device_faults) }
+    ensures fault { IfErr result (IsVolumeFault (H.outside volume.old.host) (H.outside volume.new.host) volume.new.table 1) }
 {
-    volume.put_page(page, from)?;
-    kept.keep(page, from);
-    Ok(())
+    match volume.put_page(page, from) {
+        Ok(()) => {
+            kept.keep(page, from);
+            Ok(())
+        }
+        Err(fault) => Err(fault),
+    }
 }

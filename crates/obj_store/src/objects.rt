@@ -1,6 +1,6 @@
 //! The objects of a volume: how they are tested, read, appended and written over.
 
-ghost use Rattle.std.specs.Prelude.{◌≡◌, ◌≢◌, ◌⊎◌, ℕ, ◌+◌, ◌*◌, ◌/◌, ◌<◌, ◌≤◌, ◌^◌, List, [], length, take, drop, Option, Some, None, MatchOption, IfOk, IfErr, OnOk};
+ghost use Rattle.std.specs.Prelude.{◌≡◌, ◌≢◌, ◌⊎◌, ℕ, ◌+◌, ◌*◌, ◌/◌, ◌<◌, ◌≤◌, ◌^◌, List, length, take, drop, Option, Some, None, MatchOption, IfOk, IfErr, OnOk};
 ghost use Rattle.obj_layout.specs.ps_outside.Outside.{Rose};
 ghost use Rattle.obj_layout.specs.ps_outside.Past.{KeepsPast};
 ghost use Rattle.volume_parts.specs.Calls.{Looks};
@@ -11,13 +11,18 @@ ghost use Rattle.paged_volume.specs.Staging.{HasPages};
 ghost use Rattle.obj_layout.specs.Header.{HasFitFields, HasFitLengths, header_fault, header_words, object_length};
 ghost use Rattle.obj_layout.specs.Stored.{length_there, Space, Holds, IsHeaded, of_header, of_length, of_words, damage, appended, overwritten};
 ghost use Rattle.obj_layout.specs.Storing.{Becomes, reading, writing};
+ghost use Rattle.paged_volume.specs.Pinning.{KeepsPins};
 ghost use Rattle.obj_store.specs.Kept.{AreHeld};
-ghost use Rattle.obj_store.specs.Spaces.{IsInOrder, spaces};
-ghost use Rattle.obj_store.specs.Tested.{Fits, TellsDamage, HasFour, IsObjectFault, IsAppendFault, IsObjectHeader, IsWhole, IsDamageAt};
+ghost use Rattle.obj_store.specs.Spaces.{IsInOrder, IsUsable, directory_in, spaces, spaces_at};
+ghost use Rattle.obj_store.specs.Tested.{Fits, TellsDamage, HasFour, IsObjectFault, IsOverwriteFault, IsAppendFault, IsObjectHeader, IsWhole, IsDamageAt};
+ghost use Rattle.obj_store.specs.Staging.{SamePins};
+ghost use Rattle.obj_store.specs.Viewing.{IsSource};
 ghost use Rattle.paged_volume.specs.Staging.{Stages};
 
 use crate::kept::KeptPages;
+use crate::lacking::vault_fault;
 use crate::reading::read_words;
+use crate::source::Source;
 use crate::writing::write_words;
 use obj_layout::header::{Header, LayoutFault, read_header};
 use obj_layout::vault::VaultFault;
@@ -110,17 +115,19 @@ fn header_of(
 fn object_at<H: Host>(
     volume: &mut Volume<H>,
     kept: &mut KeptPages,
+    source: Source,
     used: u64,
     pid: u64,
     wanted: Option<u64>,
 ) -> Result<Header, VaultFault>
     requires alive { IsAlive volume.old.live volume.old.table (H.outside volume.old.host) }
     requires kept { AreHeld kept.old.places.items volume.old.table (H.outside volume.old.host) }
-    requires order { IsInOrder used volume.old.table.committed }
+    requires source { IsSource volume.old.table source }
+    requires order { IsUsable used (directory_in source volume.old.table) volume.old.table.committed }
     ensures fits { IfOk result (Fits pid used wanted) }
-    ensures header { IfOk result (IsObjectHeader (spaces used volume.old.table (H.outside volume.old.host)) pid wanted) }
-    ensures fault { IfErr result (IsObjectFault (spaces used volume.old.table (H.outside volume.old.host))
-        (spaces used volume.new.table (H.outside volume.new.host)) pid wanted) }
+    ensures header { IfOk result (IsObjectHeader (spaces_at source used volume.old.table (H.outside volume.old.host)) pid wanted) }
+    ensures fault { IfErr result (IsObjectFault (spaces_at source used volume.old.table (H.outside volume.old.host))
+        (spaces_at source used volume.new.table (H.outside volume.new.host)) pid wanted) }
     ensures looks { Looks (H.outside volume.old.host) (H.outside volume.new.host) 2 }
     ensures same { volume.new.table ≡ volume.old.table }
     ensures alive { OnOk result (IsAlive volume.new.live volume.new.table (H.outside volume.new.host)) }
@@ -130,7 +137,7 @@ fn object_at<H: Host>(
         return Err(fault);
     }
     let mut four = [0u64; 4];
-    match read_words(volume, kept, pid, &mut four) {
+    match read_words(volume, kept, source, pid, &mut four) {
         Ok(()) => header_of(&four, pid, used, wanted),
         Err(_) => Err(VaultFault::Device),
     }
@@ -140,23 +147,25 @@ fn object_at<H: Host>(
 pub fn length_at<H: Host>(
     volume: &mut Volume<H>,
     kept: &mut KeptPages,
+    source: Source,
     used: u64,
     pid: u64,
 ) -> Result<u32, VaultFault>
     requires alive { IsAlive volume.old.live volume.old.table (H.outside volume.old.host) }
     requires kept { AreHeld kept.old.places.items volume.old.table (H.outside volume.old.host) }
-    requires order { IsInOrder used volume.old.table.committed }
-    ensures told { IfOk result (λ count. (words : List ℕ) → Holds (spaces used volume.old.table (H.outside volume.old.host)) pid words → length words ≡ count) }
-    ensures stands { IfOk result (λ count. (space : Space) → (spaces used volume.old.table (H.outside volume.old.host)).contents space → length_there pid space ≡ count) }
-    ensures sound { OnOk result (IsWhole (spaces used volume.old.table (H.outside volume.old.host)) pid None) }
-    ensures fault { IfErr result (IsObjectFault (spaces used volume.old.table (H.outside volume.old.host))
-        (spaces used volume.new.table (H.outside volume.new.host)) pid None) }
+    requires source { IsSource volume.old.table source }
+    requires order { IsUsable used (directory_in source volume.old.table) volume.old.table.committed }
+    ensures told { IfOk result (λ count. (words : List ℕ) → Holds (spaces_at source used volume.old.table (H.outside volume.old.host)) pid words → length words ≡ count) }
+    ensures stands { IfOk result (λ count. (space : Space) → (spaces_at source used volume.old.table (H.outside volume.old.host)).contents space → length_there pid space ≡ count) }
+    ensures sound { OnOk result (IsWhole (spaces_at source used volume.old.table (H.outside volume.old.host)) pid None) }
+    ensures fault { IfErr result (IsObjectFault (spaces_at source used volume.old.table (H.outside volume.old.host))
+        (spaces_at source used volume.new.table (H.outside volume.new.host)) pid None) }
     ensures looks { Looks (H.outside volume.old.host) (H.outside volume.new.host) 2 }
     ensures same { volume.new.table ≡ volume.old.table }
     ensures alive { OnOk result (IsAlive volume.new.live volume.new.table (H.outside volume.new.host)) }
     ensures kept { OnOk result (AreHeld kept.new.places.items volume.new.table (H.outside volume.new.host)) }
 {
-    match object_at(volume, kept, used, pid, None) {
+    match object_at(volume, kept, source, used, pid, None) {
         Ok(header) => Ok(length_of(&header)),
         Err(fault) => Err(fault),
     }
@@ -182,26 +191,28 @@ fn test_words(words: &[u64], pid: u64, used: u64) -> Result<(), VaultFault>
 pub fn fetch_at<H: Host>(
     volume: &mut Volume<H>,
     kept: &mut KeptPages,
+    source: Source,
     used: u64,
     pid: u64,
     into: &mut [u64],
 ) -> Result<(), VaultFault>
     requires alive { IsAlive volume.old.live volume.old.table (H.outside volume.old.host) }
     requires kept { AreHeld kept.old.places.items volume.old.table (H.outside volume.old.host) }
-    requires order { IsInOrder used volume.old.table.committed }
-    ensures read { OnOk result ((space : Space) → (spaces used volume.old.table (H.outside volume.old.host)).contents space →
+    requires source { IsSource volume.old.table source }
+    requires order { IsUsable used (directory_in source volume.old.table) volume.old.table.committed }
+    ensures read { OnOk result ((space : Space) → (spaces_at source used volume.old.table (H.outside volume.old.host)).contents space →
         take (length into.old) (drop pid space.words) ≡ into.new) }
     ensures headed { OnOk result (IsHeaded into.new) }
-    ensures sound { OnOk result (IsWhole (spaces used volume.old.table (H.outside volume.old.host)) pid (Some (length into.old))) }
-    ensures fault { IfErr result (IsObjectFault (spaces used volume.old.table (H.outside volume.old.host))
-        (spaces used volume.new.table (H.outside volume.new.host)) pid (Some (length into.old))) }
+    ensures sound { OnOk result (IsWhole (spaces_at source used volume.old.table (H.outside volume.old.host)) pid (Some (length into.old))) }
+    ensures fault { IfErr result (IsObjectFault (spaces_at source used volume.old.table (H.outside volume.old.host))
+        (spaces_at source used volume.new.table (H.outside volume.new.host)) pid (Some (length into.old))) }
     ensures looks { Looks (H.outside volume.old.host) (H.outside volume.new.host) (reading (length into.old)) }
     ensures same { volume.new.table ≡ volume.old.table }
     ensures alive { OnOk result (IsAlive volume.new.live volume.new.table (H.outside volume.new.host)) }
     ensures kept { OnOk result (AreHeld kept.new.places.items volume.new.table (H.outside volume.new.host)) }
 {
-    let _header = object_at(volume, kept, used, pid, Some(into.len() as u64))?;
-    match read_words(volume, kept, pid, into) {
+    let _header = object_at(volume, kept, source, used, pid, Some(into.len() as u64))?;
+    match read_words(volume, kept, source, pid, into) {
         Ok(()) => test_words(into, pid, used),
         Err(_) => Err(VaultFault::Device),
     }
@@ -218,15 +229,15 @@ pub fn append_at<H: Host>(
     requires kept { AreHeld kept.old.places.items volume.old.table (H.outside volume.old.host) }
     requires order { IsInOrder used volume.old.table.committed }
     requires has { HasPages volume.old.table (pages_of_words used) }
-    requires unpinned { volume.old.table.pins.items ≡ [] }
     ensures becomes { OnOk result (Becomes (spaces used volume.old.table (H.outside volume.old.host))
         (spaces (used + length words.now) volume.new.table (H.outside volume.new.host)) (appended words.now)) }
-    ensures fault { IfErr result (IsAppendFault (H.outside volume.old.host) (H.outside volume.new.host) used (length words.now) (capacity_of volume.old.table.committed.pages)) }
+    ensures fault { IfErr result (IsAppendFault (H.outside volume.old.host) (H.outside volume.new.host) volume.new.table used (length words.now) (capacity_of volume.old.table.committed.pages)) }
     ensures past { KeepsPast (H.outside volume.old.host) (H.outside volume.new.host) }
     ensures stages { Stages (seen volume.old.table (H.outside volume.old.host)) (seen volume.new.table (H.outside volume.new.host))
         (writing (length words.now)) }
     ensures committed { volume.new.table.committed ≡ volume.old.table.committed }
-    ensures unpinned { volume.new.table.pins.items ≡ [] }
+    ensures pins { SamePins volume.old.table volume.new.table }
+    ensures pinned { OnOk result (KeepsPins volume.old.table volume.new.table (H.outside volume.old.host) (H.outside volume.new.host)) }
     ensures order { OnOk result (IsInOrder (used + length words.now) volume.new.table.committed) }
     ensures has { OnOk result (HasPages volume.new.table (pages_of_words (used + length words.now))) }
     ensures alive { OnOk result (IsAlive volume.new.live volume.new.table (H.outside volume.new.host)) }
@@ -244,7 +255,7 @@ pub fn append_at<H: Host>(
     let had = logical_pages(used) as u32;
     match write_words(volume, kept, had, used, words) {
         Ok(()) => Ok(()),
-        Err(_) => Err(VaultFault::Device),
+        Err(fault) => Err(vault_fault(fault)),
     }
 }
 
@@ -260,25 +271,32 @@ pub fn overwrite_at<H: Host>(
     requires kept { AreHeld kept.old.places.items volume.old.table (H.outside volume.old.host) }
     requires order { IsInOrder used volume.old.table.committed }
     requires has { HasPages volume.old.table (pages_of_words used) }
-    requires unpinned { volume.old.table.pins.items ≡ [] }
     ensures becomes { OnOk result (Becomes (spaces used volume.old.table (H.outside volume.old.host))
         (spaces used volume.new.table (H.outside volume.new.host)) (overwritten pid words.now)) }
     ensures sound { OnOk result (IsWhole (spaces used volume.old.table (H.outside volume.old.host)) pid (Some (length words.now))) }
-    ensures fault { IfErr result (IsObjectFault (spaces used volume.old.table (H.outside volume.old.host))
-        (spaces used volume.new.table (H.outside volume.new.host)) pid (Some (length words.now))) }
+    ensures fault { IfErr result (IsOverwriteFault (spaces used volume.old.table (H.outside volume.old.host))
+        (spaces used volume.new.table (H.outside volume.new.host)) volume.new.table pid (Some (length words.now))) }
     ensures past { KeepsPast (H.outside volume.old.host) (H.outside volume.new.host) }
     ensures stages { Stages (seen volume.old.table (H.outside volume.old.host)) (seen volume.new.table (H.outside volume.new.host))
         (writing (length words.now)) }
     ensures committed { volume.new.table.committed ≡ volume.old.table.committed }
-    ensures unpinned { volume.new.table.pins.items ≡ [] }
+    ensures pins { SamePins volume.old.table volume.new.table }
+    ensures pinned { OnOk result (KeepsPins volume.old.table volume.new.table (H.outside volume.old.host) (H.outside volume.new.host)) }
     ensures has { OnOk result (HasPages volume.new.table (pages_of_words used)) }
     ensures alive { OnOk result (IsAlive volume.new.live volume.new.table (H.outside volume.new.host)) }
     ensures kept { OnOk result (AreHeld kept.new.places.items volume.new.table (H.outside volume.new.host)) }
 {
-    let _header = object_at(volume, kept, used, pid, Some(words.len() as u64))?;
+    let _header = object_at(
+        volume,
+        kept,
+        Source::Staged,
+        used,
+        pid,
+        Some(words.len() as u64),
+    )?;
     let had = logical_pages(used) as u32;
     match write_words(volume, kept, had, pid, words) {
         Ok(()) => Ok(()),
-        Err(_) => Err(VaultFault::Device),
+        Err(fault) => Err(vault_fault(fault)),
     }
 }

@@ -1,15 +1,23 @@
-ghost use Rattle.std.specs.Prelude.{◌≡◌, ℕ, ◌+◌, ◌<◌, ◌≤◌, ◌^◌, List, length, true, IfOk, IfErr};
+ghost use Rattle.std.specs.Prelude.{◌≡◌, ℕ, ◌+◌, ◌<◌, ◌≤◌, ◌^◌, List, length, map, IsSome, true, false, IfOk, IfErr, OnOk, OnErr};
 ghost use Rattle.paged_volume.specs.Attaching.{IsRefused};
+ghost use Rattle.paged_volume.specs.Pinning.{pin_of, outdated, NoneIsHeld, Reserves, Pins, Unpins};
+ghost use Rattle.obj_layout.specs.Stored.{IsHeaded};
+ghost use Rattle.obj_layout.specs.Storing.{Puts, NeverDamaged, NeverFull, NeverLacksPages};
+ghost use Rattle.obj_store.specs.Calls.{Measures, Fetches, Appends, Overwrites, SettlesAll};
+ghost use Rattle.obj_store.specs.Staging.{SamePins};
+ghost use Rattle.obj_store.specs.Viewing.{IsSource, IsViewed, IsFew, ShowsPin};
 
 use crate::kept::KeptPages;
 use crate::objects::{append_at, fetch_at, length_at, overwrite_at};
+use crate::pinning::source_in;
 use crate::settling::settle_all;
+use crate::source::Source;
 use obj_layout::vault::{Vault, VaultFault};
 use paged_volume::layout::capacity;
 use paged_volume::volume_parts::OpenFault;
 use paged_volume::{Refused, Volume};
 use ps_port::Host;
-use std::alloc::Global;
+use std::alloc::{AllocError, Global};
 use std::marker::Model;
 
 /// A store of objects over a volume. Its space is the words of the volume's pages, of eight bytes each, the low one first. What is stored is
@@ -21,6 +29,8 @@ pub struct ObjStore<H: Host> {
     kept: KeptPages,
     // The words that are used as they are staged.
     used: u64,
+    // Something was staged since the last commit.
+    staged: bool,
     // No call has answered a fault.
     live: bool,
 }
@@ -62,6 +72,7 @@ impl<H: Host> ObjStore<H> {
                     volume,
                     kept,
                     used,
+                    staged: false,
                     live: true,
                 })
             }
@@ -77,21 +88,84 @@ impl<H: Host> ObjStore<H> {
     }
 }
 
-impl<H: Host> Vault for ObjStore<H> {
-    ghost use Rattle.obj_store.specs.Store.{outside_of, used_of, most_of, directory_of};
+impl<H: Host> ObjStore<H> {
+    ghost use Rattle.obj_store.specs.Store.{access_of, outside_at, outside_of, used_of, most_of};
+    ghost use Rattle.obj_store.specs.declared.source.Source.TheVariants.{Staged};
 
-    ghost outside = { λ store. outside_of H.outside store };
+    /// Makes so many pins, at most eight, which hold nothing, in place of those that there were. After an error all is as before.
+    pub fn reserve_pins(&mut self, alloc: Global, pins: u32) -> Result<(), AllocError>
+        requires alive { self.old.live ≡ true }
+        requires few { pins ≤ 8 }
+        requires none { NoneIsHeld self.old.table }
+        ensures reserves { OnOk result (Reserves pins self.old.table self.new.table) }
+        ensures same { OnErr result (self.new.table ≡ self.old.table) }
+        ensures host { self.new.host ≡ self.old.host }
+        ensures kept { (self.new.used ≡ self.old.used) × (self.new.staged ≡ self.old.staged) }
+        ensures live { self.new.live ≡ true }
+    {
+        self.volume.reserve_pins(alloc, pins)
+    }
 
-    ghost alive = { λ store. store.live ≡ true };
+    /// The pin holds what is committed, in place of what it held.
+    pub fn pin(&mut self, pin: u32)
+        requires alive { self.old.live ≡ true }
+        requires pin { pin < length self.old.table.pins.items }
+        ensures pins { Pins pin self.old.table self.new.table }
+        ensures host { self.new.host ≡ self.old.host }
+        ensures same { (self.new.used ≡ self.old.used) × (self.new.staged ≡ self.old.staged) }
+        ensures live { self.new.live ≡ true }
+    {
+        self.volume.pin(pin);
+    }
 
-    ghost used_words = { λ store. used_of store };
+    /// The pin holds nothing.
+    pub fn unpin(&mut self, pin: u32)
+        requires alive { self.old.live ≡ true }
+        requires pin { pin < length self.old.table.pins.items }
+        ensures unpins { Unpins pin self.old.table self.new.table }
+        ensures host { self.new.host ≡ self.old.host }
+        ensures same { (self.new.used ≡ self.old.used) × (self.new.staged ≡ self.old.staged) }
+        ensures live { self.new.live ≡ true }
+    {
+        self.volume.unpin(pin);
+    }
 
-    ghost most_words = { λ store. most_of store };
+    /// Whether the pin holds something.
+    pub fn is_pinned(&self, pin: u32) -> bool
+        ensures { result ≡ true → IsSome (pin_of self.now.table pin) }
+    {
+        self.volume.is_pinned(pin)
+    }
 
-    ghost directory_at = { λ store. directory_of store };
+    /// Whether something was staged since the last commit.
+    pub fn is_staged(&self) -> bool
+        ensures { result ≡ self.now.staged }
+    {
+        self.staged
+    }
 
-    fn length(&mut self, pid: u64) -> Result<u32, VaultFault> {
-        match length_at(&mut self.volume, &mut self.kept, self.used, pid) {
+    // Where a view of the pin reads.
+    pub(crate) fn source_of(&self, pin: u32) -> Source
+        requires alive { self.now.live ≡ true }
+        requires pin { IsSome (pin_of self.now.table pin) }
+        ensures viewed { IsViewed self.now.table pin result }
+        ensures few { IsFew result }
+        ensures shows { self.now.staged ≡ false → ShowsPin H.outside self.now pin result }
+    {
+        source_in(&self.volume, pin)
+    }
+
+    // How many words an object has, as the source shows it.
+    pub(crate) fn length_in(&mut self, source: Source, pid: u64) -> Result<u32, VaultFault>
+        requires alive { self.old.live ≡ true }
+        requires source { IsSource self.old.table source }
+        ensures measures { Measures (outside_at H.outside source self.old) (outside_at H.outside source self.new) pid result }
+        ensures same { (self.new.table ≡ self.old.table) × (self.new.used ≡ self.old.used) }
+        ensures alive { OnOk result (self.new.live ≡ true) }
+        ensures dead { OnErr result (self.new.live ≡ false) }
+    {
+        let used = source.used_of(self.used);
+        match length_at(&mut self.volume, &mut self.kept, source, used, pid) {
             Ok(count) => Ok(count),
             Err(fault) => {
                 self.live = false;
@@ -100,8 +174,22 @@ impl<H: Host> Vault for ObjStore<H> {
         }
     }
 
-    fn fetch(&mut self, pid: u64, into: &mut [u64]) -> Result<(), VaultFault> {
-        match fetch_at(&mut self.volume, &mut self.kept, self.used, pid, into) {
+    // The words of an object, as the source shows it.
+    pub(crate) fn fetch_in(
+        &mut self,
+        source: Source,
+        pid: u64,
+        into: &mut [u64],
+    ) -> Result<(), VaultFault>
+        requires alive { self.old.live ≡ true }
+        requires source { IsSource self.old.table source }
+        ensures fetches { Fetches (outside_at H.outside source self.old) (outside_at H.outside source self.new) pid (length into.old) into.new result }
+        ensures same { (self.new.table ≡ self.old.table) × (self.new.used ≡ self.old.used) }
+        ensures alive { OnOk result (self.new.live ≡ true) }
+        ensures dead { OnErr result (self.new.live ≡ false) }
+    {
+        let used = source.used_of(self.used);
+        match fetch_at(&mut self.volume, &mut self.kept, source, used, pid, into) {
             Ok(()) => Ok(()),
             Err(fault) => {
                 self.live = false;
@@ -110,7 +198,17 @@ impl<H: Host> Vault for ObjStore<H> {
         }
     }
 
-    fn append(&mut self, words: &[u64]) -> Result<u64, VaultFault> {
+    // Stages a new object.
+    pub(crate) fn append_new(&mut self, words: &[u64]) -> Result<u64, VaultFault>
+        requires alive { self.old.live ≡ true }
+        requires headed { IsHeaded words.now }
+        ensures appends { Appends (outside_of H.outside self.old) (outside_of H.outside self.new) words.now (used_of self.old) (used_of self.new) (most_of self.old) (access_of self.old) result }
+        ensures pins { SamePins self.old.table self.new.table }
+        ensures committed { self.new.table.committed ≡ self.old.table.committed }
+        ensures alive { OnOk result (self.new.live ≡ true) }
+        ensures dead { OnErr result (self.new.live ≡ false) }
+    {
+        self.staged = true;
         let pid = self.used;
         match append_at(&mut self.volume, &mut self.kept, pid, words) {
             Ok(()) => {
@@ -124,7 +222,18 @@ impl<H: Host> Vault for ObjStore<H> {
         }
     }
 
-    fn overwrite(&mut self, pid: u64, words: &[u64]) -> Result<(), VaultFault> {
+    // Stages these words in place of the object's.
+    pub(crate) fn overwrite_old(&mut self, pid: u64, words: &[u64]) -> Result<(), VaultFault>
+        requires alive { self.old.live ≡ true }
+        requires headed { IsHeaded words.now }
+        ensures overwrites { Overwrites (outside_of H.outside self.old) (outside_of H.outside self.new) pid words.now (access_of self.old) result }
+        ensures pins { SamePins self.old.table self.new.table }
+        ensures committed { self.new.table.committed ≡ self.old.table.committed }
+        ensures used { self.new.used ≡ self.old.used }
+        ensures alive { OnOk result (self.new.live ≡ true) }
+        ensures dead { OnErr result (self.new.live ≡ false) }
+    {
+        self.staged = true;
         match overwrite_at(&mut self.volume, &mut self.kept, self.used, pid, words) {
             Ok(()) => Ok(()),
             Err(fault) => {
@@ -134,10 +243,22 @@ impl<H: Host> Vault for ObjStore<H> {
         }
     }
 
-    fn settle(&mut self, directory: u64) -> Result<(), VaultFault> {
+    // Commits all that is staged.
+    pub(crate) fn settle_staged(&mut self, directory: u64) -> Result<(), VaultFault>
+        requires alive { self.old.live ≡ true }
+        requires below { directory < used_of self.old }
+        ensures settles { SettlesAll (outside_of H.outside self.old) (outside_of H.outside self.new) (used_of self.old) directory (access_of self.old) result }
+        ensures directory { OnOk result (self.new.table.committed.note.directory ≡ directory) }
+        ensures unstaged { OnOk result (self.new.staged ≡ false) }
+        ensures outdated { OnOk result (self.new.table.pins.items ≡ map outdated self.old.table.pins.items) }
+        ensures same { (self.new.used ≡ self.old.used) × (self.new.table.committed.pages ≡ self.old.table.committed.pages) × (access_of self.new ≡ access_of self.old) }
+        ensures alive { OnOk result (self.new.live ≡ true) }
+        ensures dead { OnErr result (self.new.live ≡ false) }
+    {
         match settle_all(&mut self.volume, self.used, directory) {
             Ok(()) => {
                 self.kept.clear();
+                self.staged = false;
                 Ok(())
             }
             Err(fault) => {
@@ -147,7 +268,37 @@ impl<H: Host> Vault for ObjStore<H> {
         }
     }
 
-    fn put(&mut self, bytes: &[u8]) -> Result<(), VaultFault> {
+    // Commits all that is staged; then the pin holds that.
+    pub(crate) fn settle_pinned(&mut self, pin: u32, directory: u64) -> Result<(), VaultFault>
+        requires alive { self.old.live ≡ true }
+        requires pin { pin < length self.old.table.pins.items }
+        requires below { directory < used_of self.old }
+        ensures settles { SettlesAll (outside_of H.outside self.old) (outside_of H.outside self.new) (used_of self.old) directory (access_of self.old) result }
+        ensures directory { OnOk result (self.new.table.committed.note.directory ≡ directory) }
+        ensures viewed { OnOk result (IsViewed self.new.table pin Staged) }
+        ensures same { (self.new.used ≡ self.old.used) × (self.new.table.committed.pages ≡ self.old.table.committed.pages) }
+        ensures alive { OnOk result (self.new.live ≡ true) }
+        ensures dead { OnErr result (self.new.live ≡ false) }
+    {
+        match self.settle_staged(directory) {
+            Ok(()) => {
+                self.pin(pin);
+                Ok(())
+            }
+            Err(fault) => Err(fault),
+        }
+    }
+
+    // Writes these bytes; what the source shows stays.
+    pub(crate) fn put_in(&mut self, source: Source, bytes: &[u8]) -> Result<(), VaultFault>
+        requires alive { self.old.live ≡ true }
+        ensures told { Puts (outside_at H.outside source self.old) (outside_at H.outside source self.new) bytes.now result }
+        ensures never { NeverFull result × NeverLacksPages result × NeverDamaged result }
+        ensures same { (self.new.table ≡ self.old.table) × (self.new.used ≡ self.old.used) }
+        ensures alive { OnOk result (self.new.live ≡ true) }
+        ensures dead { OnErr result (self.new.live ≡ false) }
+    {
+        let _ = source;
         match self.volume.put(bytes) {
             Ok(()) => Ok(()),
             Err(_) => {
@@ -155,6 +306,47 @@ impl<H: Host> Vault for ObjStore<H> {
                 Err(VaultFault::Output)
             }
         }
+    }
+}
+
+impl<H: Host> Vault for ObjStore<H> {
+    ghost use Rattle.obj_store.specs.Store.{outside_of, used_of, most_of, directory_of, access_of};
+    ghost use Rattle.obj_store.specs.declared.source.Source.TheVariants.{Staged};
+
+    ghost outside = { λ store. outside_of H.outside store };
+
+    ghost alive = { λ store. store.live ≡ true };
+
+    ghost used_words = { λ store. used_of store };
+
+    ghost most_words = { λ store. most_of store };
+
+    ghost directory_at = { λ store. directory_of store };
+
+    ghost access = { λ store. access_of store };
+
+    fn length(&mut self, pid: u64) -> Result<u32, VaultFault> {
+        self.length_in(Source::Staged, pid)
+    }
+
+    fn fetch(&mut self, pid: u64, into: &mut [u64]) -> Result<(), VaultFault> {
+        self.fetch_in(Source::Staged, pid, into)
+    }
+
+    fn append(&mut self, words: &[u64]) -> Result<u64, VaultFault> {
+        self.append_new(words)
+    }
+
+    fn overwrite(&mut self, pid: u64, words: &[u64]) -> Result<(), VaultFault> {
+        self.overwrite_old(pid, words)
+    }
+
+    fn settle(&mut self, directory: u64) -> Result<(), VaultFault> {
+        self.settle_staged(directory)
+    }
+
+    fn put(&mut self, bytes: &[u8]) -> Result<(), VaultFault> {
+        self.put_in(Source::Staged, bytes)
     }
 
     fn used(&self) -> u64 {
@@ -169,15 +361,20 @@ impl<H: Host> Vault for ObjStore<H> {
         self.volume.note().directory
     }
 
+    fn writable(&self) -> bool {
+        true
+    }
+
     fn is_alive(&self) -> bool {
         self.live
     }
 
+    ghost use Rattle.paged_volume.specs.Layout.{capacity_of};
     ghost use Rattle.obj_store.specs.StoreLaws.{is_space, is_one, in_bounds};
 
-    ghost space = { λ store space is. is_space H.outside store space is };
+    ghost space = { λ store space is. is_space Staged store.used store.table (H.outside store.host) space is };
 
-    ghost one = { λ store a b is other. is_one H.outside store (H.one store.host) a b is other };
+    ghost one = { λ store a b is other. is_one Staged store.used store.table (H.outside store.host) (H.one store.host) a b is other };
 
-    ghost bounds = { λ store. in_bounds store };
+    ghost bounds = { λ store. in_bounds store.used (capacity_of store.table.committed.pages) };
 }

@@ -8,4 +8,6 @@ mod damage;
 #[cfg(test)]
 mod objects;
 #[cfg(test)]
+mod pins;
+#[cfg(test)]
 mod stopping;

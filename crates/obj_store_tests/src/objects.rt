@@ -1,6 +1,6 @@
 //! Stores to be tested, and objects to be stored.
 
-ghost use Rattle.std.specs.Prelude.{◌≡◌, IfSome, OnOk, true};
+ghost use Rattle.std.specs.Prelude.{◌≡◌, [], IfSome, OnOk, true};
 ghost use Rattle.obj_store.specs.obj_layout.Stored.{IsHeaded};
 
 use memory_host::MemoryHost;
@@ -26,7 +26,8 @@ pub fn store_over(
     failing: &[u64],
     calls: u64,
 ) -> Option<ObjStore<MemoryHost>>
-    ensures { IfSome result (λ store. store.live ≡ true) }
+    ensures live { IfSome result (λ store. store.live ≡ true) }
+    ensures pins { IfSome result (λ store. store.table.pins.items ≡ []) }
 {
     let Ok(host) = MemoryHost::new(alloc, file, failing, calls, ROOM) else {
         return None;

@@ -65,6 +65,7 @@ fails-later start before after fault leaves f = record {
   cause = λ e. rose_more start.device_faults before.device_faults after.device_faults leaves.counts (f.cause e);
   other = f.other;
   full = f.full;
+  pages = f.pages;
 }
 
 pub breaks-later : {T : Type 0} (start before after : Outside Space) (result : Result T OpFault) → LeavesOutside start before

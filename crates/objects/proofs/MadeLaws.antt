@@ -61,4 +61,5 @@ made-breaks mid new start before (Err (op.Swizzle fault)) leaves b = record {
   cause = λ e. let both = sym b.fault_is ∙ e in absurd (cc);
   other = λ e. let both = sym b.fault_is ∙ e in cc;
   full = λ used wanted capacity e. let both = sym b.fault_is ∙ e in cc;
+  pages = λ held wanted pages e. let both = sym b.fault_is ∙ e in cc;
 }

@@ -27,7 +27,7 @@ use Rattle.joint_ops.proofs.of_heap_meaning.PlaceLaws.{text-one}
 use Rattle.joint_ops.proofs.of_heap_meaning.FieldLaws.{field-is, field-put}
 use Rattle.joint_ops.proofs.of_heap_meaning.GivenLaws.{field-read, field-written, shown_with}
 use Rattle.joint_ops.specs.World.{IsWorld, DenotesIn, IsForIn, IsOfForm, IsUnitIn, Answers, Writes, seen}
-use Rattle.joint_ops.proofs.SeenLaws.{seen-held, seen-one, shown-bytes, pointer-denoted, StructureAt, structure-at, nothing-done}
+use Rattle.joint_ops.proofs.SeenLaws.{seen-held, seen-one, shown-bytes, StructureAt, structure-pointed, nothing-done}
 use Rattle.joint_ops.proofs.FormLaws.{holds-form, holds-near, form-stored}
 use Rattle.joint_ops.proofs.ClassLaws.{structure-value, class-text, field-at}
 use Rattle.joint_ops.proofs.PutLaws.{no-bytes, kind-with}
@@ -56,8 +56,7 @@ structure-of here outside of names at o h w d k =
     record {
       id = p.0;
       value_is = p.1;
-      at_is = structure-at here outside of names at (p.0) h w
-          (pointer-denoted here outside names at (p.0) h (subst (DenotesIn here outside names (Some at)) (p.1) d));
+      at_is = structure-pointed here outside of names at (p.0) h w (subst (DenotesIn here outside names (Some at)) (p.1) d) k;
     }
 
 module _ (here : area.Heap) (outside : Outside Space) (code constant field at : ℕ) (known : KnownField) (h : IsHeap here)
@@ -156,6 +155,7 @@ module _ (here : area.Heap) (outside : Outside Space) (code constant field at : 
               (kind-with here it index c)
               (field-written here (seen here outside) (paired names) it class s.at_is.fields field l c v f.is is
               (form-stored outside here names l.place.form c v form for))
+              tt
               (rewritten here new at index c h s.at_is.held at_index),
         )
 

@@ -164,6 +164,62 @@ release_more before now next list index p below so_far step =
     ∙ either (is_free before p) (may_be_free p) (names (take index list) p) (get_or list index 0 == p)
     ∙ ap (λ (b : Bool). is_free before p || (may_be_free p && b)) (sym (names_more list index p below))
 
+-- the same of one that has no mark
+pub release_unmarked_more : (before now next marks : List Bool) (list : List ℕ) (index p : ℕ) → index < length list
+    → is_free now p ≡ (is_free before p || (may_be_free p && (names (take index list) p && not (is_free marks p))))
+    → is_free marks (get_or list index 0) ≡ false
+    → is_free next p ≡ (is_free now p || (may_be_free p && (get_or list index 0 == p)))
+    → is_free next p ≡ (is_free before p || (may_be_free p && (names (take (index + 1) list) p && not (is_free marks p))))
+release_unmarked_more before now next marks list index p below so_far unmarked step =
+    step
+    ∙ ap (λ (b : Bool). b || (may_be_free p && (get_or list index 0 == p))) so_far
+    ∙ elim (cases_eq (get_or list index 0) p) [
+      | inl this ↦
+          let free : is_free marks p ≡ false = subst (λ (q : ℕ). is_free marks q ≡ false) this unmarked in
+          rw (free, eq-eqb (get_or list index 0) p this) (one_released (is_free before p) (may_be_free p) (names (take index list) p)
+          ∙ ap (λ (b : Bool). is_free before p || (may_be_free p && (b && true))) (sym (names_more list index p below ∙ ap (λ (b : Bool). names (take index list) p || b) (eq-eqb (get_or list index 0) p this))))
+      | inr other ↦
+          let no = ne_eqb (get_or list index 0) p other in
+          rw no (one_left (is_free before p) (may_be_free p) (names (take index list) p && not (is_free marks p))
+          ∙ ap (λ (b : Bool). is_free before p || (may_be_free p && (b && not (is_free marks p)))) (sym (names_more list index p below ∙ ap (λ (b : Bool). names (take index list) p || b) no ∙ or_false (names (take index list) p))))
+    ]
+  where
+    one_released : (free may named : Bool) → ((free || (may && (named && true))) || (may && true)) ≡ (free || (may && ((named || true) && true)))
+    one_released true may named = refl
+    one_released false true true = refl
+    one_released false true false = refl
+    one_released false false named = refl
+
+    one_left : (free may named : Bool) → ((free || (may && named)) || (may && false)) ≡ (free || (may && named))
+    one_left true may named = refl
+    one_left false true true = refl
+    one_left false true false = refl
+    one_left false false named = refl
+
+    or_false : (b : Bool) → (b || false) ≡ b
+    or_false true = refl
+    or_false false = refl
+
+-- a page that has a mark stays
+pub mark_more : (before now marks : List Bool) (list : List ℕ) (index p : ℕ) → index < length list
+    → is_free now p ≡ (is_free before p || (may_be_free p && (names (take index list) p && not (is_free marks p))))
+    → is_free marks (get_or list index 0) ≡ true
+    → is_free now p ≡ (is_free before p || (may_be_free p && (names (take (index + 1) list) p && not (is_free marks p))))
+mark_more before now marks list index p below so_far marked =
+    so_far
+    ∙ elim (cases_eq (get_or list index 0) p) [
+      | inl this ↦
+          let has : is_free marks p ≡ true = subst (λ (q : ℕ). is_free marks q ≡ true) this marked in
+          rw has (ap (λ (b : Bool). is_free before p || (may_be_free p && b)) (and_right (names (take index list) p) false refl ∙ sym (and_right (names (take (index + 1) list) p) false refl)))
+      | inr other ↦
+          ap (λ (b : Bool). is_free before p || (may_be_free p && (b && not (is_free marks p))))
+          (sym (names_more list index p below ∙ ap (λ (b : Bool). names (take index list) p || b) (ne_eqb (get_or list index 0) p other) ∙ or_none (names (take index list) p)))
+    ]
+  where
+    or_none : (b : Bool) → (b || false) ≡ b
+    or_none true = refl
+    or_none false = refl
+
 -- the pages that one more list names are taken
 pub hold_one_more : (before now next : List Bool) (lists : List (List ℕ)) (index p : ℕ) → index < length lists → p < length now
     → is_free now p ≡ (is_free before p && not (one_names (take index lists) p))

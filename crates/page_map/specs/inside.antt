@@ -1,2 +1,5 @@
 pub mod Counted
+pub mod Noted
+pub mod Marked
+pub mod Releasing
 pub mod Kept

@@ -125,6 +125,17 @@ impl FreePages {
         }
     }
 
+    /// Makes the pages free that a list names and that have no mark, of those that may be free.
+    pub fn release_unmarked(&mut self, list: &[u32], marks: &[bool])
+        ensures { self.new ≡ free_where (length self.old) (λ p. is_free self.old p || (may_be_free p && (names list.now p && not (is_free marks.now p)))) }
+    {
+        for page in list {
+            if !is_marked(marks, *page) {
+                self.release(*page);
+            }
+        }
+    }
+
     /// Takes the free ones of the pages that a list names.
     pub fn hold(&mut self, list: &[u32])
         ensures { self.new ≡ without self.old list.now }
@@ -142,6 +153,14 @@ impl FreePages {
             self.hold(list.numbers());
         }
     }
+}
+
+// Whether a page has a mark.
+fn is_marked(marks: &[bool], page: u32) -> bool
+    ensures { result ≡ is_free marks.now page }
+{
+    let place = page as usize;
+    place < marks.len() && marks[place]
 }
 
 // The first free page from a page on, or the number of pages.

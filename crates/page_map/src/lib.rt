@@ -4,6 +4,8 @@
 mod fault;
 mod free_pages;
 mod laws;
+mod marked;
+mod noted;
 mod numbers;
 mod page_list;
 mod page_map;

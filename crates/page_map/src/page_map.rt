@@ -1,11 +1,14 @@
-ghost use Rattle.std.specs.Prelude.{◌≡◌, ℕ, ◌+◌, ◌*◌, ◌<◌, ◌≤◌, ◌⊎◌, [], true, false, not, ◌&&◌, ◌||◌, IfOk, OnErr, IfErr, OnOk, MatchBool, MatchOption, IfSome, length, replicate, slice_index, slice_index_or, slice_set};
+ghost use Rattle.std.specs.Prelude.{◌≡◌, ℕ, ◌+◌, ◌*◌, ◌<◌, ◌≤◌, ◌⊎◌, [], Some, None, true, false, not, ◌&&◌, ◌||◌, IfOk, OnErr, IfErr, OnOk, MatchBool, MatchOption, IfSome, length, replicate, slice_index, slice_index_or, slice_set};
 ghost use Rattle.std.specs.Bool.{OnTrue};
 ghost use Rattle.page_map.specs.Pages.{is_free, held_of, free_where, may_be_free, IsTaken, names, one_names, no_pages};
 ghost use Rattle.page_map.specs.Numbers.{number_at, first_numbers, bytes_of, numbers_from};
+ghost use Rattle.page_map.specs.inside.Releasing.{ReleasesUnstaged};
 ghost use Rattle.page_map.specs.Map.{IsMap, AreGood, IsFault, NoneIsPinned, fresh_map, with_taken, with_staged, with_read, settled, with_pin, with_pins};
 
 use crate::fault::MapFault;
 use crate::free_pages::FreePages;
+use crate::marked::MarkedList;
+use crate::noted::Noted;
 use crate::numbers::{NUMBERS, read_number, write_number};
 use crate::page_list::PageList;
 use std::alloc::{AllocError, Global};
@@ -17,10 +20,13 @@ use std::marker::Model;
 #[derive(Drop)]
 pub struct PageMap {
     committed: PageList,
-    staged: PageList,
+    staged: MarkedList,
     // The list that each pin holds. One that holds nothing names no page.
     pins: Vec<PageList>,
     free: FreePages,
+    // Pages that were taken, and such as were staged and aren't any more, since the last settling: it makes the pages free that are loose. None where
+    // they were too many.
+    loose: Noted,
 }
 
 impl Model for PageMap {
@@ -42,9 +48,10 @@ impl PageMap {
     {
         Ok(PageMap {
             committed: PageList::new(alloc, logical)?,
-            staged: PageList::new(alloc, logical)?,
+            staged: MarkedList::new(alloc, logical, pages)?,
             pins: Vec::new(alloc),
             free: FreePages::new(alloc, pages)?,
+            loose: Noted::new(alloc)?,
         })
     }
 
@@ -82,7 +89,11 @@ impl PageMap {
         ensures page { OnTrue result (IsTaken self.new.free physical) }
         ensures taken { MatchBool result (self.new ≡ with_taken self.old physical) (self.new ≡ self.old) }
     {
-        self.free.claim(physical)
+        if !self.free.claim(physical) {
+            return false;
+        }
+        self.loose.note(physical);
+        true
     }
 
     /// The physical page that is committed for a logical page, or 0 for none.
@@ -98,7 +109,7 @@ impl PageMap {
         requires { page < length self.now.committed }
         ensures { result ≡ slice_index self.now.staged page }
     {
-        self.staged.number(page)
+        self.staged.list().number(page)
     }
 
     /// Takes a free page. None, and then nothing changes, exactly where none is free.
@@ -107,7 +118,9 @@ impl PageMap {
         ensures page { IfSome result (λ page. IsTaken self.new.free page) }
         ensures taken { MatchOption result (self.new ≡ self.old) (λ page. self.new ≡ with_taken self.old page) }
     {
-        self.free.take()
+        let page = self.free.take()?;
+        self.loose.note(page);
+        Some(page)
     }
 
     /// Stages a physical page for a logical one, or 0 for none. The physical page was taken.
@@ -116,19 +129,24 @@ impl PageMap {
         requires physical { (physical ≡ 0) ⊎ IsTaken self.old.free physical }
         ensures { self.new ≡ with_staged self.old page physical }
     {
-        self.staged.set(page as usize, physical);
+        let old = self.staged.list().number(page);
+        if old == physical {
+            return;
+        }
+        self.staged.set(page, physical);
+        self.loose.note(old);
     }
 
     /// Takes a page that was read, and stages it. False, and then nothing changes, where it isn't free.
-    fn take_read(&mut self, page: usize, physical: u32) -> bool
+    fn take_read(&mut self, page: u32, physical: u32) -> bool
         requires { page < length self.old.committed }
         ensures answer { result ≡ is_free self.old.free physical }
         ensures taken { MatchBool result (self.new ≡ with_staged (with_taken self.old physical) page physical) (self.new ≡ self.old) }
     {
-        if !self.free.claim(physical) {
+        if !self.claim(physical) {
             return false;
         }
-        self.staged.set(page, physical);
+        self.replace(page, physical);
         true
     }
 
@@ -144,10 +162,10 @@ impl PageMap {
         ensures bad { IfErr result (λ fault. IsFault self.old number count bytes.now fault self.new) }
     {
         self.sound();
-        let first = NUMBERS * number as usize;
+        let first = NUMBERS as u32 * number;
         for index in 0..count {
             let found = read_number(bytes, index as usize);
-            if !self.take_read(first + index as usize, found) {
+            if !self.take_read(first + index, found) {
                 return Err(MapFault::BadNumber { index, found });
             }
         }
@@ -161,7 +179,11 @@ impl PageMap {
     {
         let first = NUMBERS * number as usize;
         for index in 0..NUMBERS {
-            write_number(into, index, self.staged.number_or_none(first + index));
+            write_number(
+                into,
+                index,
+                self.staged.list().number_or_none(first + index),
+            );
         }
     }
 
@@ -170,11 +192,12 @@ impl PageMap {
     pub fn settle(&mut self, map_pages: &[u32])
         ensures { self.new ≡ settled self.old map_pages.now }
     {
-        self.free.release_all();
-        self.free.hold(self.staged.numbers());
+        release_unstaged(&mut self.free, &self.loose, &self.staged);
         self.free.hold(map_pages);
         self.free.hold_each(&self.pins);
-        self.committed.copy_from(&self.staged);
+        self.committed.copy_from(self.staged.list());
+        self.loose.clear();
+        note_all(&mut self.loose, map_pages);
     }
 
     /// Makes so many pins, which hold nothing, in place of those that there were. After an error the map is as before.
@@ -203,7 +226,12 @@ impl PageMap {
         let pinned = &mut self.pins[pin as usize];
         self.free.release_named(pinned.numbers());
         pinned.copy_from(&self.committed);
-        hold_all(&mut self.free, &self.committed, &self.staged, &self.pins);
+        hold_all(
+            &mut self.free,
+            &self.committed,
+            self.staged.list(),
+            &self.pins,
+        );
     }
 
     /// The pin holds nothing. A page that only the list given up names is free then.
@@ -214,7 +242,12 @@ impl PageMap {
         let pinned = &mut self.pins[pin as usize];
         self.free.release_named(pinned.numbers());
         pinned.clear();
-        hold_all(&mut self.free, &self.committed, &self.staged, &self.pins);
+        hold_all(
+            &mut self.free,
+            &self.committed,
+            self.staged.list(),
+            &self.pins,
+        );
     }
 
     /// The physical page of a logical page in the list that the pin holds, or 0 for none.
@@ -224,6 +257,29 @@ impl PageMap {
         ensures { result ≡ slice_index (slice_index_or self.now.pins pin []) page }
     {
         self.pins[pin as usize].number(page)
+    }
+}
+
+// Makes the pages free that aren't staged, of those that may be free: the loose ones alone, where these are told.
+fn release_unstaged(free: &mut FreePages, loose: &Noted, staged: &MarkedList)
+    ensures long { length free.new ≡ length free.old }
+    ensures releases { ReleasesUnstaged free.old free.new loose.now staged.now }
+{
+    let (Some(numbers), Some(marks)) = (loose.numbers(), staged.marks()) else {
+        free.release_all();
+        free.hold(staged.list().numbers());
+        return;
+    };
+    free.release_unmarked(numbers, marks);
+}
+
+// Notes each of these numbers.
+fn note_all(noted: &mut Noted, numbers: &[u32])
+    requires { noted.old ≡ Some [] }
+    ensures { (noted.new ≡ None) ⊎ (noted.new ≡ Some numbers.now) }
+{
+    for number in numbers {
+        noted.note(*number);
     }
 }
 

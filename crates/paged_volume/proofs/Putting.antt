@@ -35,6 +35,11 @@ pub record IsPut (table : Table) (page number : ℕ) (next : MapView) : Type 0 w
   pub was : (get_or table.map.staged page 0 ≡ get_or table.map.committed page 0) ⊎ ((get_or table.map.staged page 0 ≡ 0) ⊎ (get_or table.map.staged page 0 ≡ number))
   pub next_is : next ≡ record (table.map) { staged = set table.map.staged page number; free = next.free }
 
+-- finding a place changes neither what is committed nor what pins hold
+pub place_lists : (old new : MapView) (page number : ℕ) → IsPlace old new page number → (new.committed ≡ old.committed) × (new.pins ≡ old.pins)
+place_lists old new page number (again staged other some taken same) = (ap (λ (m : MapView). m.committed) same, ap (λ (m : MapView). m.pins) same)
+place_lists old new page number (given unstaged free unnamed taken same) = (ap (λ (m : MapView). m.committed) same, ap (λ (m : MapView). m.pins) same)
+
 pub is_put : (table : Table) (between : MapView) (page number : ℕ) → IsTable table → IsPlace table.map between page number → IsPut table page number (with_staged between page number)
 is_put table between page number is (again staged other some taken same) =
     subst (λ (m : MapView). IsPut table page number (with_staged m page number)) (sym same) (record {

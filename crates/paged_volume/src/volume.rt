@@ -105,6 +105,7 @@ impl<H: Host> Volume<H> {
         ensures committed { self.new.table.committed ≡ self.old.table.committed }
         ensures marks { OnOk result (Marks page self.old.table self.new.table) }
         ensures pins { self.new.table.pins.items ≡ self.old.table.pins.items }
+        ensures lists { (self.new.table.map.committed ≡ self.old.table.map.committed) × (self.new.table.map.pins ≡ self.old.table.map.pins) }
         ensures pinned { OnOk result (KeepsPins self.old.table self.new.table (H.outside self.old.host) (H.outside self.new.host)) }
         ensures alive { OnOk result (IsAlive self.new.live self.new.table (H.outside self.new.host)) }
         ensures fault { IfErr result (IsPutFault H.outside self.old.host self.new.host self.old.live self.new.live self.old.table self.new.table page) }
@@ -147,6 +148,7 @@ impl<H: Host> Volume<H> {
         ensures blank { OnOk result (self.new.table.map.staged ≡ self.new.table.map.committed) }
         ensures numbers { OnOk result ((page : ℕ) → slice_index self.new.table.map.committed page ≡ next_number self.old.table.map (pages_of_words used) page) }
         ensures pins { OnOk result (self.new.table.pins.items ≡ map outdated self.old.table.pins.items) }
+        ensures kept { OnErr result (self.new.table.pins.items ≡ self.old.table.pins.items) }
         ensures pinned { OnOk result (KeepsPins self.old.table self.new.table (H.outside self.old.host) (H.outside self.new.host)) }
         ensures room { OnOk result (HasRoom self.old.table (switched used directory self.old.table.committed)) }
         ensures alive { OnOk result (IsAlive self.new.live self.new.table (H.outside self.new.host)) }
@@ -282,6 +284,17 @@ impl<H: Host> Volume<H> {
             Some(held) => held.current,
             None => unreachable!(),
         }
+    }
+
+    /// Whether the pin holds something.
+    pub fn is_pinned(&self, pin: u32) -> bool
+        ensures { result ≡ true → IsSome (pin_of self.now.table pin) }
+    {
+        let place = pin as usize;
+        if place >= self.table.pins.len() {
+            return false;
+        }
+        self.table.pins[place].is_some()
     }
 
     /// How many pages aren't free: those of what is committed, staged and pinned, and the first four.

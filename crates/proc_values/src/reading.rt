@@ -28,7 +28,7 @@ pub fn constant<V: Vault>(
     requires held { IsHeld sw.old code }
     ensures given { GivesConstant sw.old sw.new (V.outside vault.old) (V.outside vault.new) code index result }
     ensures still { (HasConstant sw.old code index → ⊥) → vault.new ≡ vault.old }
-    ensures numbers { SameNumbers V.used_words V.directory_at V.most_words vault.old vault.new }
+    ensures numbers { SameNumbers V.used_words V.directory_at V.most_words V.access vault.old vault.new }
     ensures alive { OnOk result (V.alive vault.new) }
 {
     if !is_code(sw.kind(code)) {

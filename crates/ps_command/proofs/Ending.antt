@@ -282,6 +282,7 @@ module _ (old mid new : Outside (List ℕ)) where
         never_rose rose = grind arith
     never_broke owed vault_fault.Output ran = refl
     never_broke owed (vault_fault.Full used wanted capacity) (broke way s by tells) = absurd by
+    never_broke owed (vault_fault.NoPages held wanted pages) (broke way s by tells) = absurd by
     never_broke owed (Damaged at found wanted) (broke {events = events} {last = last} way s by tells) =
         absurd (never_stuck last events way s by)
 

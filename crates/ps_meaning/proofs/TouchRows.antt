@@ -105,3 +105,22 @@ unfolding digits eval is_one_object give stop after ◌>>=◌ choose answer atte
     row home_at reached_from_roots every_root reach walk without is_in first_source next_in places_with is_among way_out touched_after touched_weight
     is_first_touch events_with outcome_with all_events fresh_frame fresh_state series_events
 procedure_is_called = refl
+
+-- also where its body names nothing of the scope
+abbrev idle : BodyNode
+idle = body [] ty.Int (node.Int (pos 7)) None (line 1)
+
+abbrev with_idle : Heap
+with_idle = root ∷ Structure counter (Procedure (as_written idle) (Some 2) ∷ []) ∷ Scope (codes "scope(int n)") None (Num (pos 2) ∷ []) ∷ []
+
+scope_is_touched_by_the_call : counts with_idle (Some 1 ∷ Some 1 ∷ Some 1 ∷ []) counts_once
+    ≡ asked counts_once ∷ (asked counts_once + 200 + (56 + 72 + 56 + code_weight idle)) ∷ (asked counts_once + 200 + (56 + 72 + 56 + code_weight idle) + 120) ∷ (asked counts_once + 200 + (56 + 72 + 56 + code_weight idle) + 120) ∷ []
+unfolding digits eval is_one_object give stop after ◌>>=◌ choose answer attempt answered put_answer change with_heap made made_text made_procedure enter back_in back_to scoped in_frame emit
+    written take_turn get set for_turns for_loop for_meant scan_turns scan_next scan_call begin_scan call_meant kept_all is_class field_of with_field
+    new_scope scope_out name_in with_name forms_of forms_from form_here form_in begins arguments_on frame_of_call keep keep_all body_meant call_within
+    library_procedure heap_call next_key next_string next_int table_of looked_up entered cardinality enter_call lookup_call cardinality_call
+    create_answer create_fault asks_to_create open_answer admission asks_to_open commit_call decision are_writable each_once saved homes_after home_after
+    first_database sources source_of at_home created_with after_places roots_of newly_reached starts loose loose_from database_at database_from
+    row home_at reached_from_roots every_root reach walk without is_in first_source next_in places_with is_among way_out touched_after touched_weight
+    is_first_touch events_with outcome_with all_events fresh_frame fresh_state series_events
+scope_is_touched_by_the_call = refl

@@ -1,24 +1,28 @@
 -- A volume that was moved into the last form, and then attached.
-use Rattle.std.proofs.Common.{◌≡◌, ℕ, ◌≤◌, Bool, List, [], refl, sym, ◌∙◌, ap, subst, arith, Option, Some, None}
+use Rattle.std.proofs.Common.{◌≡◌, ℕ, ◌+◌, ◌≤◌, Bool, true, false, List, [], refl, sym, ◌∙◌, ap, subst, arith, Option, Some, None}
 use Rattle.std.specs.Option.{option_map}
 use Rattle.ps_port.specs.ps_outside.Outside.{Outside, LeavesSame, TellsNothing}
 use Rattle.ps_port.proofs.of_ps_outside.Moments.{along_then, along_now}
 use Rattle.ps_port.proofs.of_ps_outside.PastMoments.{past_along, past_then}
-use Rattle.volume_next.specs.Moving.{HoldsSame, IsKeptIn, KeepsFrom, IsMigrated, IsUnmoved}
+use Rattle.volume_next.specs.Moving.{HoldsSame, IsKeptIn, KeepsFrom, IsMigrated, IsUnmoved, lacks_index, maps_held, moving_calls}
 use Rattle.volume_next.specs.Moving as moving
+use Rattle.obj_store.specs.volume_parts.Layout.{pages_of_words}
+use Rattle.obj_store.specs.volume_parts.declared.note.Note.{Note}
 use Rattle.obj_store.specs.volume_parts.Holding.{Held}
 use Rattle.obj_store.specs.volume_parts.declared.open_fault.OpenFault.{OpenFault}
 use Rattle.obj_store.specs.volume_parts.declared.open_fault.OpenFault.TheVariants.{Device, NotAVolume, Damaged, Memory}
 use Rattle.obj_store.proofs.of_volume_parts.Looking.{rose_then}
-use Rattle.obj_store.specs.paged_volume.Attaching.{IsNoVolume, IsRefused}
+use Rattle.obj_store.specs.paged_volume.Attaching.{IsFound, IsNoVolume, IsRefused}
+use Rattle.obj_store.specs.paged_volume.Layout.{map_pages_of}
+use Rattle.obj_store.specs.paged_volume.declared.committed.Committed.{Committed}
 use Rattle.obj_store.specs.paged_volume.Found.{Found, a_volume, no_volume, damaged, damage, found_in}
-use Rattle.obj_store.specs.paged_volume.Standing.{held_in, held_of}
+use Rattle.obj_store.specs.paged_volume.Standing.{held_in, held_of, map_count}
 use Rattle.obj_store.specs.obj_layout.Stored.{Space}
 use Rattle.obj_store.specs.Opening.{IsOpened}
 use Rattle.obj_store.specs.Spaces.{space_of, words_of}
 use Rattle.obj_store.specs.Store.{Store}
 use Rattle.ps_reports.specs.declared.report.Report.{Report}
-use Rattle.ps_volumes.specs.Attaching.{HasVolume, KeepsHeld, KeepsVolume, IsStored, IsUnattached, report_for}
+use Rattle.ps_volumes.specs.Attaching.{HasVolume, KeepsHeld, KeepsVolume, CallsFew, IsStored, IsUnattached, attaching_calls, report_for}
 use Rattle.ps_volumes.proofs.Refused.{unattached_by}
 use Rattle.ps_volumes.proofs.Settled.{from_then, held_from}
 
@@ -49,6 +53,21 @@ holds_none bytes held found none some is =
     let e : None ≡ Some held = sym none ∙ sym (ap held_of is) ∙ some in
     cc
 
+-- the same map pages are read
+same_maps : (was now : List ℕ) → IsKeptIn was now → maps_held (held_in was) ≡ maps_held (held_in now)
+same_maps was now is =
+    ap maps_held is.was_found ∙ ap (λ (used : ℕ). map_pages_of (pages_of_words used)) (sym is.same.used) ∙ sym (ap maps_held is.now_found)
+
+maps_opened : (committed : Committed) (bytes : List ℕ) → IsFound committed bytes → maps_held (held_in bytes) ≡ map_count committed
+unfolding held_in
+maps_opened committed bytes is =
+    ap (λ (found : Found). maps_held (held_of found)) is.volume ∙ ap (λ (n : Note). map_pages_of (pages_of_words n.used)) is.note
+
+-- few calls, and as many as a look takes
+few_then : (start mid now : ℕ) (committed : Bool) → mid ≤ start + moving_calls committed 488 → now ≤ mid + 496 → now ≤ start + attaching_calls true 488
+few_then start mid now true first next = omega arith
+few_then start mid now false first next = omega arith
+
 -- so attaching it refuses for no other cause than before
 refused_before : (cause : OpenFault) (was now : List ℕ) → IsKeptIn was now → IsNoVolume cause now → IsNoVolume cause was
 refused_before Device was now is why = tt
@@ -60,12 +79,13 @@ module _ (a b : Outside (List ℕ)) (is_image : (bytes : List ℕ) → b.content
   -- the volume wasn't moved
   pub unattached_before : (cause : OpenFault) (report : Report) → report ≡ report_for cause → IsUnmoved a b cause → IsUnattached a b report
   unattached_before cause report report_is (moving.refused is) = unattached_by a b cause report is report_is
-  unattached_before cause report report_is (moving.cut is rose moves) = record {
+  unattached_before cause report report_is (moving.cut is rose moves calls) = record {
     cause = cause;
     why = record { device = λ e. rose; found = λ bytes at. subst (λ (why : OpenFault). IsNoVolume why bytes) (sym is) tt };
     report_is = report_is;
     told = moves.told;
     calm = moves.output;
+    calls = let few = calls.most in omega arith;
     keeps = held_from a b moves.keeps moves.past is_image;
   }
 
@@ -98,14 +118,35 @@ module _ (a b : Outside (List ℕ)) (is_image : (bytes : List ℕ) → b.content
       report_is = report_is;
       told = then_told;
       calm = output ∙ is.moves.output;
+      calls = few_then _ _ _ committed is.calls.most refused.looks.calls;
       keeps = then_held;
     }
 
+  -- the map pages of what was found
+  maps_found : {H : Type 0} (outside : H → Outside (List ℕ)) (store : Store H) → IsOpened outside b store → (was now : List ℕ) → IsKeptIn was now → b.contents now → maps_held (held_in was) ≡ map_count store.table.committed
+  maps_found outside store opened was now is at = same_maps was now is ∙ maps_opened store.table.committed now (opened.found now at)
+
+  opened_calls : {H : Type 0} (outside : H → Outside (List ℕ)) (store : Store H) → IsOpened outside b store → (committed : Bool) → IsMigrated a b committed
+      → ((bytes : List ℕ) → a.contents bytes → committed ≡ lacks_index bytes) → CallsFew a (outside store.host)
+  opened_calls outside store opened committed is when = record {
+    told = λ bytes at.
+        let now = is.still bytes at in
+        let maps = maps_found outside store opened bytes now.from now.by now.was in
+        let first = is.calls.told bytes at in
+        let next = opened.looks.calls in
+        let moves = ap (λ (c : Bool). moving_calls c (maps_held (held_in bytes))) (when bytes at) in
+        omega arith;
+    most = few_then _ _ _ committed is.calls.most (let next = opened.looks.calls in let few = opened.few in omega arith);
+  }
+
   -- the store of the volume holds what was committed in the file at the start
   pub stored_by : {H : Type 0} (outside : H → Outside (List ℕ)) (committed : Bool) (store : Store H) → IsMigrated a b committed → IsOpened outside b store
+      → ((bytes : List ℕ) → a.contents bytes → committed ≡ lacks_index bytes) → ((bytes : List ℕ) → b.contents bytes → lacks_index bytes ≡ false)
       → ((bytes : List ℕ) → (outside store.host).contents bytes → (outside store.host).images (outside store.host).clock bytes) → IsStored outside a store
-  stored_by outside committed store is opened law = record {
+  stored_by outside committed store is opened when moved law = record {
     keeps = then_kept_volume committed is (outside store.host) opened.looks.images opened.looks.told opened.looks.counts opened.looks.output law;
+    moved = λ bytes at. moved bytes (opened.looks.same.no_other bytes at);
+    calls = opened_calls outside store opened committed is when;
     told = then_told committed is (outside store.host) opened.looks.images opened.looks.told opened.looks.counts opened.looks.output law;
     counts = let first = is.moves.counts in let next = opened.looks.counts in omega arith;
     output = opened.looks.output ∙ is.moves.output;

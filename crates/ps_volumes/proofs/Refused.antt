@@ -1,5 +1,5 @@
 -- What is left where there is no volume, and where one is made.
-use Rattle.std.proofs.Common.{◌≡◌, ℕ, List}
+use Rattle.std.proofs.Common.{◌≡◌, ℕ, List, arith}
 use Rattle.std.specs.Prelude.{Ok, Err}
 use Rattle.ps_port.specs.ps_outside.Outside.{Outside, Leaves, TellsNothing}
 use Rattle.obj_store.specs.paged_volume.Attaching.{IsRefused}
@@ -23,6 +23,7 @@ unattached_by old new cause report is report_is = record {
   report_is = report_is;
   told = is.looks.told;
   calm = is.looks.output;
+  calls = let few = is.looks.calls in omega arith;
   keeps = held_kept old new (record { images = is.looks.images; contents = λ bytes at. is.looks.same.no_other bytes at });
 }
 

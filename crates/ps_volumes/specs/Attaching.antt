@@ -1,9 +1,10 @@
 -- What is left of a device whose volume was attached, or couldn't be.
-use Rattle.std.specs.Prelude.{◌≡◌, ◌⊎◌, ℕ, ◌≤◌, Bool, true, List}
+use Rattle.std.specs.Prelude.{◌≡◌, ◌⊎◌, ℕ, ◌+◌, ◌≤◌, Bool, true, false, List}
 use Rattle.ps_port.specs.ps_outside.Outside.{Outside, After, Leaves, LeavesSame, TellsNothing, Rose}
-use Rattle.volume_next.specs.Moving.{IsKeptIn, KeepsFrom}
+use Rattle.volume_next.specs.Moving.{IsKeptIn, KeepsFrom, lacks_index, maps_held, moving_calls}
 use Rattle.obj_store.specs.volume_parts.Holding.{Held}
 use Rattle.obj_store.specs.paged_volume.Found.{a_volume, found_in}
+use Rattle.obj_store.specs.paged_volume.Standing.{held_in}
 use Rattle.obj_store.specs.paged_volume.Attaching.{IsNoVolume}
 use Rattle.obj_store.specs.volume_parts.declared.open_fault.OpenFault.{OpenFault}
 use Rattle.obj_store.specs.volume_parts.declared.open_fault.OpenFault.TheVariants.{Device, NotAVolume, Damaged, Memory}
@@ -33,6 +34,15 @@ pub record KeepsHeld (old new : Outside (List ℕ)) : Type 0 where
   pub images : Leaves old new (λ image. old.images old.clock image ⊎ After old.contents IsKeptIn image)
   pub contents : (bytes : List ℕ) → new.contents bytes → old.contents bytes ⊎ After old.contents IsKeptIn bytes
 
+-- how often the device is called with so many map pages: a volume is looked at twice, and one of an older form is committed in between
+abbrev pub attaching_calls : Bool → ℕ → ℕ
+attaching_calls moved maps = moving_calls moved maps + (maps + 8)
+
+-- It is called as often for the map pages of what a read gives at the start; and never more than for the 488 of the largest volume.
+pub record CallsFew (old new : Outside (List ℕ)) : Type 0 where
+  pub told : (bytes : List ℕ) → old.contents bytes → new.device_calls ≤ old.device_calls + attaching_calls (lacks_index bytes) (maps_held (held_in bytes))
+  pub most : new.device_calls ≤ old.device_calls + attaching_calls true 488
+
 -- A volume was found in each content at the start, and what it held was left; from some moment on a crash leaves only files that hold that, and
 -- before that moment nothing was output, and a crash leaves what it could leave at the start.
 pub record KeepsVolume (old new : Outside (List ℕ)) : Type 0 where
@@ -40,10 +50,14 @@ pub record KeepsVolume (old new : Outside (List ℕ)) : Type 0 where
   pub from : KeepsFrom old new
   pub found : (bytes : List ℕ) → old.contents bytes → HasVolume bytes
 
--- The store of a volume, and nothing was output: its calls may be made, and the space that it holds is the one that was committed in the file at the start.
+-- The store of a volume in its last form, and nothing was output: its calls may be made, and the space that it holds is the one that was committed in the
+-- file at the start.
 pub record IsStored {H : Type 0} (outside : H → Outside (List ℕ)) (old : Outside (List ℕ)) (store : Store H) : Type 0 where
   pub keeps : KeepsVolume old (outside store.host)
   pub told : TellsNothing old (outside store.host)
+  -- the file that a read gives now is of the last form: it has an index page, where it has 88 pages
+  pub moved : (bytes : List ℕ) → (outside store.host).contents bytes → lacks_index bytes ≡ false
+  pub calls : CallsFew old (outside store.host)
   pub counts : old.device_faults ≤ (outside store.host).device_faults
   pub output : (outside store.host).output_faults ≡ old.output_faults
   pub live : store.live ≡ true
@@ -77,4 +91,5 @@ pub record IsUnattached (old new : Outside (List ℕ)) (report : Report) : Type 
   pub report_is : report ≡ report_for cause
   pub told : TellsNothing old new
   pub calm : new.output_faults ≡ old.output_faults
+  pub calls : new.device_calls ≤ old.device_calls + attaching_calls true 488
   pub keeps : KeepsHeld old new

@@ -1,3 +1,4 @@
+pub mod WorkLaws
 pub mod ReachLaws
 pub mod GivenLaws
 pub mod ReadyLaws

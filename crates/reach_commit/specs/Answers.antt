@@ -1,7 +1,9 @@
 -- What a commit answers: when, and what it leaves.
-use Rattle.std.specs.Prelude.{◌≡◌, ℕ, List, Option, Result, Ok, Err}
+use Rattle.std.specs.Prelude.{◌≡◌, ℕ, ◌+◌, ◌<◌, false, List, Option, Result, Ok, Err}
 use Rattle.swizzle.specs.obj_layout.ps_outside.Outside.{Outside}
 use Rattle.swizzle.specs.obj_layout.Stored.{Space}
+use Rattle.swizzle.specs.obj_layout.Storing.{Access}
+use Rattle.swizzle.specs.obj_layout.declared.vault.VaultFault.TheVariants.{NoPages}
 use Rattle.swizzle.specs.declared.fault.SwizzleFault.{SwizzleFault}
 use Rattle.swizzle.specs.declared.fault.SwizzleFault.TheVariants.{AreaFull, Vault}
 use Rattle.swizzle.specs.Heap.{Heap}
@@ -34,3 +36,9 @@ Stores old new writing directory before after used now most named (Ok (Saved fre
     Saves old new writing directory before after used now most named fresh rewritten
 Stores old new writing directory before after used now most named (Err (Vault fault)) = BreaksOff old new writing directory before after used most fault
 Stores old new writing directory before after used now most named (Err (AreaFull top wanted size)) = ⊥
+
+-- pages are lacked only beside snapshots, and where those that are held and those that are wanted are more than there are
+abbrev pub Lacks : Access → Result CommitAnswer SwizzleFault → Type 0
+Lacks access (Ok answer) = Unit {0}
+Lacks access (Err (Vault fault)) = (held wanted pages : ℕ) → fault ≡ NoPages held wanted pages → (access.alone ≡ false) × (pages < held + wanted)
+Lacks access (Err (AreaFull top wanted size)) = Unit {0}

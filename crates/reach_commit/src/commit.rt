@@ -1,9 +1,9 @@
 //! The commit.
-ghost use Rattle.std.specs.Prelude.{◌≡◌, ◌+◌, ◌≤◌, [], length, IfSome, OnOk, OnErr};
+ghost use Rattle.std.specs.Prelude.{◌≡◌, ◌⊎◌, ◌+◌, ◌≤◌, [], true, length, IfSome, OnOk, OnErr};
 ghost use Rattle.swizzle.specs.Heap.{IsHeld};
 ghost use Rattle.new_pids.specs.Giving.{AreBelow};
 ghost use Rattle.reach_commit.specs.Becoming.{AreNewRoots};
-ghost use Rattle.reach_commit.specs.Answers.{Decides, LeavesAll, Stores};
+ghost use Rattle.reach_commit.specs.Answers.{Decides, LeavesAll, Stores, Lacks};
 
 use crate::decide::{has_work, refused};
 use crate::store::store;
@@ -26,8 +26,8 @@ pub enum CommitAnswer {
 /// Commits: what the databases that are open for writing reach becomes stored, with its homes, and what was assigned is stored anew; all of it at once, or
 /// nothing. `writing` has those databases in the order in which they became open for writing, each with its root where it was made since the last commit;
 /// `directory` is the object that names all databases, those that were made too. It is tested first whether there is something to do. The images are made in
-/// the buffer, which has as many words as the area; what it holds afterwards means nothing. It takes no memory and fetches nothing. After a fault the vault
-/// isn't alive, and the run ends: the area has the new PIDs, and a crash leaves what it could leave before, or all that was to be stored.
+/// the buffer, which has as many words as the area; what it holds afterwards means nothing. It takes no memory and fetches nothing. With no database open for
+/// writing it stores nothing, and the vault needn't be one that may be written. After a fault the vault isn't alive, and the run ends: the area has the new PIDs, and a crash leaves what it could leave before, or all that was to be stored.
 pub fn commit<V: Vault>(
     sw: &mut Swizzle,
     vault: &mut V,
@@ -36,6 +36,7 @@ pub fn commit<V: Vault>(
     buffer: &mut [u64],
 ) -> Result<CommitAnswer, SwizzleFault>
     requires alive { V.alive vault.old }
+    requires writes { (writing.now ≡ []) ⊎ ((V.access vault.old).writes ≡ true) }
     requires empty { sw.old.reached ≡ [] }
     requires roots { AreNewRoots sw.old writing.now }
     requires directory { IfSome directory (IsHeld sw.old) }
@@ -45,6 +46,8 @@ pub fn commit<V: Vault>(
     ensures still { LeavesAll sw.old sw.new vault.old vault.new result }
     ensures stores { Stores sw.old sw.new writing.now directory (V.outside vault.old) (V.outside vault.new) (V.used_words vault.old) (V.used_words vault.new) (V.most_words vault.old) (V.directory_at vault.new) result }
     ensures most { V.most_words vault.new ≡ V.most_words vault.old }
+    ensures access { V.access vault.new ≡ V.access vault.old }
+    ensures pages { Lacks (V.access vault.old) result }
     ensures alive { OnOk result (V.alive vault.new) }
     ensures dead { OnErr result (V.alive vault.new → ⊥) }
 {

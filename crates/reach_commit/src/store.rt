@@ -1,6 +1,6 @@
 //! Stores what a commit stores.
-ghost use Rattle.std.specs.Prelude.{◌≡◌, ◌+◌, ◌≤◌, [], length, IfSome, OnOk, MatchResult};
-ghost use Rattle.swizzle.specs.obj_layout.Storing.{DeadIfErr};
+ghost use Rattle.std.specs.Prelude.{◌≡◌, ◌+◌, ◌≤◌, [], true, length, IfSome, OnOk, MatchResult};
+ghost use Rattle.swizzle.specs.obj_layout.Storing.{DeadIfErr, LacksPages};
 ghost use Rattle.swizzle.specs.Heap.{IsHeap, IsHeld};
 ghost use Rattle.new_pids.specs.Giving.{AreBelow};
 ghost use Rattle.reach_commit.specs.Deciding.{AreWritable};
@@ -64,6 +64,7 @@ pub fn store<V: Vault>(
     buffer: &mut [u64],
 ) -> Result<Saved, VaultFault>
     requires alive { V.alive vault.old }
+    requires writes { (V.access vault.old).writes ≡ true }
     requires writable { AreWritable sw.old writing.now }
     requires empty { sw.old.reached ≡ [] }
     requires roots { AreNewRoots sw.old writing.now }
@@ -74,6 +75,8 @@ pub fn store<V: Vault>(
         (λ saved. Saves sw.old sw.new writing.now directory (V.outside vault.old) (V.outside vault.new) (V.used_words vault.old) (V.used_words vault.new) (V.most_words vault.old) (V.directory_at vault.new) saved.fresh saved.rewritten)
         (BreaksOff sw.old sw.new writing.now directory (V.outside vault.old) (V.outside vault.new) (V.used_words vault.old) (V.most_words vault.old)) }
     ensures most { V.most_words vault.new ≡ V.most_words vault.old }
+    ensures access { V.access vault.new ≡ V.access vault.old }
+    ensures pages { LacksPages (V.access vault.old) result }
     ensures alive { OnOk result (V.alive vault.new) }
     ensures dead { DeadIfErr (V.alive vault.new) result }
 {

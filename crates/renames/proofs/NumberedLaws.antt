@@ -119,6 +119,14 @@ renamed-injective at pid (Local i) (Local j) a b e = elim (cases_eq i at) [
   ]
 ]
 
+renamed-some : (at pid : ℕ) (n : Reference) → renamed_at at pid n ≡ Nil → n ≡ Nil
+renamed-some at pid Nil e = e
+renamed-some at pid (Pid p) e = e
+renamed-some at pid (Local j) e = elim (cases_eq j at) [
+  | inl w ↦ let bad : Pid pid ≡ Nil = sym (here j at (Pid pid) (Local j) w) ∙ e in absurd (cc)
+  | inr w ↦ sym (elsewhere j at (Pid pid) (Local j) w) ∙ e
+]
+
 -- no object had the PID
 unknown : (heap : Heap) (holds : ℕ → List ℕ → Type 0) (pid : ℕ) → IsHeap heap → 1 ≤ pid → local_of heap pid ≡ None → ((words : List ℕ) → holds pid words → ⊥) → (it : Shown) → Joint heap holds (Pid pid) it → ⊥
 unknown heap holds pid h low away unheld it (inl a) =
@@ -149,6 +157,7 @@ joint-numbered heap holds at pid chain h held none low away unheld placed =
     λ n k e. unknown heap holds pid h low away unheld k.it (subst (λ m. Joint heap holds m k.it) e k.is) in
     record {
       nil = refl;
+      only_nil = renamed-some at pid;
       one = λ a b ka kb e. renamed-injective at pid a b (apart a ka) (apart b kb) e;
       forth = λ n it j. elim j [
         | inl a ↦ inl (record {

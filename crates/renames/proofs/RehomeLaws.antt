@@ -10,8 +10,9 @@ use Rattle.heap_meaning.specs.ps_heap.Values.{Value}
 use Rattle.heap_meaning.specs.ps_heap.Objects.{Heap, Object, Structure, Elements, Scope, Keyed, object_at}
 use Rattle.heap_meaning.specs.Standing.{Seen, Pairing, IsKindOf, IsAs, IsLike, Both, Stands}
 use Rattle.heap_meaning.specs.Paired.{paired, StandsRow}
-use Rattle.heap_meaning.proofs.StandingLaws.{IsFixed, Fixed, Kinds, like-more}
+use Rattle.heap_meaning.proofs.StandingLaws.{Fixed, Kinds, kind-more, like-more}
 use Rattle.renames.specs.Renames.{IsRehomed, Now}
+use Rattle.renames.proofs.TableLaws.{table-rehomed}
 
 tails_same : (a b : ℕ) (xs ys : List ℕ) → a ∷ xs ≡ b ∷ ys → xs ≡ ys
 tails_same a b xs ys e = cc
@@ -51,7 +52,7 @@ like-rehomed seen pair it now (Scope text parent values) r l = record {
   is_parent = l.is_parent;
   are = l.are;
 }
-like-rehomed seen pair it now (Keyed table) r l = absurd l
+like-rehomed seen pair it now (Keyed table) r l = r.kind ∙ l
 
 -- The heap stands under the same names, where texts, code and closures stay and all others may have other homes.
 pub row-rehomed : (seen now : Seen) (heap : Heap) (names : List Reference) → Fixed seen now → ((n : Reference) (it : Shown) → seen n it → Now now n it) → StandsRow seen heap names → StandsRow now heap names
@@ -65,6 +66,12 @@ row-rehomed seen now heap names fixed homes s =
             both_of n id b.it b.object b.means more (homes n b.it b.there);
         one_number = s.stands.one_number;
         one_name = s.stands.one_name;
+        tables = record {
+          nodes = s.stands.tables.nodes;
+          each = λ n id table p is. table-rehomed seen now (paired names) n table (s.stands.tables.nodes id) fixed kinds homes (s.stands.tables.each n id table p is);
+          are_nodes = λ id n a. kind-more seen now n kind.Node kinds (s.stands.tables.are_nodes id n a);
+          apart = s.stands.tables.apart;
+        };
       };
       long = s.long;
     }

@@ -16,7 +16,7 @@ use Rattle.heap_meaning.specs.ps_base.CodeUnit.{UnitView, ConstantView, Constant
 use Rattle.heap_meaning.specs.ps_heap.Values.{Value, Num, Flag, Text, Nil, Pointer, Vector, Procedure, Nothing, as_written, as_compiled}
 use Rattle.heap_meaning.specs.ps_heap.Objects.{Heap, Object, Structure, Elements, Scope, Keyed, object_at}
 use Rattle.heap_meaning.specs.Units.{IsUnitSeen, AreSeen, IsConstantSeen}
-use Rattle.heap_meaning.specs.Standing.{Seen, Pairing, IsKindOf, StandsForScope, IsClosure, StandsFor, IsWordOf, AreFor, IsAs, IsLike, Both, Stands, IsOne}
+use Rattle.heap_meaning.specs.Standing.{Seen, Pairing, IsKindOf, IsPointed, StandsForScope, IsClosure, StandsFor, IsWordOf, AreFor, IsAs, IsLike}
 use Rattle.heap_meaning.specs.Paired.{name_in, paired, StandsRow}
 use Rattle.renames.specs.Renames.{renamed, Before, Renames}
 
@@ -26,6 +26,12 @@ Moves ρ pair now = (n : reference.Reference) (id : ℕ) → pair n id → now (
 
 pub kind-moved : (seen now : Seen) (ρ : reference.Reference → reference.Reference) (n : reference.Reference) (of : Kind) → Renames seen now ρ → IsKindOf seen n of → IsKindOf now (ρ n) of
 kind-moved seen now ρ n of r k = record { it = renamed ρ k.it; there = r.forth n k.it k.there; kind_is = k.kind_is }
+
+pub pointed-moved : (seen now : Seen) (ρ : reference.Reference → reference.Reference) (n : reference.Reference) → Renames seen now ρ → IsPointed seen n → IsPointed now (ρ n)
+pointed-moved seen now ρ n r p = elim p [
+  | inl k ↦ inl (kind-moved seen now ρ n kind.Structure r k)
+  | inr k ↦ inr (kind-moved seen now ρ n kind.Table r k)
+]
 
 pub text-moved : (seen now : Seen) (ρ : reference.Reference → reference.Reference) (n : reference.Reference) (bytes : List ℕ) → Renames seen now ρ → IsText seen n bytes → IsText now (ρ n) bytes
 text-moved seen now ρ n bytes r t = record { it = renamed ρ t.it; there = r.forth n t.it t.there; kind = t.kind; bytes_are = t.bytes_are }
@@ -70,7 +76,7 @@ pub stands-moved : (seen now : Seen) (ρ : reference.Reference → reference.Ref
     → StandsFor seen pair n v → StandsFor now more (ρ n) v
 stands-moved seen now ρ pair more n Nil r moves s = ap ρ s ∙ r.nil
 stands-moved seen now ρ pair more n (Text bytes) r moves s = text-moved seen now ρ n bytes r s
-stands-moved seen now ρ pair more n (Pointer id) r moves s = (moves n id s.0, kind-moved seen now ρ n kind.Structure r s.1)
+stands-moved seen now ρ pair more n (Pointer id) r moves s = (moves n id s.0, pointed-moved seen now ρ n r s.1)
 stands-moved seen now ρ pair more n (Vector id) r moves s = (moves n id s.0, kind-moved seen now ρ n kind.Vector r s.1)
 stands-moved seen now ρ pair more n (Num z) r moves s = absurd s
 stands-moved seen now ρ pair more n (Flag b) r moves s = absurd s
@@ -134,55 +140,7 @@ like-moved seen now ρ pair more it (Scope text parent values) r moves l = recor
   is_parent = scope-moved seen now ρ pair more l.parent_name parent r moves l.is_parent;
   are = are-moved seen now ρ pair more (forms_of text) l.names l.words values r moves l.are;
 }
-like-moved seen now ρ pair more it (Keyed table) r moves l = absurd l
-
--- Rows of names.
-
-pub name_in-map : (ρ : reference.Reference → reference.Reference) (names : List reference.Reference) (n : reference.Reference) (id : ℕ) → name_in names id ≡ Some n → name_in (map ρ names) id ≡ Some (ρ n)
-name_in-map ρ [] n id e = let none : None ≡ Some n = e in absurd (cc)
-name_in-map ρ (m ∷ ms) n zero e = let same : m ≡ n = cc in ap (λ k. Some (ρ k)) same
-name_in-map ρ (m ∷ ms) n (suc id) e = name_in-map ρ ms n id e
-
-record NamedBefore (ρ : reference.Reference → reference.Reference) (names : List reference.Reference) (n : reference.Reference) (id : ℕ) : Type 0 where
-  before : reference.Reference
-  is : name_in names id ≡ Some before
-  now : n ≡ ρ before
-
-map-name_in : (ρ : reference.Reference → reference.Reference) (names : List reference.Reference) (n : reference.Reference) (id : ℕ) → name_in (map ρ names) id ≡ Some n → NamedBefore ρ names n id
-map-name_in ρ [] n id e = let none : None ≡ Some n = e in absurd (cc)
-map-name_in ρ (m ∷ ms) n zero e = let same : ρ m ≡ n = cc in record { before = m; is = refl; now = sym same }
-map-name_in ρ (m ∷ ms) n (suc id) e = let rest = map-name_in ρ ms n id e in record { before = rest.before; is = rest.is; now = rest.now }
-
--- The heap stands under the new names: the row of names is mapped, and nothing else is owed by the layers above.
-pub row-renamed : (seen now : Seen) (ρ : reference.Reference → reference.Reference) (heap : Heap) (names : List reference.Reference) → Renames seen now ρ → StandsRow seen heap names → StandsRow now heap (map ρ names)
-row-renamed seen now ρ heap names r s =
-    let moves : Moves ρ (paired names) (paired (map ρ names)) = λ n id e. name_in-map ρ names n id e in
-    record {
-      stands = record {
-        both = λ n id e.
-            let b = map-name_in ρ names n id e in
-            let old = s.stands.both b.before id b.is in
-            subst (λ m. Both now heap (paired (map ρ names)) m id) (sym b.now) (record {
-              it = renamed ρ old.it;
-              object = old.object;
-              there = r.forth b.before old.it old.there;
-              means = old.means;
-              like = like-moved seen now ρ (paired names) (paired (map ρ names)) old.it old.object r moves old.like;
-            });
-        one_number = λ n i j e f.
-            let a = map-name_in ρ names n i e in
-            let b = map-name_in ρ names n j f in
-            let x = s.stands.both a.before i a.is in
-            let y = s.stands.both b.before j b.is in
-            let same = r.one a.before b.before (record { it = x.it; is = x.there }) (record { it = y.it; is = y.there }) (sym a.now ∙ b.now) in
-            s.stands.one_number b.before i j (subst (λ m. paired names m i) same a.is) b.is;
-        one_name = λ n m id e f. some_same n m (sym e ∙ f);
-      };
-      long = length-map names ρ ∙ s.long;
-    }
-  where
-    some_same : (a b : reference.Reference) → Some a ≡ Some b → a ≡ b
-    some_same a b e = cc
+like-moved seen now ρ pair more it (Keyed table) r moves l = l
 
 -- One renaming after another.
 
@@ -196,6 +154,7 @@ shown_after ρ σ it = ap (λ rs. record it { refs = rs }) (names_after ρ σ it
 pub renames-then : (a b c : Seen) (ρ σ : reference.Reference → reference.Reference) → Renames a b ρ → Renames b c σ → Renames a c (λ n. σ (ρ n))
 renames-then a b c ρ σ r s = record {
   nil = ap σ r.nil ∙ s.nil;
+  only_nil = λ n e. r.only_nil n (s.only_nil (ρ n) e);
   one = λ m n km kn e.
       r.one m n km kn (s.one (ρ m) (ρ n) (record { it = renamed ρ km.it; is = r.forth m km.it km.is }) (record { it = renamed ρ kn.it; is = r.forth n kn.it kn.is }) e);
   forth = λ n it k. subst (c (σ (ρ n))) (shown_after ρ σ it) (s.forth (ρ n) (renamed ρ it) (r.forth n it k));
@@ -214,6 +173,7 @@ renames-then a b c ρ σ r s = record {
 pub renames-none : (seen : Seen) → Renames seen seen (λ n. n)
 renames-none seen = record {
   nil = refl;
+  only_nil = λ n e. e;
   one = λ a b ka kb e. e;
   forth = λ n it k. subst (seen n) (sym (same it)) k;
   back = λ n it k. record { name_before = n; it_before = it; is = k; name_is = refl; it_is = sym (same it) };

@@ -22,6 +22,7 @@ pub record Before (old : Seen) (ρ : Reference → Reference) (name : Reference)
 -- Every object has its new name, also in the places of others, and nothing else has changed.
 pub record Renames (old new : Seen) (ρ : Reference → Reference) : Type 0 where
   pub nil : ρ Nil ≡ Nil
+  pub only_nil : (name : Reference) → ρ name ≡ Nil → name ≡ Nil
   pub one : (a b : Reference) → IsKnown old a → IsKnown old b → ρ a ≡ ρ b → a ≡ b
   pub forth : (name : Reference) (it : Shown) → old name it → new (ρ name) (renamed ρ it)
   pub back : (name : Reference) (it : Shown) → new name it → Before old ρ name it

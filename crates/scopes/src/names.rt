@@ -43,7 +43,7 @@ pub fn get_kept<V: Vault>(
     requires held { IsHeld sw.old scope }
     ensures got { GetsKept sw.old sw.new (V.outside vault.old) (V.outside vault.new) scope name result }
     ensures so { OnOk result (AreSo sw.new layouts.new.entries.items) }
-    ensures numbers { SameNumbers V.used_words V.directory_at V.most_words vault.old vault.new }
+    ensures numbers { SameNumbers V.used_words V.directory_at V.most_words V.access vault.old vault.new }
     ensures alive { OnOk result (V.alive vault.new) }
 {
     let located = match open_name(sw, vault, layouts, scope, name) {
@@ -74,7 +74,7 @@ pub fn set_kept<V: Vault>(
     requires near { IsNear sw.old to }
     ensures set { SetsKept sw.old sw.new (V.outside vault.old) (V.outside vault.new) scope name to result }
     ensures so { OnOk result (AreSo sw.new layouts.new.entries.items) }
-    ensures numbers { SameNumbers V.used_words V.directory_at V.most_words vault.old vault.new }
+    ensures numbers { SameNumbers V.used_words V.directory_at V.most_words V.access vault.old vault.new }
     ensures alive { OnOk result (V.alive vault.new) }
     ensures stands { OnOk result (Stands sw.old sw.new) }
 {
@@ -106,7 +106,7 @@ fn open_name<V: Vault>(
     requires held { IsHeld sw.old scope }
     ensures opened { OpensName sw.old sw.new (V.outside vault.old) (V.outside vault.new) scope name result }
     ensures so { OnOk result (AreSo sw.new layouts.new.entries.items) }
-    ensures numbers { SameNumbers V.used_words V.directory_at V.most_words vault.old vault.new }
+    ensures numbers { SameNumbers V.used_words V.directory_at V.most_words V.access vault.old vault.new }
     ensures alive { OnOk result (V.alive vault.new) }
 {
     sw.sound();
@@ -135,7 +135,7 @@ fn first_text<V: Vault>(sw: &mut Swizzle, vault: &mut V, object: u32) -> Result<
     requires alive { V.alive vault.old }
     requires held { IsHeld sw.old object }
     ensures touched { TouchesText sw.old sw.new (V.outside vault.old) (V.outside vault.new) object result }
-    ensures numbers { SameNumbers V.used_words V.directory_at V.most_words vault.old vault.new }
+    ensures numbers { SameNumbers V.used_words V.directory_at V.most_words V.access vault.old vault.new }
     ensures alive { OnOk result (V.alive vault.new) }
 {
     match near_text(sw, vault, object) {
@@ -179,7 +179,7 @@ fn read_place<V: Vault>(
     requires held { IsHeld sw.old object }
     requires place { HasPlace (shown_at sw.old object) place.form place.index }
     ensures read { ReadsPlace sw.old sw.new (V.outside vault.old) (V.outside vault.new) object place.form place.index result }
-    ensures numbers { SameNumbers V.used_words V.directory_at V.most_words vault.old vault.new }
+    ensures numbers { SameNumbers V.used_words V.directory_at V.most_words V.access vault.old vault.new }
     ensures alive { OnOk result (V.alive vault.new) }
 {
     match near_value(sw, vault, object, place) {

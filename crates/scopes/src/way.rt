@@ -25,7 +25,7 @@ pub fn parent_of<V: Vault>(
     requires alive { V.alive vault.old }
     requires held { IsHeld sw.old scope }
     ensures told { TellsParent sw.old sw.new (V.outside vault.old) (V.outside vault.new) scope result }
-    ensures numbers { SameNumbers V.used_words V.directory_at V.most_words vault.old vault.new }
+    ensures numbers { SameNumbers V.used_words V.directory_at V.most_words V.access vault.old vault.new }
     ensures alive { OnOk result (V.alive vault.new) }
 {
     match near_parent(sw, vault, scope) {
@@ -64,7 +64,7 @@ fn find_parent<V: Vault>(
     requires alive { V.alive vault.old }
     requires held { IsHeld sw.old scope }
     ensures told { TellsParent sw.old sw.new (V.outside vault.old) (V.outside vault.new) scope result }
-    ensures numbers { SameNumbers V.used_words V.directory_at V.most_words vault.old vault.new }
+    ensures numbers { SameNumbers V.used_words V.directory_at V.most_words V.access vault.old vault.new }
     ensures alive { OnOk result (V.alive vault.new) }
 {
     sw.sound();
@@ -106,7 +106,7 @@ pub fn scope_out<V: Vault>(
     requires alive { V.alive vault.old }
     requires held { IsHeld sw.old scope }
     ensures out { GoesOut sw.old sw.new (V.outside vault.old) (V.outside vault.new) scope up result }
-    ensures numbers { SameNumbers V.used_words V.directory_at V.most_words vault.old vault.new }
+    ensures numbers { SameNumbers V.used_words V.directory_at V.most_words V.access vault.old vault.new }
     ensures alive { OnOk result (V.alive vault.new) }
 {
     let mut at = scope;

@@ -53,6 +53,7 @@ impl Came {
             VaultFault::Output => Came::plain("Output"),
             VaultFault::Device => Came::plain("Device"),
             VaultFault::Full { .. } => Came::plain("VaultFull"),
+            VaultFault::NoPages { .. } => Came::plain("NoPages"),
             VaultFault::Damaged { at: 0, .. } => Came::plain("Damaged"),
             VaultFault::Damaged { at, found, wanted } => Came {
                 word: "Damaged",

@@ -109,6 +109,7 @@ fails-touch old new a b fault call = record {
   cause = λ e. call.cause (ap Err e);
   other = λ e. call.other (ap Err e);
   full = λ used wanted capacity e. call.full used wanted capacity (ap Err e);
+  pages = λ held wanted pages e. call.pages held wanted pages (ap Err e);
 }
 
 -- A reading that failed after another.
@@ -118,6 +119,7 @@ fails-then old new a b c names fault first second = record {
   cause = λ e. rose_more a.device_faults b.device_faults c.device_faults first.outside.counts (second.cause e);
   other = second.other;
   full = second.full;
+  pages = second.pages;
 }
 
 -- Texts stay where objects do.

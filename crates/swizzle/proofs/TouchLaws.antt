@@ -14,7 +14,7 @@ use Rattle.obj_layout.proofs.of_ps_outside.Moments.{along_none, along_then, alon
 use Rattle.obj_layout.specs.Stored.{Space}
 use Rattle.obj_layout.specs.Storing.{IsStoreCall}
 use Rattle.obj_layout.specs.declared.vault.VaultFault.{VaultFault}
-use Rattle.obj_layout.specs.declared.vault.VaultFault.TheVariants.{Device, Output, Full}
+use Rattle.obj_layout.specs.declared.vault.VaultFault.TheVariants.{Device, Output, Full, NoPages}
 use Rattle.swizzle.specs.declared.fault.SwizzleFault.{SwizzleFault}
 use Rattle.swizzle.specs.declared.fault.SwizzleFault.TheVariants.{Vault}
 use Rattle.swizzle.specs.Touch.{Stays, Keeps, IsNear, AreFew, IsTouchCall}
@@ -162,8 +162,9 @@ ok_of (Err e) p = tt
 
 -- A call that doesn't reach the vault.
 pub call-none : {T : Type 0} (old new : Heap) (outside : Outside Space) (result : Result T SwizzleFault) → result ≢ Err (Vault Device) → result ≢ Err (Vault Output)
-    → ((used wanted capacity : ℕ) → result ≢ Err (Vault (Full used wanted capacity))) → IsTouchCall old new outside outside result
-call-none old new outside result device output full = record {
+    → ((used wanted capacity : ℕ) → result ≢ Err (Vault (Full used wanted capacity)))
+    → ((held wanted pages : ℕ) → result ≢ Err (Vault (NoPages held wanted pages))) → IsTouchCall old new outside outside result
+call-none old new outside result device output full pages = record {
   told = along_none outside.clock outside.told;
   images = along_none outside.clock outside.images;
   contents = record { kept = λ x is. is; no_other = λ x is. is };
@@ -172,6 +173,7 @@ call-none old new outside result device output full = record {
   cause = λ e. absurd (device e);
   other = output;
   full = full;
+  pages = pages;
   calls = ok_of result (inl refl);
 }
 
@@ -245,8 +247,9 @@ joint-fetched heap holds holds_now new pid h inside some is away same told =
 -- one call
 pub touch-one : {S T : Type 0} (old new : Heap) (a b : Outside Space) (most : ℕ) (r : Result S VaultFault) (result : Result T SwizzleFault) → IsStoreCall a b most r → SameContents a b
     → (result ≡ Err (Vault Device) → r ≡ Err Device) → result ≢ Err (Vault Output) → ((used wanted capacity : ℕ) → result ≢ Err (Vault (Full used wanted capacity)))
+    → ((held wanted pages : ℕ) → result ≢ Err (Vault (NoPages held wanted pages)))
     → OnOk result (AreFew a.device_calls b.device_calls (top_of new - top_of old)) → IsTouchCall old new a b result
-touch-one old new a b most r result call same device output full calls = record {
+touch-one old new a b most r result call same device output full pages calls = record {
   told = call.told;
   images = call.images;
   contents = same;
@@ -255,6 +258,7 @@ touch-one old new a b most r result call same device output full calls = record 
   cause = λ e. call.cause (device e);
   other = output;
   full = full;
+  pages = pages;
   calls = calls;
 }
 
@@ -265,8 +269,9 @@ rose_more a b c le (inr e) = inr e
 -- two calls, of which the first was answered
 pub touch-two : {R S T : Type 0} (old new : Heap) (a b c : Outside Space) (most next : ℕ) (q : Result R VaultFault) (r : Result S VaultFault) (result : Result T SwizzleFault) → IsStoreCall a b most q → SameContents a b → IsStoreCall b c next r → SameContents b c
     → (result ≡ Err (Vault Device) → r ≡ Err Device) → result ≢ Err (Vault Output) → ((used wanted capacity : ℕ) → result ≢ Err (Vault (Full used wanted capacity)))
+    → ((held wanted pages : ℕ) → result ≢ Err (Vault (NoPages held wanted pages)))
     → OnOk result (AreFew a.device_calls c.device_calls (top_of new - top_of old)) → IsTouchCall old new a c result
-touch-two old new a b c most next q r result first same second same_too device output full calls = record {
+touch-two old new a b c most next q r result first same second same_too device output full pages calls = record {
   told = along_then first.told second.told (λ x is. along_now first.told x is);
   images = along_then first.images second.images (λ x is. along_now first.images x is);
   contents = record { kept = λ x is. same_too.kept x (same.kept x is); no_other = λ x is. same.no_other x (same_too.no_other x is) };
@@ -275,6 +280,7 @@ touch-two old new a b c most next q r result first same second same_too device o
   cause = λ e. rose_more a.device_faults b.device_faults c.device_faults first.counts (second.cause (device e));
   other = output;
   full = full;
+  pages = pages;
   calls = calls;
 }
 
@@ -289,6 +295,7 @@ call-ok old mid new a b x y call top = record {
   cause = λ e. absurd (cc);
   other = λ e. cc;
   full = λ used wanted capacity e. cc;
+  pages = λ held wanted pages e. cc;
   calls = elim (call.calls) [ inl none ↦ inl none | inr some ↦ inr (omega (arith, some.0, top), omega (arith, some.1, top)) ];
 }
 

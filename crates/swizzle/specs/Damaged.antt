@@ -3,7 +3,7 @@ use Rattle.std.specs.Prelude.{◌≡◌, ◌≢◌, ◌⊎◌, ℕ, ◌+◌, ◌
 use Rattle.obj_layout.specs.ps_outside.Outside.{Outside}
 use Rattle.obj_layout.specs.declared.header.Header.{Header}
 use Rattle.obj_layout.specs.declared.vault.VaultFault.{VaultFault}
-use Rattle.obj_layout.specs.declared.vault.VaultFault.TheVariants.{Damaged, Full}
+use Rattle.obj_layout.specs.declared.vault.VaultFault.TheVariants.{Damaged, Full, NoPages}
 use Rattle.obj_layout.specs.Stored.{Space, Damage, Holds, IsHeaded, damage, damage_at}
 use Rattle.swizzle.specs.Objects.{header_in, words_before}
 
@@ -61,7 +61,8 @@ pub record IsSound (outside : Outside Space) (pid : ℕ) : Type 0 where
   pub passes : PassesVault outside pid
   pub fits : (words : List ℕ) → Holds outside pid words → far_damage words ≡ None
 
--- Why no object was fetched: the vault was never full, and a damaged one is the one that was asked for.
+-- Why no object was fetched: the vault was never full nor in want of pages, and a damaged one is the one that was asked for.
 pub record IsStoredFault (outside : Outside Space) (pid : ℕ) (fault : VaultFault) : Type 0 where
   pub full : (used wanted capacity : ℕ) → fault ≢ Full used wanted capacity
+  pub pages : (held wanted pages : ℕ) → fault ≢ NoPages held wanted pages
   pub damaged : ReportsDamage outside pid fault

@@ -5,7 +5,7 @@ use Rattle.obj_layout.specs.Stored.{Space, Holds}
 use Rattle.obj_layout.specs.declared.reference.Reference.{Reference}
 use Rattle.obj_layout.specs.declared.reference.Reference.TheVariants.{Nil}
 use Rattle.obj_layout.specs.declared.kind.Kind.TheVariants.{Text}
-use Rattle.obj_layout.specs.declared.vault.VaultFault.TheVariants.{Device, Output, Full}
+use Rattle.obj_layout.specs.declared.vault.VaultFault.TheVariants.{Device, Output, Full, NoPages}
 use Rattle.swizzle.specs.declared.fault.SwizzleFault.{SwizzleFault}
 use Rattle.swizzle.specs.declared.fault.SwizzleFault.TheVariants.{Vault}
 use Rattle.swizzle.specs.Heap.{Heap, IsHeld, top_of, header_at}
@@ -46,12 +46,13 @@ pub record Reads (old new : Heap) (before after : Outside Space) (names : List R
   pub outside : LeavesOutside before after
   pub calls : after.device_calls ≤ before.device_calls + 2 * (top_of new - top_of old)
 
--- A reading that failed. It is never the output that failed, nor was the vault full, and the device is named only where it failed.
+-- A reading that failed. It is never the output that failed, nor was the vault full or in want of pages, and the device is named only where it failed.
 pub record FailsReading (before after : Outside Space) (fault : SwizzleFault) : Type 0 where
   pub outside : LeavesOutside before after
   pub cause : fault ≡ Vault Device → Rose before.device_faults after.device_faults
   pub other : fault ≢ Vault Output
   pub full : (used wanted capacity : ℕ) → fault ≢ Vault (Full used wanted capacity)
+  pub pages : (held wanted pages : ℕ) → fault ≢ Vault (NoPages held wanted pages)
 
 -- a text of the area keeps its place and its bytes
 pub record TextStays (old new : Heap) (at : ℕ) : Type 0 where

@@ -4,7 +4,7 @@ use Rattle.obj_layout.specs.ps_outside.Outside.{Outside, LeavesSame, SameContent
 use Rattle.obj_layout.specs.Stored.{Space, Holds}
 use Rattle.obj_layout.specs.declared.reference.Reference.{Reference}
 use Rattle.obj_layout.specs.declared.reference.Reference.TheVariants.{Nil, Pid}
-use Rattle.obj_layout.specs.declared.vault.VaultFault.TheVariants.{Device, Output, Full}
+use Rattle.obj_layout.specs.declared.vault.VaultFault.TheVariants.{Device, Output, Full, NoPages}
 use Rattle.swizzle.specs.declared.fault.SwizzleFault.{SwizzleFault}
 use Rattle.swizzle.specs.declared.fault.SwizzleFault.TheVariants.{AreaFull, Vault}
 use Rattle.swizzle.specs.Heap.{Heap, IsHeld, header_at, top_of, local_of}
@@ -61,6 +61,7 @@ pub record IsTouchCall {T : Type 0} (old new : Heap) (before after : Outside Spa
   pub cause : result ≡ Err (Vault Device) → Rose before.device_faults after.device_faults
   pub other : result ≢ Err (Vault Output)
   pub full : (used wanted capacity : ℕ) → result ≢ Err (Vault (Full used wanted capacity))
+  pub pages : (held wanted pages : ℕ) → result ≢ Err (Vault (NoPages held wanted pages))
   pub calls : OnOk result (AreFew before.device_calls after.device_calls (top_of new - top_of old))
 
 -- Where the object of this reference came, it is one that passes all tests.

@@ -30,7 +30,7 @@ pub fn fetch_near<V: Vault>(
     ensures same { SameContents (V.outside vault.old) (V.outside vault.new) }
     ensures sound { OnOk result ((words : List ℕ) → Holds (V.outside vault.old) pid words → far_damage words ≡ None) }
     ensures fault { IfErr result (IsStoredFault (V.outside vault.old) pid) }
-    ensures numbers { SameNumbers V.used_words V.directory_at V.most_words vault.old vault.new }
+    ensures numbers { SameNumbers V.used_words V.directory_at V.most_words V.access vault.old vault.new }
     ensures alive { OnOk result (V.alive vault.new) }
 {
     if let Err(fault) = vault.fetch(pid, buffer) {

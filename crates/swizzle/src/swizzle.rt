@@ -487,7 +487,7 @@ impl Swizzle {
         ensures refused { OnErr result (self.new ≡ self.old) }
         ensures call { IsTouchCall self.old self.new (V.outside vault.old) (V.outside vault.new) result }
         ensures fault { IfErr result (IsTouchFault self.old (V.outside vault.old) (Reference.Pid pid)) }
-        ensures numbers { SameNumbers V.used_words V.directory_at V.most_words vault.old vault.new }
+        ensures numbers { SameNumbers V.used_words V.directory_at V.most_words V.access vault.old vault.new }
         ensures alive { OnOk result (V.alive vault.new) }
     {
         if let Some(at) = self.find(pid) {
@@ -539,7 +539,7 @@ impl Swizzle {
         ensures refused { OnErr result (self.new ≡ self.old) }
         ensures call { IsTouchCall self.old self.new (V.outside vault.old) (V.outside vault.new) result }
         ensures fault { IfErr result (IsTouchFault self.old (V.outside vault.old) (ref_at self.old object slot)) }
-        ensures numbers { SameNumbers V.used_words V.directory_at V.most_words vault.old vault.new }
+        ensures numbers { SameNumbers V.used_words V.directory_at V.most_words V.access vault.old vault.new }
         ensures alive { OnOk result (V.alive vault.new) }
     {
         self.sound();

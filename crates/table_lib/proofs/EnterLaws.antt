@@ -19,10 +19,10 @@ use Rattle.table_nodes.proofs.of_avl_trees.Entering.{entered_items, entered_risi
 use Rattle.table_nodes.proofs.of_avl_trees.Ordered.{without_all, lookup_items}
 use Rattle.table_nodes.proofs.of_avl_trees.Removing.{removed_items, removed_rising}
 use Rattle.table_nodes.proofs.of_avl_trees.Standing.{stands_kept, parts_of}
-use Rattle.table_nodes.specs.Keys.{Keys, KeyOf, order_by}
-use Rattle.table_nodes.specs.Nodes.{IsNode, IsLinked, IsFetchFault, link_of}
-use Rattle.table_nodes.specs.Steps.{I, Place, IsPlace, StayBeside, Touches, rows_of}
-use Rattle.table_nodes.specs.Searching.{HasValue}
+use Rattle.table_nodes.specs.node_rows.Keys.{Keys, KeyOf, order_by}
+use Rattle.table_nodes.specs.node_rows.Nodes.{link_of, I, HasValue}
+use Rattle.table_nodes.specs.Nodes.{IsNode, IsLinked, IsFetchFault}
+use Rattle.table_nodes.specs.Steps.{Place, IsPlace, StayBeside, Touches, rows_of}
 use Rattle.table_nodes.specs.Sparing.{Spares}
 use Rattle.table_nodes.specs.Entering.{is_missing, IsEnterFault}
 use Rattle.table_nodes.specs.Entering as entering

@@ -1,6 +1,7 @@
 pub mod OpenLaws
 pub mod BitLaws
 pub mod RootLaws
+pub mod FaultLaws
 pub mod UseLaws
 pub mod CountLaws
 pub mod WriteLaws

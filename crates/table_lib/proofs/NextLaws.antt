@@ -8,14 +8,15 @@ use Rattle.table_nodes.specs.avl_trees.Trees.{Tree, items, next}
 use Rattle.table_nodes.specs.avl_trees.Standing.{Has, under, seek}
 use Rattle.table_nodes.proofs.of_avl_trees.Ordered.{next_items}
 use Rattle.table_nodes.proofs.of_avl_trees.Standing.{all_have, parts_of}
-use Rattle.table_nodes.specs.Keys.{Keys, KeyOf, order_by}
+use Rattle.table_nodes.specs.node_rows.Keys.{Keys, KeyOf, order_by}
 use Rattle.table_nodes.specs.heap_places.obj_layout.declared.reference.Reference.{Reference}
 use Rattle.table_nodes.specs.heap_places.swizzle.declared.fault.SwizzleFault.{SwizzleFault}
 use Rattle.table_nodes.specs.heap_places.heap_texts.declared.fault.OpFault.{OpFault}
 use Rattle.table_nodes.specs.heap_places.heap_texts.declared.fault.OpFault.TheVariants.{Swizzle}
 use Rattle.table_nodes.specs.Nodes.{IsLinked, IsFetchFault}
-use Rattle.table_nodes.specs.Steps.{I, Place, rows_of, Touches}
-use Rattle.table_nodes.specs.Searching.{HasValue, IsTree}
+use Rattle.table_nodes.specs.node_rows.Nodes.{I, HasValue}
+use Rattle.table_nodes.specs.Steps.{Place, rows_of, Touches}
+use Rattle.table_nodes.specs.Searching.{IsTree}
 use Rattle.table_nodes.specs.Following.{item_name}
 use Rattle.table_nodes.proofs.KeyLaws.{total}
 use Rattle.table_nodes.proofs.NodeLaws.{fetch_back}
@@ -99,4 +100,4 @@ module _ {P : Type 0} (ks : Keys) (is : P → I ks → Type 0) (old m : Place) (
     where
       go : (item : Option (I ks)) → IsNodeOf ks m (Some node) item → IsFetchFault old.outside fault
       go None h = absurd h
-      go (Some a) h = fetch_back old.outside m.outside fault grows.contents (reads a h.0 h.1 h.2)
+      go (Some a) h = fetch_back old.outside m.outside fault grows.leaves.contents (reads a h.0 h.1 h.2)

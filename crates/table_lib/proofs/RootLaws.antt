@@ -11,9 +11,10 @@ use Rattle.table_nodes.specs.avl_trees.Rising.{find}
 use Rattle.table_nodes.proofs.of_avl_trees.Heights.{height_bound}
 use Rattle.table_nodes.proofs.of_avl_trees.Ordered.{lookup_items}
 use Rattle.table_nodes.proofs.of_avl_trees.Standing.{parts_of, stands_grown}
-use Rattle.table_nodes.specs.Keys.{Keys, KeyOf, order_by}
+use Rattle.table_nodes.specs.node_rows.Keys.{Keys, KeyOf, order_by}
 use Rattle.table_nodes.specs.Nodes.{IsLinked}
-use Rattle.table_nodes.specs.Steps.{I, Place, rows_of, Touches}
+use Rattle.table_nodes.specs.node_rows.Nodes.{I}
+use Rattle.table_nodes.specs.Steps.{Place, rows_of, Touches}
 use Rattle.table_nodes.specs.Searching.{IsTree}
 use Rattle.table_nodes.proofs.KeyLaws.{total}
 use Rattle.table_lib.specs.Tables.{HasPairs, IsTable}

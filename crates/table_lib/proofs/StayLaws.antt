@@ -13,9 +13,9 @@ use Rattle.table_nodes.specs.avl_trees.Standing.{Has, IsApart, seek, under}
 use Rattle.table_nodes.proofs.of_avl_trees.Entering.{entered_all}
 use Rattle.table_nodes.proofs.of_avl_trees.Ordered.{all_map, without_all}
 use Rattle.table_nodes.proofs.of_avl_trees.Standing.{all_have, parts_of, stands_kept}
-use Rattle.table_nodes.specs.Keys.{Keys, by_ints, by_texts, KeyOf, order_by, IsKey}
-use Rattle.table_nodes.specs.Nodes.{Seat, link_of}
-use Rattle.table_nodes.specs.Steps.{I, Place, IsPlace, rows_of}
+use Rattle.table_nodes.specs.node_rows.Keys.{Keys, by_ints, by_texts, KeyOf, order_by, IsKey}
+use Rattle.table_nodes.specs.node_rows.Nodes.{Seat, link_of, I}
+use Rattle.table_nodes.specs.Steps.{Place, IsPlace, rows_of}
 use Rattle.table_nodes.proofs.KeyLaws.{total}
 use Rattle.table_nodes.proofs.NodeLaws.{joint_one}
 use Rattle.table_nodes.proofs.Sparing.{unlike}

@@ -2,8 +2,9 @@
 use Rattle.std.proofs.Common.{◌≡◌, ℕ, true, false, Option, Result, Ok, Err, refl, sym, ap, subst}
 use Rattle.table_nodes.specs.heap_places.heap_texts.declared.fault.OpFault.{OpFault}
 use Rattle.table_nodes.specs.avl_trees.Trees.{Tree}
-use Rattle.table_nodes.specs.Keys.{Keys}
-use Rattle.table_nodes.specs.Steps.{I, Place}
+use Rattle.table_nodes.specs.node_rows.Keys.{Keys}
+use Rattle.table_nodes.specs.node_rows.Nodes.{I}
+use Rattle.table_nodes.specs.Steps.{Place}
 use Rattle.table_lib.specs.Tables.{IsTable}
 use Rattle.table_lib.specs.Operations.{Opens, Uses}
 use Rattle.table_lib.specs.declared.words.Opened.{Opened}

@@ -16,8 +16,9 @@ use Rattle.table_nodes.proofs.of_heap_places.of_swizzle.JointLaws.{joint-ref, jo
 use Rattle.table_nodes.proofs.of_heap_places.of_swizzle.MarkLaws.{joint-mark}
 use Rattle.table_nodes.proofs.of_heap_places.of_swizzle.NameLaws.{shown-counts}
 use Rattle.table_nodes.proofs.of_heap_places.PlaceLaws.{slot-name}
-use Rattle.table_nodes.specs.Keys.{Keys, by_ints, by_texts, KeyOf, IsKey}
-use Rattle.table_nodes.specs.Nodes.{Seat, IsNode, OthersStay, rows_in}
+use Rattle.table_nodes.specs.node_rows.Keys.{Keys, by_ints, by_texts, KeyOf, IsKey}
+use Rattle.table_nodes.specs.node_rows.Nodes.{Seat}
+use Rattle.table_nodes.specs.Nodes.{IsNode, OthersStay, rows_in}
 use Rattle.table_nodes.specs.Sparing.{Lasts, IsNoted, Spares}
 use Rattle.table_nodes.proofs.NodeLaws.{shown_now, single_kept, stand_nodes, stand_named}
 use Rattle.table_nodes.proofs.Sparing.{WritesOne, node_lasts, lasts_then, beside_ref, beside_num, beside_then, writes_one, shown_marked, unlike}

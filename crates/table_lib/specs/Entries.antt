@@ -14,9 +14,10 @@ use Rattle.table_nodes.specs.heap_places.swizzle.declared.fault.SwizzleFault.{Sw
 use Rattle.table_nodes.specs.avl_trees.Rising.{enter, without}
 use Rattle.table_nodes.specs.avl_trees.Trees.{Tree, items}
 use Rattle.table_nodes.specs.avl_trees.Standing.{IsApart, seek, put, fresh_item}
-use Rattle.table_nodes.specs.Keys.{Keys, KeyOf, order_by}
+use Rattle.table_nodes.specs.node_rows.Keys.{Keys, KeyOf, order_by}
 use Rattle.table_nodes.specs.Nodes.{IsNode, IsSingle, IsFetchFault, OthersStay}
-use Rattle.table_nodes.specs.Steps.{I, Place, IsPlace, Holds}
+use Rattle.table_nodes.specs.node_rows.Nodes.{I}
+use Rattle.table_nodes.specs.Steps.{Place, IsPlace, Holds}
 use Rattle.table_nodes.specs.Sparing.{Lasts}
 use Rattle.table_nodes.specs.Entering.{IsEnterFault}
 use Rattle.table_lib.specs.Tables.{HasKeys, HasPairs, IsTable, IsUnused}

@@ -1,4 +1,5 @@
 pub mod Tables
+pub mod Faults
 pub mod Nexts
 pub mod Operations
 pub mod Entries

@@ -11,10 +11,11 @@ use Rattle.table_nodes.specs.heap_places.heap_texts.declared.fault.OpFault.{OpFa
 use Rattle.table_nodes.specs.avl_trees.Rising.{above}
 use Rattle.table_nodes.specs.avl_trees.Trees.{items}
 use Rattle.table_nodes.specs.avl_trees.Standing.{Has}
-use Rattle.table_nodes.specs.Keys.{Keys, by_ints, by_texts, KeyOf, order_by}
+use Rattle.table_nodes.specs.node_rows.Keys.{Keys, by_ints, by_texts, KeyOf, order_by}
 use Rattle.table_nodes.specs.Nodes.{IsNamed, IsFetchFault}
 use Rattle.table_nodes.specs.Sought.{IsTextHeld}
-use Rattle.table_nodes.specs.Steps.{I, Place, rows_of}
+use Rattle.table_nodes.specs.node_rows.Nodes.{I}
+use Rattle.table_nodes.specs.Steps.{Place, rows_of}
 use Rattle.table_lib.specs.Operations.{Uses, IsOpFetchFault}
 
 -- where a key stands, to go on after it; before the first one every key is still above

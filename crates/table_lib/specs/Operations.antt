@@ -11,18 +11,13 @@ use Rattle.ps_base.specs.declared.trap.Trap.TheVariants.{Nil, WrongClass, KeyKin
 use Rattle.table_nodes.specs.avl_trees.Rising.{find}
 use Rattle.table_nodes.specs.avl_trees.Trees.{Tree, items}
 use Rattle.table_nodes.specs.avl_trees.Standing.{root_of, seek}
-use Rattle.table_nodes.specs.Keys.{Keys, by_ints, by_texts, KeyOf, order_by}
+use Rattle.table_nodes.specs.node_rows.Keys.{Keys, KeyOf, order_by}
 use Rattle.table_nodes.specs.Nodes.{IsLinked, IsFetchFault}
-use Rattle.table_nodes.specs.Steps.{I, Place}
+use Rattle.table_nodes.specs.node_rows.Nodes.{I}
+use Rattle.table_nodes.specs.Steps.{Place}
 use Rattle.table_nodes.specs.Searching.{IsObject, value_of}
 use Rattle.table_lib.specs.Tables.{IsTableAt, HasKeys, HasPairs, IsUnused, IsTable}
-use Rattle.table_lib.specs.declared.words.KeyKind.{KeyKind as KindOfKeys}
-use Rattle.table_lib.specs.declared.words.KeyKind.TheVariants.{Ints, Texts}
 use Rattle.table_lib.specs.declared.words.Opened.{Opened}
-
-abbrev pub keys_of : KindOfKeys → Keys
-keys_of Ints = by_ints
-keys_of Texts = by_texts
 
 -- a reference's object couldn't be fetched
 abbrev pub IsOpFetchFault : Outside Space → OpFault → Type 0

@@ -7,10 +7,9 @@ use Rattle.table_nodes.specs.heap_places.swizzle.Heap.{Heap, IsHeld, header_at, 
 use Rattle.table_nodes.specs.heap_places.swizzle.Joint.{name_of}
 use Rattle.table_nodes.specs.avl_trees.Trees.{Tree, items, IsBalanced}
 use Rattle.table_nodes.specs.avl_trees.Standing.{Stands, IsRising, root_of}
-use Rattle.table_nodes.specs.Keys.{Keys, by_ints, by_texts, order_by}
-use Rattle.table_nodes.specs.Nodes.{link_of}
-use Rattle.table_nodes.specs.Steps.{I, Place, rows_of}
-use Rattle.table_nodes.specs.Searching.{HasValue}
+use Rattle.table_nodes.specs.node_rows.Keys.{Keys, by_ints, by_texts, order_by}
+use Rattle.table_nodes.specs.node_rows.Nodes.{link_of, I, HasValue}
+use Rattle.table_nodes.specs.Steps.{Place, rows_of}
 
 -- the number of a table's kind of keys; 0 is that of none
 abbrev pub key_number : Keys → ℕ

@@ -1,25 +1,28 @@
-ghost use Rattle.std.specs.Prelude.{◌≡◌, ◌+◌, ◌*◌, ◌-◌, ◌^◌, ◌<◌, true, false, ℕ, None, Some, IfSome, MatchResult, OnOk, OnErr};
+ghost use Rattle.std.specs.Prelude.{◌≡◌, ◌+◌, ◌*◌, ◌-◌, ◌^◌, ◌<◌, true, false, ℕ, None, Some, IfSome, MatchResult, OnOk, OnErr, IfErr};
 ghost use Rattle.table_nodes.specs.heap_places.swizzle.Heap.{IsHeld, num_at};
 ghost use Rattle.table_nodes.specs.heap_places.swizzle.Touch.{Keeps};
 ghost use Rattle.table_nodes.specs.avl_trees.Trees.{bits as digits};
 ghost use Rattle.table_nodes.specs.Bringing.{Brings};
 ghost use Rattle.table_nodes.specs.heap_places.swizzle.Joint.{name_at};
 ghost use Rattle.table_nodes.specs.heap_places.swizzle.Text.{text_at};
-ghost use Rattle.table_nodes.specs.Keys.{by_ints, by_texts};
+ghost use Rattle.table_nodes.specs.node_rows.Keys.{by_ints, by_texts};
 ghost use Rattle.table_nodes.specs.Sought.{IsKeyHeld, IsTextHeld, kind_of, key_in};
 ghost use Rattle.table_nodes.specs.Steps.{place};
 ghost use Rattle.table_lib.specs.Entries.{Enters, MarksTable, PutsPair, TakesPair, SparesBut};
 ghost use Rattle.table_lib.specs.Tables.{IsTableAt};
+ghost use Rattle.table_nodes.specs.Faults.{IsChangeFault, IsNodeFault};
+ghost use Rattle.table_lib.specs.Faults.{IsFaultAt, IsOpFault};
 
 use crate::bits::bits;
-use crate::words::{Opened, counted_root, kind_of_key, mark_table, open_table, write_table};
+use crate::words::{Opened, counted_root, mark_table, open_table, write_table};
 use table_nodes::enter::enter;
 use table_nodes::heap_places::heap_texts::fault::OpFault;
 use table_nodes::heap_places::obj_layout::vault::Vault;
 use table_nodes::heap_places::swizzle::fault::SwizzleFault;
 use table_nodes::heap_places::swizzle::swizzle::Swizzle;
-use table_nodes::keys::Key;
+use table_nodes::keys::{Key, kind_of_key};
 use table_nodes::remove::remove;
+use table_nodes::span::Span;
 
 // How many pairs there are with one that is new or isn't.
 fn count_with(count: u64, made: bool) -> u64
@@ -53,6 +56,7 @@ fn put_pair<V: Vault>(
     ensures spares { OnOk result (SparesBut at sw.old sw.new (V.outside vault.old) (V.outside vault.new)) }
     ensures still { OnErr result (Keeps sw.old sw.new) }
     ensures brings { Brings sw.old sw.new (3 * (2 * digits (num_at sw.old at 2) + 2)) }
+    ensures fault { IfErr result (IsFaultAt (IsChangeFault (V.outside vault.old) (V.outside vault.new) sw.new) sw.new at) }
     ensures alive { OnOk result (V.alive vault.new) }
 {
     sw.sound();
@@ -62,7 +66,11 @@ fn put_pair<V: Vault>(
         Ok(root) => root,
         Err(fault) => return Err(fault),
     };
-    let entered = match enter(sw, vault, root, bound, key, value) {
+    let span = Span {
+        low: None,
+        high: None,
+    };
+    let entered = match enter(sw, vault, root, bound, key, span, value) {
         Ok(entered) => entered,
         Err(fault) => return Err(fault),
     };
@@ -85,6 +93,7 @@ fn take_key<V: Vault>(
     ensures spares { OnOk result (SparesBut at sw.old sw.new (V.outside vault.old) (V.outside vault.new)) }
     ensures still { OnErr result (Keeps sw.old sw.new) }
     ensures brings { Brings sw.old sw.new (3 * (2 * digits (num_at sw.old at 2) + 2)) }
+    ensures fault { IfErr result (IsFaultAt (IsNodeFault (V.outside vault.old) (V.outside vault.new) sw.new) sw.new at) }
     ensures alive { OnOk result (V.alive vault.new) }
 {
     sw.sound();
@@ -94,7 +103,11 @@ fn take_key<V: Vault>(
         Ok(root) => root,
         Err(fault) => return Err(fault),
     };
-    let removed = match remove(sw, vault, root, bound, key) {
+    let span = Span {
+        low: None,
+        high: None,
+    };
+    let removed = match remove(sw, vault, root, bound, key, span) {
         Ok(removed) => removed,
         Err(fault) => return Err(fault),
     };
@@ -121,6 +134,7 @@ fn enter_opened<V: Vault>(
     ensures spares { OnOk result (SparesBut opened.at sw.old sw.new (V.outside vault.old) (V.outside vault.new)) }
     ensures still { OnErr result (Keeps sw.old sw.new) }
     ensures brings { Brings sw.old sw.new (3 * (2 * digits (num_at sw.old opened.at 2) + 2)) }
+    ensures fault { IfErr result (IsFaultAt (IsChangeFault (V.outside vault.old) (V.outside vault.new) sw.new) sw.new opened.at) }
     ensures alive { OnOk result (V.alive vault.new) }
 {
     match to {
@@ -153,6 +167,7 @@ pub fn enter_key<V: Vault>(
     ensures spares { (at : ℕ) → table ≡ Some at → OnOk result (SparesBut at sw.old sw.new (V.outside vault.old) (V.outside vault.new)) }
     ensures still { OnErr result (Keeps sw.old sw.new) }
     ensures brings { (at : ℕ) → table ≡ Some at → Brings sw.old sw.new (3 * (2 * digits (num_at sw.old at 2) + 2)) }
+    ensures fault { IfErr result (IsOpFault (IsChangeFault (V.outside vault.old) (V.outside vault.new) sw.new) sw.new table) }
     ensures alive { OnOk result (V.alive vault.new) }
 {
     let opened = match open_table(sw, kind_of_key(key), table) {
@@ -181,6 +196,7 @@ pub fn enter_text<V: Vault>(
     ensures spares { (at : ℕ) → table ≡ Some at → OnOk result (SparesBut at sw.old sw.new (V.outside vault.old) (V.outside vault.new)) }
     ensures still { OnErr result (Keeps sw.old sw.new) }
     ensures brings { (at : ℕ) → table ≡ Some at → Brings sw.old sw.new (3 * (2 * digits (num_at sw.old at 2) + 2)) }
+    ensures fault { IfErr result (IsOpFault (IsChangeFault (V.outside vault.old) (V.outside vault.new) sw.new) sw.new table) }
     ensures alive { OnOk result (V.alive vault.new) }
 {
     enter_key(sw, vault, Key::Text(key), table, to)
@@ -201,6 +217,7 @@ pub fn enter_int<V: Vault>(
     ensures spares { (at : ℕ) → table ≡ Some at → OnOk result (SparesBut at sw.old sw.new (V.outside vault.old) (V.outside vault.new)) }
     ensures still { OnErr result (Keeps sw.old sw.new) }
     ensures brings { (at : ℕ) → table ≡ Some at → Brings sw.old sw.new (3 * (2 * digits (num_at sw.old at 2) + 2)) }
+    ensures fault { IfErr result (IsOpFault (IsChangeFault (V.outside vault.old) (V.outside vault.new) sw.new) sw.new table) }
     ensures alive { OnOk result (V.alive vault.new) }
 {
     enter_key(sw, vault, Key::Int(key), table, to)

@@ -3,8 +3,9 @@ ghost use Rattle.std.specs.Prelude.{◌≡◌, ◌≢◌, ℕ};
 ghost use Rattle.table_nodes.specs.heap_places.obj_layout.declared.reference.Reference.{Reference};
 ghost use Rattle.table_nodes.specs.heap_places.swizzle.Heap.{Heap};
 ghost use Rattle.table_nodes.specs.avl_trees.Trees.{Tree, items};
-ghost use Rattle.table_nodes.specs.Keys.{Keys, KeyOf};
-ghost use Rattle.table_nodes.specs.Steps.{I, IsPlace, place};
+ghost use Rattle.table_nodes.specs.node_rows.Keys.{Keys, KeyOf};
+ghost use Rattle.table_nodes.specs.node_rows.Nodes.{I};
+ghost use Rattle.table_nodes.specs.Steps.{IsPlace, place};
 ghost use Rattle.table_lib.specs.Entries.{AreApart, EntersPair, SparesBut, TakesKey};
 ghost use Rattle.table_lib.specs.Tables.{HasPairs, IsTable};
 

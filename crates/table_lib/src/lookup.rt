@@ -1,23 +1,27 @@
-ghost use Rattle.std.specs.Prelude.{◌≡◌, ℕ, ◌+◌, ◌*◌, ◌≤◌, IfOk, IfSome, OnOk, OnErr, Some};
+ghost use Rattle.std.specs.Prelude.{◌≡◌, ℕ, ◌+◌, ◌*◌, ◌≤◌, IfOk, IfSome, OnOk, OnErr, Some, IfErr};
 ghost use Rattle.table_nodes.specs.heap_places.swizzle.Heap.{IsHeld, num_at};
 ghost use Rattle.table_nodes.specs.heap_places.swizzle.Touch.{Keeps};
 ghost use Rattle.table_nodes.specs.avl_trees.Trees.{bits as digits};
 ghost use Rattle.table_nodes.specs.Bringing.{Brings};
 ghost use Rattle.table_nodes.specs.Nodes.{Grows};
 ghost use Rattle.table_nodes.specs.heap_places.swizzle.Text.{text_at};
-ghost use Rattle.table_nodes.specs.Keys.{by_ints, by_texts};
+ghost use Rattle.table_nodes.specs.node_rows.Keys.{by_ints, by_texts};
 ghost use Rattle.table_nodes.specs.Sought.{IsKeyHeld, IsTextHeld, kind_of, key_in};
+ghost use Rattle.table_nodes.specs.Spans.{IsValueOf};
 ghost use Rattle.table_nodes.specs.Steps.{place};
+ghost use Rattle.table_nodes.specs.declared.keys.Key.TheVariants.{Int, Text};
 ghost use Rattle.table_lib.specs.Operations.{LooksUp};
+ghost use Rattle.table_nodes.specs.Faults.{IsNodeFault};
+ghost use Rattle.table_lib.specs.Faults.{IsOpFault};
 
 use crate::bits::bits;
-use crate::words::{counted_root, kind_of_key, open_table};
+use crate::words::{counted_root, open_table};
 use std::sync::ledger::Ledger;
 use table_nodes::counted_steps::steps::Steps;
 use table_nodes::heap_places::heap_texts::fault::OpFault;
 use table_nodes::heap_places::obj_layout::vault::Vault;
 use table_nodes::heap_places::swizzle::swizzle::Swizzle;
-use table_nodes::keys::Key;
+use table_nodes::keys::{Key, kind_of_key};
 use table_nodes::search::lookup;
 
 /// The value of a key in a table, none where the table hasn't the key. Nil, WrongClass and KeyKind as `open_table` has them. Each node that is
@@ -34,11 +38,13 @@ pub fn lookup_key<V: Vault, L: Ledger>(
     requires table { IfSome table (IsHeld sw.old) }
     ensures looked { LooksUp (kind_of key) (place sw.old (V.outside vault.old)) sw.new table (key_in sw.old key) result }
     ensures held { IfOk result (λ found. IfSome found (IsHeld sw.new)) }
+    ensures value { IfOk result (λ found. IfSome found (IsValueOf sw.new key)) }
     ensures cost { (at : ℕ) → table ≡ Some at → steps.new ≤ steps.old + (2 * digits (num_at sw.old at 2) + 2) }
     ensures grows { OnOk result (Grows sw.old sw.new (V.outside vault.old) (V.outside vault.new)) }
     ensures keeps { OnOk result (Keeps sw.old sw.new) }
     ensures still { OnErr result (Keeps sw.old sw.new) }
     ensures brings { (at : ℕ) → table ≡ Some at → Brings sw.old sw.new (2 * digits (num_at sw.old at 2) + 2) }
+    ensures fault { IfErr result (IsOpFault (IsNodeFault (V.outside vault.old) (V.outside vault.new) sw.new) sw.new table) }
     ensures alive { OnOk result (V.alive vault.new) }
 {
     sw.sound();
@@ -73,11 +79,13 @@ pub fn lookup_text<V: Vault, L: Ledger>(
     requires table { IfSome table (IsHeld sw.old) }
     ensures looked { LooksUp by_texts (place sw.old (V.outside vault.old)) sw.new table (text_at sw.old key) result }
     ensures held { IfOk result (λ found. IfSome found (IsHeld sw.new)) }
+    ensures value { IfOk result (λ found. IfSome found (IsValueOf sw.new (Text key))) }
     ensures cost { (at : ℕ) → table ≡ Some at → steps.new ≤ steps.old + (2 * digits (num_at sw.old at 2) + 2) }
     ensures grows { OnOk result (Grows sw.old sw.new (V.outside vault.old) (V.outside vault.new)) }
     ensures keeps { OnOk result (Keeps sw.old sw.new) }
     ensures still { OnErr result (Keeps sw.old sw.new) }
     ensures brings { (at : ℕ) → table ≡ Some at → Brings sw.old sw.new (2 * digits (num_at sw.old at 2) + 2) }
+    ensures fault { IfErr result (IsOpFault (IsNodeFault (V.outside vault.old) (V.outside vault.new) sw.new) sw.new table) }
     ensures alive { OnOk result (V.alive vault.new) }
 {
     lookup_key(sw, vault, Key::Text(key), table, steps)
@@ -95,11 +103,13 @@ pub fn lookup_int<V: Vault, L: Ledger>(
     requires table { IfSome table (IsHeld sw.old) }
     ensures looked { LooksUp by_ints (place sw.old (V.outside vault.old)) sw.new table key result }
     ensures held { IfOk result (λ found. IfSome found (IsHeld sw.new)) }
+    ensures value { IfOk result (λ found. IfSome found (IsValueOf sw.new (Int key))) }
     ensures cost { (at : ℕ) → table ≡ Some at → steps.new ≤ steps.old + (2 * digits (num_at sw.old at 2) + 2) }
     ensures grows { OnOk result (Grows sw.old sw.new (V.outside vault.old) (V.outside vault.new)) }
     ensures keeps { OnOk result (Keeps sw.old sw.new) }
     ensures still { OnErr result (Keeps sw.old sw.new) }
     ensures brings { (at : ℕ) → table ≡ Some at → Brings sw.old sw.new (2 * digits (num_at sw.old at 2) + 2) }
+    ensures fault { IfErr result (IsOpFault (IsNodeFault (V.outside vault.old) (V.outside vault.new) sw.new) sw.new table) }
     ensures alive { OnOk result (V.alive vault.new) }
 {
     lookup_key(sw, vault, Key::Int(key), table, steps)

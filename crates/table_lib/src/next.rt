@@ -1,4 +1,4 @@
-ghost use Rattle.std.specs.Prelude.{◌≡◌, ◌+◌, ◌*◌, ℕ, true, IfOk, IfSome, OnOk, OnErr, Some};
+ghost use Rattle.std.specs.Prelude.{◌≡◌, ◌+◌, ◌*◌, ℕ, true, IfOk, IfSome, OnOk, OnErr, Some, IfErr};
 ghost use Rattle.std.specs.declared.cmp.Ordering.TheVariants.{Less};
 ghost use Rattle.table_nodes.specs.avl_trees.Standing.{seek};
 ghost use Rattle.table_nodes.specs.heap_places.ps_heap.Operators.{is_int};
@@ -6,21 +6,22 @@ ghost use Rattle.table_nodes.specs.heap_places.swizzle.Heap.{IsHeld, num_at};
 ghost use Rattle.table_nodes.specs.avl_trees.Trees.{bits as digits};
 ghost use Rattle.table_nodes.specs.Bringing.{Brings};
 ghost use Rattle.table_nodes.specs.heap_places.swizzle.Touch.{Keeps};
-ghost use Rattle.table_nodes.specs.Keys.{by_ints, by_texts, order_by};
+ghost use Rattle.table_nodes.specs.node_rows.Keys.{by_ints, by_texts, order_by};
 ghost use Rattle.table_nodes.specs.Nodes.{IsNode, Grows};
-ghost use Rattle.table_nodes.specs.Sought.{IsKeyHeld, IsTextHeld, kind_of, key_in};
+ghost use Rattle.table_nodes.specs.Sought.{IsKeyHeld, IsTextHeld, kind_of, key_in, keys_of};
 ghost use Rattle.table_nodes.specs.Steps.{place};
 ghost use Rattle.table_lib.specs.Nexts.{FindsNode, FindsPair, IsIntPair, IsTextPair, ReadsPair, after_key, string_of};
-ghost use Rattle.table_lib.specs.Operations.{keys_of};
+ghost use Rattle.table_nodes.specs.Faults.{IsNodeFault};
+ghost use Rattle.table_lib.specs.Faults.{IsOpFault};
 
 use crate::bits::bits;
-use crate::words::{KeyKind, counted_root, kind_of_key, open_table};
+use crate::words::{counted_root, open_table};
 use table_nodes::follow::{first, next};
 use table_nodes::heap_places::heap_texts::fault::OpFault;
 use table_nodes::heap_places::obj_layout::vault::Vault;
 use table_nodes::heap_places::swizzle::fault::SwizzleFault;
 use table_nodes::heap_places::swizzle::swizzle::Swizzle;
-use table_nodes::keys::{Key, int_key, text_key};
+use table_nodes::keys::{Key, KeyKind, int_key, kind_of_key, text_key};
 use table_nodes::nodes::value;
 
 // The node of the least key above a key of a table.
@@ -39,6 +40,7 @@ fn node_above<V: Vault>(
     ensures keeps { OnOk result (Keeps sw.old sw.new) }
     ensures still { OnErr result (Keeps sw.old sw.new) }
     ensures brings { (at : ℕ) → table ≡ Some at → Brings sw.old sw.new (2 * digits (num_at sw.old at 2) + 1) }
+    ensures fault { IfErr result (IsOpFault (IsNodeFault (V.outside vault.old) (V.outside vault.new) sw.new) sw.new table) }
     ensures alive { OnOk result (V.alive vault.new) }
 {
     sw.sound();
@@ -75,6 +77,7 @@ fn least_node<V: Vault>(
     ensures keeps { OnOk result (Keeps sw.old sw.new) }
     ensures still { OnErr result (Keeps sw.old sw.new) }
     ensures brings { (at : ℕ) → table ≡ Some at → Brings sw.old sw.new (2 * digits (num_at sw.old at 2) + 1) }
+    ensures fault { IfErr result (IsOpFault (IsNodeFault (V.outside vault.old) (V.outside vault.new) sw.new) sw.new table) }
     ensures alive { OnOk result (V.alive vault.new) }
 {
     sw.sound();
@@ -90,7 +93,7 @@ fn least_node<V: Vault>(
         Ok(root) => root,
         Err(fault) => return Err(OpFault::Swizzle(fault)),
     };
-    match first(sw, vault, root, bound) {
+    match first(sw, vault, root, bound, keys) {
         Ok(found) => Ok(found),
         Err(fault) => Err(OpFault::Swizzle(fault)),
     }
@@ -110,6 +113,7 @@ fn text_pair<V: Vault>(
     ensures keeps { OnOk result (Keeps sw.old sw.new) }
     ensures still { OnErr result (Keeps sw.old sw.new) }
     ensures brings { Brings sw.old sw.new 1 }
+    ensures fault { IfErr result (IsNodeFault (V.outside vault.old) (V.outside vault.new) sw.new) }
     ensures alive { OnOk result (V.alive vault.new) }
 {
     let key = match text_key(sw, vault, node) {
@@ -136,6 +140,7 @@ fn int_pair<V: Vault>(
     ensures keeps { OnOk result (Keeps sw.old sw.new) }
     ensures still { OnErr result (Keeps sw.old sw.new) }
     ensures brings { Brings sw.old sw.new 1 }
+    ensures fault { IfErr result (IsNodeFault (V.outside vault.old) (V.outside vault.new) sw.new) }
     ensures alive { OnOk result (V.alive vault.new) }
 {
     sw.sound();
@@ -165,6 +170,7 @@ fn text_node<V: Vault>(
     ensures keeps { OnOk result (Keeps sw.old sw.new) }
     ensures still { OnErr result (Keeps sw.old sw.new) }
     ensures brings { (at : ℕ) → table ≡ Some at → Brings sw.old sw.new (2 * digits (num_at sw.old at 2) + 1) }
+    ensures fault { IfErr result (IsOpFault (IsNodeFault (V.outside vault.old) (V.outside vault.new) sw.new) sw.new table) }
     ensures alive { OnOk result (V.alive vault.new) }
 {
     match after {
@@ -190,6 +196,7 @@ pub fn next_text<V: Vault>(
     ensures keeps { OnOk result (Keeps sw.old sw.new) }
     ensures still { OnErr result (Keeps sw.old sw.new) }
     ensures brings { (at : ℕ) → table ≡ Some at → Brings sw.old sw.new (2 * digits (num_at sw.old at 2) + 2) }
+    ensures fault { IfErr result (IsOpFault (IsNodeFault (V.outside vault.old) (V.outside vault.new) sw.new) sw.new table) }
     ensures alive { OnOk result (V.alive vault.new) }
 {
     let found = match text_node(sw, vault, after, table) {
@@ -221,6 +228,7 @@ fn int_node<V: Vault>(
     ensures keeps { OnOk result (Keeps sw.old sw.new) }
     ensures still { OnErr result (Keeps sw.old sw.new) }
     ensures brings { (at : ℕ) → table ≡ Some at → Brings sw.old sw.new (2 * digits (num_at sw.old at 2) + 1) }
+    ensures fault { IfErr result (IsOpFault (IsNodeFault (V.outside vault.old) (V.outside vault.new) sw.new) sw.new table) }
     ensures alive { OnOk result (V.alive vault.new) }
 {
     match after {
@@ -246,6 +254,7 @@ pub fn next_int<V: Vault>(
     ensures keeps { OnOk result (Keeps sw.old sw.new) }
     ensures still { OnErr result (Keeps sw.old sw.new) }
     ensures brings { (at : ℕ) → table ≡ Some at → Brings sw.old sw.new (2 * digits (num_at sw.old at 2) + 2) }
+    ensures fault { IfErr result (IsOpFault (IsNodeFault (V.outside vault.old) (V.outside vault.new) sw.new) sw.new table) }
     ensures alive { OnOk result (V.alive vault.new) }
 {
     let found = match int_node(sw, vault, after, table) {

@@ -1,11 +1,13 @@
-ghost use Rattle.std.specs.Prelude.{◌≡◌, ◌≢◌, ◌<◌, ◌^◌, ℕ, None, Some, Ok, Err, length, IfOk, IfSome, MatchResult};
+ghost use Rattle.std.specs.Prelude.{◌≡◌, ◌≢◌, ◌<◌, ◌^◌, ℕ, None, Some, Ok, Err, length, IfOk, IfSome, MatchResult, IfErr};
 ghost use Rattle.table_nodes.specs.heap_places.heap_texts.declared.fault.OpFault.TheVariants.{Trap as Traps};
 ghost use Rattle.ps_base.specs.declared.trap.Trap.TheVariants.{Nil, WrongClass};
 ghost use Rattle.table_nodes.specs.avl_trees.Trees.{Tree, items};
 ghost use Rattle.table_nodes.specs.heap_places.swizzle.Heap.{IsFull, IsHeld, IsMade, Stands, blank, header_at};
-ghost use Rattle.table_nodes.specs.Keys.{Keys};
-ghost use Rattle.table_nodes.specs.Steps.{I, place};
+ghost use Rattle.table_nodes.specs.node_rows.Keys.{Keys};
+ghost use Rattle.table_nodes.specs.node_rows.Nodes.{I};
+ghost use Rattle.table_nodes.specs.Steps.{place};
 ghost use Rattle.table_lib.specs.Tables.{IsTable, IsUnused};
+ghost use Rattle.table_lib.specs.Faults.{IsOpenFault};
 
 use ps_base::trap::Trap;
 use table_nodes::heap_places::heap_texts::fault::OpFault;
@@ -30,6 +32,7 @@ pub fn cardinality<V: Vault>(sw: &Swizzle, vault: &V, table: Option<u32>) -> Res
     ensures nil { table ≡ None → result ≡ Err (Traps Nil) }
     ensures class { (at : ℕ) → table ≡ Some at → (header_at sw.now at).kind ≢ Kind.Table → result ≡ Err (Traps WrongClass) }
     ensures unused { (at : ℕ) → table ≡ Some at → IsUnused sw.now at → result ≡ Ok 0 }
+    ensures fault { IfErr result (IsOpenFault sw.now table) }
     ensures counted { (at : ℕ) (ks : Keys) (t : Tree (I ks)) → table ≡ Some at → IsTable ks (place sw.now (V.outside vault.now)) at t → length (items t) < 2 ^ 32 → result ≡ Ok (length (items t)) }
 {
     let _ = vault;

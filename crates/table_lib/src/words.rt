@@ -1,14 +1,16 @@
-ghost use Rattle.std.specs.Prelude.{◌≡◌, true, false, IfOk, IfSome, OnOk, OnErr};
+ghost use Rattle.std.specs.Prelude.{◌≡◌, true, false, IfOk, IfSome, OnOk, OnErr, IfErr};
 ghost use Rattle.table_nodes.specs.heap_places.obj_layout.declared.reference.Reference.{Reference};
 ghost use Rattle.table_nodes.specs.heap_places.swizzle.Heap.{IsHeld, num_at, ref_at};
 ghost use Rattle.table_nodes.specs.heap_places.swizzle.Touch.{Keeps};
 ghost use Rattle.table_nodes.specs.Bringing.{Brings, NoneCome};
 ghost use Rattle.table_nodes.specs.Nodes.{IsNode, Grows};
-ghost use Rattle.table_nodes.specs.Sought.{kind_of};
+ghost use Rattle.table_nodes.specs.Sought.{keys_of};
 ghost use Rattle.table_nodes.specs.Steps.{place};
 ghost use Rattle.table_lib.specs.Entries.{MarksTable, SparesBut, WritesTable};
-ghost use Rattle.table_lib.specs.Operations.{Opens, ReadsRoot, keys_of};
+ghost use Rattle.table_lib.specs.Operations.{Opens, ReadsRoot};
 ghost use Rattle.table_lib.specs.Tables.{IsTableAt, key_number};
+ghost use Rattle.table_nodes.specs.Faults.{IsNodeFault};
+ghost use Rattle.table_lib.specs.Faults.{IsFaultAt, IsOpenFault};
 
 use ps_base::trap::Trap;
 use table_nodes::heap_places::heap_texts::fault::OpFault;
@@ -18,7 +20,7 @@ use table_nodes::heap_places::obj_layout::vault::Vault;
 use table_nodes::heap_places::places::damaged;
 use table_nodes::heap_places::swizzle::fault::SwizzleFault;
 use table_nodes::heap_places::swizzle::swizzle::Swizzle;
-use table_nodes::keys::Key;
+use table_nodes::keys::KeyKind;
 use table_nodes::nodes::is_node;
 
 /// A table, and whether it has had keys.
@@ -26,23 +28,6 @@ use table_nodes::nodes::is_node;
 pub struct Opened {
     pub at: u32,
     pub used: bool,
-}
-
-/// Of which kind keys are.
-#[derive(Clone, Copy)]
-pub enum KeyKind {
-    Ints,
-    Texts,
-}
-
-/// The kind of a key.
-pub fn kind_of_key(key: Key) -> KeyKind
-    ensures { keys_of result ≡ kind_of key }
-{
-    match key {
-        Key::Int(_) => KeyKind::Ints,
-        Key::Text(_) => KeyKind::Texts,
-    }
 }
 
 // The number of a kind of keys.
@@ -80,7 +65,8 @@ fn has_no_root(sw: &Swizzle, at: u32) -> bool
 /// has keys of the other kind.
 pub fn open_table(sw: &Swizzle, keys: KeyKind, table: Option<u32>) -> Result<Opened, OpFault>
     requires held { IfSome table (IsHeld sw.now) }
-    ensures { Opens (keys_of keys) sw.now table result }
+    ensures opens { Opens (keys_of keys) sw.now table result }
+    ensures fault { IfErr result (IsOpenFault sw.now table) }
 {
     let Some(at) = table else {
         return Err(OpFault::Trap(Trap::Nil));
@@ -121,6 +107,7 @@ pub fn root_node<V: Vault>(
     ensures keeps { OnOk result (Keeps sw.old sw.new) }
     ensures still { OnErr result (Keeps sw.old sw.new) }
     ensures brings { Brings sw.old sw.new 1 }
+    ensures fault { IfErr result (IsNodeFault (V.outside vault.old) (V.outside vault.new) sw.new) }
     ensures alive { OnOk result (V.alive vault.new) }
 {
     sw.sound();
@@ -155,6 +142,7 @@ pub fn counted_root<V: Vault>(
     ensures keeps { OnOk result (Keeps sw.old sw.new) }
     ensures still { OnErr result (Keeps sw.old sw.new) }
     ensures brings { Brings sw.old sw.new 1 }
+    ensures fault { IfErr result (IsFaultAt (IsNodeFault (V.outside vault.old) (V.outside vault.new) sw.new) sw.new at) }
     ensures alive { OnOk result (V.alive vault.new) }
 {
     let count = sw.num(at, 2);

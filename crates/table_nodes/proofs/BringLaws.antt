@@ -1,5 +1,5 @@
 -- Which nodes come into the area, one step after another.
-use Rattle.std.proofs.Common.{◌≡◌, ◌≢◌, ◌⊎◌, ℕ, ◌+◌, ◌≤◌, List, [], ◌∷◌, ◌++◌, length, Option, Some, None, refl, sym, ap, ◌∙◌, subst, set, slice_set, if◌then◌else◌, true, false, arith, inl, inr}
+use Rattle.std.proofs.Common.{◌≡◌, ◌≢◌, ◌⊎◌, ℕ, ◌+◌, ◌≤◌, List, [], ◌∷◌, ◌++◌, Option, Some, None, refl, sym, ap, ◌∙◌, subst, set, slice_set, if◌then◌else◌, true, false, arith, inl, inr}
 use Rattle.std.proofs.lemmas.List.{length-append}
 use Rattle.heap_places.specs.obj_layout.declared.kind.Kind.TheVariants.{Node}
 use Rattle.heap_places.specs.obj_layout.declared.reference.Reference.{Reference}
@@ -11,7 +11,8 @@ use Rattle.heap_places.specs.swizzle.Touch.{Keeps, Only, Denotes}
 use Rattle.heap_places.proofs.of_swizzle.JointLaws.{held-back, held-cases}
 use Rattle.heap_places.proofs.of_swizzle.TouchLaws.{keeps-refl}
 use Rattle.heap_places.proofs.of_swizzle.NameLaws.{name_at-injective}
-use Rattle.table_nodes.specs.Bringing.{IsAmong, Brings, NoneCome}
+use Rattle.node_rows.specs.Nodes.{IsAmong}
+use Rattle.table_nodes.specs.Bringing.{Brings, NoneCome}
 use Rattle.table_nodes.specs.Sparing.{Lasts}
 
 pub keeps_lasts : (a b : Heap) → Keeps a b → (at : ℕ) → IsHeld a at → Lasts a b at

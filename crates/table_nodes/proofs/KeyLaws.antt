@@ -7,7 +7,7 @@ use Rattle.heap_places.specs.obj_layout.declared.reference.Reference.{Reference}
 use Rattle.heap_places.specs.swizzle.Joint.{Shown}
 use Rattle.heap_places.specs.swizzle.Changes.{Within, ChangedAt}
 use Rattle.heap_places.specs.Shapes.{slot_of, shown_text}
-use Rattle.table_nodes.specs.Keys.{Keys, by_ints, by_texts, KeyOf, order_by, Seen, IsKey}
+use Rattle.node_rows.specs.Keys.{Keys, by_ints, by_texts, KeyOf, order_by, Seen, IsKey}
 
 pub total : (ks : Keys) → IsTotalOrder (order_by ks)
 total by_ints = int_cmp_total

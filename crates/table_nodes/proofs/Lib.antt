@@ -13,5 +13,7 @@ pub mod StepLaws
 pub mod TurnLaws
 pub mod WingLaws
 pub mod BringLaws
+pub mod FaultLaws
+pub mod SpanLaws
 pub use Rattle.heap_places.proofs as of_heap_places
 pub use Rattle.avl_trees.proofs as of_avl_trees

@@ -22,7 +22,7 @@ use Rattle.heap_places.proofs.FillingLaws.{made-ref, made-num}
 use Rattle.heap_places.specs.Words.{int_in, int_word}
 use Rattle.table_nodes.specs.declared.keys.Key.{Key}
 use Rattle.table_nodes.specs.declared.keys.Key.TheVariants.{Int, Text}
-use Rattle.table_nodes.specs.Keys.{IsKey}
+use Rattle.node_rows.specs.Keys.{IsKey}
 use Rattle.table_nodes.specs.Nodes.{IsNode, IsNamed}
 use Rattle.table_nodes.specs.Sought.{kind_of, key_in, IsKeyHeld}
 use Rattle.table_nodes.specs.Making.{with_key}

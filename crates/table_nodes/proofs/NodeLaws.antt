@@ -1,5 +1,5 @@
 -- Nodes of the area: what is seen of one, what a touch leaves, and what a write does.
-use Rattle.std.proofs.Common.{◌≡◌, ◌≢◌, ℕ, zero, suc, ◌<◌, List, length, set, Option, Some, None, refl, sym, ap, ◌∙◌, subst, arith, inl, inr}
+use Rattle.std.proofs.Common.{◌≡◌, ◌≢◌, ℕ, zero, suc, ◌<◌, List, length, set, Option, Some, None, Result, refl, sym, ap, ◌∙◌, subst, arith, inl, inr}
 use Rattle.std.proofs.Math.ListN.{length-set}
 use Rattle.std.proofs.lemmas.List.{get_or-set_same, get_or-set_other}
 use Rattle.heap_places.specs.ps_outside.Outside.{Outside, SameContents}
@@ -12,17 +12,19 @@ use Rattle.heap_places.specs.swizzle.Joint.{Shown, Joint, shown_at, name_at, nam
 use Rattle.heap_places.specs.swizzle.Changes.{Within, Same, ChangedAt, Touched}
 use Rattle.heap_places.specs.swizzle.Reading.{joint}
 use Rattle.heap_places.proofs.of_swizzle.DamageLaws.{passes-same, reports-same}
-use Rattle.heap_places.specs.swizzle.Touch.{Keeps, Denotes}
+use Rattle.heap_places.specs.swizzle.Touch.{Keeps, Denotes, IsTouchCall, IsTouchFault}
 use Rattle.heap_places.proofs.of_swizzle.JointLaws.{joint-ref, joint-num}
 use Rattle.heap_places.proofs.of_swizzle.MarkLaws.{joint-mark}
+use Rattle.heap_places.proofs.of_swizzle.ReadingLaws.{leaves-touch}
 use Rattle.heap_places.proofs.of_swizzle.NameLaws.{Joint-one, name_at-injective, not_away, shown-counts, name-not_nil}
 use Rattle.heap_places.proofs.PlaceLaws.{slot-name}
 use Rattle.avl_trees.specs.Standing.{IsWritten}
 use Rattle.heap_places.specs.Words.{int_in}
 use Rattle.heap_places.specs.Shapes.{slot_of, word_in, IsText}
-use Rattle.table_nodes.specs.Keys.{Keys, by_ints, by_texts, KeyOf, Seen, IsKey}
+use Rattle.node_rows.specs.Keys.{Keys, by_ints, by_texts, KeyOf, Seen, IsKey}
 use Rattle.table_nodes.proofs.KeyLaws.{AreSingle, key_one, key_grows, key_changed, key_back}
-use Rattle.table_nodes.specs.Nodes.{Seat, link_of, IsSeat, HasNode, rows_in, IsSingle, IsNode, IsNamed, IsLinked, Grows, OthersStay, side_of, with_sides, Links, HasSides, IsFetchFault, IsSide}
+use Rattle.node_rows.specs.Nodes.{Seat, link_of, IsSeat, HasNode}
+use Rattle.table_nodes.specs.Nodes.{rows_in, IsSingle, IsNode, IsNamed, IsLinked, Grows, OthersStay, side_of, with_sides, Links, HasSides, IsFetchFault, IsSide}
 use Rattle.heap_places.specs.swizzle.declared.fault.SwizzleFault.{SwizzleFault}
 use Rattle.heap_places.specs.swizzle.declared.fault.SwizzleFault.TheVariants.{AreaFull, Vault}
 
@@ -52,10 +54,11 @@ seat_keyed ks old new it row s key = record { kind = s.kind; refs = s.refs; nums
 pub rows_grow : (ks : Keys) (old new : Seen) → Within old new → (n : Reference) (row : Seat ks) → HasNode ks old n row → HasNode ks new n row
 rows_grow ks old new w n row r = record { it = r.it; there = w n r.it r.there; is = seat_keyed ks old new r.it row r.is (key_grows ks old new r.it row.entry.key w r.is.key) }
 
-pub grows_touch : (old new : Heap) (a b : Outside Space) (name : Reference) → IsHeap old → IsHeap new → SameContents a b → Keeps old new → Touched (joint old a) (joint new b) name → Grows old new a b
-grows_touch old new a b name h h_new same keeps touched = record {
+pub grows_touch : {T : Type 0} {result : Result T SwizzleFault} (old new : Heap) (a b : Outside Space) (name : Reference) → IsHeap old → IsHeap new → IsTouchCall old new a b result → Keeps old new → Touched (joint old a) (joint new b) name
+    → Grows old new a b
+grows_touch old new a b name h h_new call keeps touched = record {
   heap = h_new;
-  contents = same;
+  leaves = leaves-touch old new a b _ call;
   seen = touched.grows;
   rows = λ ks. rows_grow ks (joint old a) (joint new b) touched.grows;
   nodes = nodes;
@@ -297,13 +300,13 @@ single_kept a b same s = record { one = λ pid x y k l. s.one pid x y (back pid 
     back : (pid : ℕ) (x : List ℕ) → Holds b pid x → Holds a pid x
     back pid x k = record { space = k.space; is = same.no_other k.space k.is; has = k.has }
 
+pub touch_back : (a b : Outside Space) (heap : Heap) (reference : Reference) (fault : SwizzleFault) → SameContents a b → IsTouchFault heap b reference fault → IsTouchFault heap a reference fault
+touch_back a b heap reference (AreaFull top wanted size) same f =
+    (f.0, f.1, f.2, (f.3.0, f.3.1, f.3.2, passes-same a b f.3.0 same f.3.3, λ words k. f.3.4 words (record { space = k.space; is = same.kept k.space k.is; has = k.has })))
+touch_back a b heap reference (Vault fault) same f = (f.0, f.1, f.2, reports-same a b f.0 fault same f.3)
+
 pub fetch_back : (a b : Outside Space) (fault : SwizzleFault) → SameContents a b → IsFetchFault b fault → IsFetchFault a fault
-fetch_back a b (AreaFull top wanted size) same f = record {
-  heap = f.heap;
-  reference = f.reference;
-  is = (f.is.0, f.is.1, f.is.2, (f.is.3.0, f.is.3.1, f.is.3.2, passes-same a b f.is.3.0 same f.is.3.3, λ words k. f.is.3.4 words (record { space = k.space; is = same.kept k.space k.is; has = k.has })));
-}
-fetch_back a b (Vault fault) same f = record { heap = f.heap; reference = f.reference; is = (f.is.0, f.is.1, f.is.2, reports-same a b f.is.0 fault same f.is.3) }
+fetch_back a b fault same f = record { heap = f.heap; reference = f.reference; is = touch_back a b f.heap f.reference fault same f.is }
 
 pub side_row : (ks : Keys) (heap : Heap) (outside : Outside Space) (side : Option Reference) → IsSide ks heap outside side → (m : Reference) → side ≡ Some m → (r : Seat ks) × rows_in ks heap outside m r
 side_row ks heap outside None s m e = absurd (cc)

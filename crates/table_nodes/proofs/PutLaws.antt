@@ -15,8 +15,9 @@ use Rattle.heap_places.proofs.of_swizzle.JointLaws.{joint-ref}
 use Rattle.heap_places.proofs.of_swizzle.MarkLaws.{joint-mark}
 use Rattle.heap_places.proofs.PlaceLaws.{slot-name}
 use Rattle.avl_trees.specs.Standing.{IsWritten}
-use Rattle.table_nodes.specs.Keys.{Keys, Seen}
-use Rattle.table_nodes.specs.Nodes.{Seat, IsSeat, IsNode, IsNamed, IsSingle, IsSlot, OthersStay, rows_in}
+use Rattle.node_rows.specs.Keys.{Keys, Seen}
+use Rattle.node_rows.specs.Nodes.{Seat, IsSeat}
+use Rattle.table_nodes.specs.Nodes.{IsNode, IsNamed, IsSingle, IsSlot, OthersStay, rows_in}
 use Rattle.table_nodes.specs.Entering.{Puts, with_value}
 use Rattle.table_nodes.proofs.NodeLaws.{seat_at, seat_one, joint_one, changed-same, written_from, key_like, stand_nodes, stand_named, renamed}
 
@@ -25,8 +26,8 @@ seat_value ks seen it row n s = record {
   kind = s.kind;
   refs = length-set it.refs 3 n ∙ s.refs;
   nums = s.nums;
-  left = ap Rattle.table_nodes.specs.Nodes.link_of (get_or-set_other it.refs 3 0 n Nil (omega arith)) ∙ s.left;
-  right = ap Rattle.table_nodes.specs.Nodes.link_of (get_or-set_other it.refs 3 1 n Nil (omega arith)) ∙ s.right;
+  left = ap Rattle.node_rows.specs.Nodes.link_of (get_or-set_other it.refs 3 0 n Nil (omega arith)) ∙ s.left;
+  right = ap Rattle.node_rows.specs.Nodes.link_of (get_or-set_other it.refs 3 1 n Nil (omega arith)) ∙ s.right;
   key = key_like ks seen it _ row.entry.key refl (get_or-set_other it.refs 3 2 n Nil (omega arith)) s.key;
   value = get_or-set_same it.refs 3 n Nil (omega (arith, s.refs));
   height = s.height;

@@ -1,5 +1,5 @@
 -- A pair is put into the tree of a node.
-use Rattle.std.proofs.Common.{true, false, ◌≡◌, ◌≢◌, ℕ, ◌+◌, ◌<◌, ◌∷◌, ◌++◌, Option, Some, None, Result, Ok, Err, MatchResult, refl, sym, ap, ◌∙◌, subst, arith, inl, inr}
+use Rattle.std.proofs.Common.{true, false, ◌≡◌, ◌≢◌, ℕ, ◌+◌, ◌<◌, ◌∷◌, Option, Some, None, Result, Ok, Err, MatchResult, refl, sym, ap, ◌∙◌, subst, arith, inl, inr}
 use Rattle.std.specs.declared.cmp.Ordering.TheVariants.{Less, Equal, Greater}
 use Rattle.heap_places.specs.ps_outside.Outside.{Outside, SameContents}
 use Rattle.heap_places.specs.obj_layout.Stored.{Space}
@@ -12,24 +12,26 @@ use Rattle.heap_places.specs.swizzle.Joint.{name_at}
 use Rattle.heap_places.specs.swizzle.Reading.{joint}
 use Rattle.heap_places.proofs.of_swizzle.JointLaws.{name-fresh}
 use Rattle.heap_places.proofs.of_swizzle.NameLaws.{name_at-injective}
-use Rattle.avl_trees.specs.Trees.{Tree, leaf, node, height, items, insert, lookup, balance}
-use Rattle.avl_trees.specs.Standing.{Stands, Given, under, root_of, row_of, put, fresh_item, seek, IsWritten}
+use Rattle.avl_trees.specs.Trees.{Tree, leaf, node, height, items, insert, lookup}
+use Rattle.avl_trees.specs.Standing.{Stands, under, root_of, row_of, put, fresh_item, seek, IsWritten}
 use Rattle.avl_trees.proofs.Leaning.{insert_leans, grew_left, grew_right}
 use Rattle.avl_trees.proofs.Ordered.{around, all_front, all_back}
 use Rattle.avl_trees.proofs.Standing.{stands_grown}
 use Rattle.avl_trees.proofs.Turning.{touched}
 use Rattle.avl_trees.proofs.Entering.{apart_left, apart_right, left_given, left_entered, right_given, right_entered, entered_here, entered_leaf, entered_grown, entered_here_is, entered_left_is, entered_right_is}
-use Rattle.table_nodes.specs.Keys.{Keys, KeyOf, order_by}
+use Rattle.node_rows.specs.Keys.{Keys, KeyOf, order_by}
 use Rattle.table_nodes.specs.Nodes.{IsNamed, IsLinked}
-use Rattle.table_nodes.specs.Steps.{I, Place, place, IsPlace, rows_of, AreSides, StandsAt, Holds, Touches}
+use Rattle.node_rows.specs.Nodes.{I, HasValue}
+use Rattle.table_nodes.specs.Steps.{Place, place, IsPlace, rows_of, AreSides, Holds, Touches}
 use Rattle.table_nodes.specs.Turning.{Balances}
 use Rattle.table_nodes.specs.Wings.{AreEnds, IsLeftWing, IsRightWing}
-use Rattle.table_nodes.specs.declared.sides.Sides.{Sides}
 use Rattle.table_nodes.specs.declared.wing.Wing.{Wing}
-use Rattle.table_nodes.specs.Searching.{HasValue, IsTree}
+use Rattle.table_nodes.specs.Searching.{IsTree}
 use Rattle.table_nodes.specs.Entering.{Makes, Puts, with_value, IsOpened, Enters, EntersAt, IsEnterFault, IsCountedAt, is_missing, IsNoRoom}
 use Rattle.table_nodes.specs.declared.enter.Entered.{Entered}
 use Rattle.table_nodes.specs.declared.opening.Opened.{Opened}
+use Rattle.table_nodes.specs.declared.span.Span.{Span}
+use Rattle.table_nodes.specs.Spans.{IsWithin}
 use Rattle.table_nodes.proofs.KeyLaws.{total}
 use Rattle.table_nodes.proofs.NodeLaws.{fetch_back}
 use Rattle.table_nodes.proofs.Seeking.{lookup_here, lookup_left, lookup_right}
@@ -207,9 +209,9 @@ pub no_root : (heap : Heap) (root : Option ℕ) (at : ℕ) → root ≡ Some at 
 no_root heap root at e h = subst (λ s. IsLinked heap s None) e h
 
 -- what was entered, under the names of before
-pub entered_as : (ks : Keys) (old new : Place) (root : Option ℕ) (bound : ℕ) (key wanted : KeyOf ks) (value name : Reference) (result : Result Entered SwizzleFault) → key ≡ wanted → value ≡ name
-    → EntersAt ks old new root bound key value result → EntersAt ks old new root bound wanted name result
-entered_as ks old new root bound key wanted value name result e f w = subst (λ v. EntersAt ks old new root bound wanted v result) f (subst (λ k. EntersAt ks old new root bound k value result) e w)
+pub entered_as : (ks : Keys) (old new : Place) (root : Option ℕ) (bound : ℕ) (key wanted : KeyOf ks) (span : Span) (value name : Reference) (result : Result Entered SwizzleFault) → key ≡ wanted → value ≡ name
+    → EntersAt ks old new root bound key span value result → EntersAt ks old new root bound wanted span name result
+entered_as ks old new root bound key wanted span value name result e f w = subst (λ v. EntersAt ks old new root bound wanted span v result) f (subst (λ k. EntersAt ks old new root bound k span value result) e w)
 
 -- Whether the key was new.
 pub counted_leaf : (ks : Keys) (key : KeyOf ks) (p : Place) (root : Option ℕ) → root ≡ None → (t : Tree (I ks)) → IsTree ks p root t → true ≡ is_missing (lookup (seek (order_by ks) key) t)
@@ -217,16 +219,16 @@ unfolding lookup
 counted_leaf ks key p root e leaf h = refl
 counted_leaf ks key p root e (node x b y) h = absurd (subst (λ s. IsLinked p.heap s (Some b.name)) e h.root_is)
 
-module _ (ks : Keys) (key : KeyOf ks) (old m : Place) (root side : Option ℕ) (bound : ℕ) (grows : Touches old m) (x : Tree (I ks)) (b : I ks) (y : Tree (I ks)) (h : IsTree ks old root (node x b y)) (low : bound ≡ height (node x b y)) (wanted : KeyOf ks) (same : wanted ≡ key) (entered : Entered)
-    (counted : IsCountedAt ks m side bound wanted (Ok entered)) where
-  pub counted_left : IsLinked m.heap side (root_of x) → order_by ks key b.entry.key ≡ Less → entered.made ≡ is_missing (lookup (seek (order_by ks) key) (node x b y))
-  counted_left linked less =
-      subst (λ k. entered.made ≡ is_missing (lookup (seek (order_by ks) k) x)) same (counted x (tree_left ks old m root side grows x b y h linked) (omega (arith, low)))
+module _ (ks : Keys) (key : KeyOf ks) (old m : Place) (root side : Option ℕ) (bound : ℕ) (grows : Touches old m) (x : Tree (I ks)) (b : I ks) (y : Tree (I ks)) (h : IsTree ks old root (node x b y)) (low : bound ≡ height (node x b y)) (wanted : KeyOf ks) (same : wanted ≡ key) (span : Span) (entered : Entered)
+    (counted : IsCountedAt ks m side bound wanted span (Ok entered)) where
+  pub counted_left : IsLinked m.heap side (root_of x) → IsWithin ks m.heap span (items x) → order_by ks key b.entry.key ≡ Less → entered.made ≡ is_missing (lookup (seek (order_by ks) key) (node x b y))
+  counted_left linked within less =
+      subst (λ k. entered.made ≡ is_missing (lookup (seek (order_by ks) k) x)) same (counted x (tree_left ks old m root side grows x b y h linked) within (omega (arith, low)))
       ∙ ap is_missing (sym (lookup_left ks key x b y less))
 
-  pub counted_right : IsLinked m.heap side (root_of y) → order_by ks key b.entry.key ≡ Greater → entered.made ≡ is_missing (lookup (seek (order_by ks) key) (node x b y))
-  counted_right linked more =
-      subst (λ k. entered.made ≡ is_missing (lookup (seek (order_by ks) k) y)) same (counted y (tree_right ks old m root side grows x b y h linked) (omega (arith, low)))
+  pub counted_right : IsLinked m.heap side (root_of y) → IsWithin ks m.heap span (items y) → order_by ks key b.entry.key ≡ Greater → entered.made ≡ is_missing (lookup (seek (order_by ks) key) (node x b y))
+  counted_right linked within more =
+      subst (λ k. entered.made ≡ is_missing (lookup (seek (order_by ks) k) y)) same (counted y (tree_right ks old m root side grows x b y h linked) within (omega (arith, low)))
       ∙ ap is_missing (sym (lookup_right ks key x b y more))
 
 pub counted_here : (ks : Keys) (key : KeyOf ks) (x : Tree (I ks)) (b : I ks) (y : Tree (I ks)) → order_by ks key b.entry.key ≡ Equal → false ≡ is_missing (lookup (seek (order_by ks) key) (node x b y))

@@ -4,6 +4,7 @@ use Rattle.std.specs.declared.cmp.Ordering.TheVariants.{Less, Equal, Greater}
 use Rattle.heap_places.specs.obj_layout.declared.reference.Reference.{Reference}
 use Rattle.heap_places.specs.swizzle.declared.fault.SwizzleFault.{SwizzleFault}
 use Rattle.heap_places.specs.swizzle.Heap.{Heap}
+use Rattle.heap_places.specs.swizzle.Touch.{Keeps}
 use Rattle.avl_trees.specs.Trees.{Tree, leaf, node, height, items, balance, least, rest, merge, remove, lookup}
 use Rattle.avl_trees.specs.Standing.{Stands, Given, Becomes, IsApart, root_of, seek}
 use Rattle.avl_trees.proofs.Balanced.{rest_shrunk, remove_shrunk}
@@ -12,21 +13,25 @@ use Rattle.avl_trees.proofs.Turning.{touched}
 use Rattle.avl_trees.proofs.Items.{rest_items}
 use Rattle.avl_trees.proofs.Ordered.{all_back, all_both}
 use Rattle.avl_trees.proofs.Removing.{apart_left, apart_right, taken_here, taken_given, taken_above, merged_left, merged_right, merged_given, merged_both, left_removed_given, left_removed, right_removed_given, right_removed, removed_left_is, removed_right_is, removed_here_is}
-use Rattle.table_nodes.specs.Keys.{Keys, KeyOf, order_by}
+use Rattle.node_rows.specs.Keys.{Keys, KeyOf, order_by}
 use Rattle.table_nodes.specs.Nodes.{IsNamed, IsLinked, IsFetchFault}
-use Rattle.table_nodes.specs.Steps.{I, Place, IsPlace, StayBeside, rows_of, AreSides, StandsAt, Holds, Touches}
+use Rattle.node_rows.specs.Nodes.{I}
+use Rattle.table_nodes.specs.Steps.{Place, IsPlace, StayBeside, rows_of, AreSides, StandsAt, Holds, Touches}
 use Rattle.table_nodes.specs.Searching.{IsTree}
 use Rattle.table_nodes.specs.Entering.{IsOpened, is_missing}
+use Rattle.table_nodes.specs.Spans.{IsSpan, IsWithin}
 use Rattle.table_nodes.specs.Wings.{IsLeftWing, IsRightWing}
 use Rattle.table_nodes.specs.declared.wing.Wing.{Wing}
 use Rattle.table_nodes.proofs.WingLaws.{left_wing_kept, right_wing_kept}
 use Rattle.table_nodes.specs.Removing.{IsGoneAt, IsTaken, Leaves, Merges, Removes}
 use Rattle.table_nodes.specs.declared.opening.Opened.{Opened}
+use Rattle.table_nodes.specs.declared.span.Span.{Span}
 use Rattle.table_nodes.specs.declared.remove.Least.{Least}
 use Rattle.table_nodes.specs.declared.remove.Removed.{Removed}
 use Rattle.table_nodes.proofs.KeyLaws.{total}
 use Rattle.table_nodes.proofs.NodeLaws.{fetch_back}
 use Rattle.table_nodes.proofs.Putting.{tree_left, tree_right}
+use Rattle.table_nodes.proofs.SpanLaws.{within_kept}
 use Rattle.table_nodes.proofs.Seeking.{lookup_here, lookup_left, lookup_right}
 use Rattle.table_nodes.proofs.StepLaws.{one, linked_kept, place_touched, apart_front, apart_back}
 
@@ -37,8 +42,14 @@ tree_grown ks old m at root grows l a r named h =
 pub leaves_touched : (ks : Keys) (old m new : Place) → Touches old m → (is : List (I ks)) (t : Tree (I ks)) (root : Option ℕ) → Leaves ks m new is t root → Leaves ks old new is t root
 leaves_touched ks old m new grows is t root w = record { becomes = touched (rows_of ks old) (rows_of ks m) (rows_of ks new) is t (grows.rows ks) w.becomes; here = w.here; root_is = w.root_is; others = λ n it a k. w.others n it a (grows.seen n it k) }
 
-pub opened_kept : (ks : Keys) (a b : Heap) → ((at : ℕ) (n : Reference) → IsNamed a at n → IsNamed b at n) → (key : KeyOf ks) (x : Tree (I ks)) (i : I ks) (y : Tree (I ks)) (opened : Opened) → IsOpened ks a key x i y opened → IsOpened ks b key x i y opened
-opened_kept ks a b f key x i y opened o = record { order = o.order; left = linked_kept a b f opened.left (root_of x) o.left; right = linked_kept a b f opened.right (root_of y) o.right }
+pub opened_kept : (ks : Keys) (a b : Heap) → ((at : ℕ) (n : Reference) → IsNamed a at n → IsNamed b at n) → Keeps a b → (key : KeyOf ks) (x : Tree (I ks)) (i : I ks) (y : Tree (I ks)) (opened : Opened) → IsSpan a opened.span → IsOpened ks a key x i y opened → IsOpened ks b key x i y opened
+opened_kept ks a b f keeps key x i y opened span o = record {
+  order = o.order;
+  left = linked_kept a b f opened.left (root_of x) o.left;
+  right = linked_kept a b f opened.right (root_of y) o.right;
+  left_keys = λ e. within_kept ks a b opened.span (items x) keeps span (o.left_keys e);
+  right_keys = λ e. within_kept ks a b opened.span (items y) keeps span (o.right_keys e);
+}
 
 -- The least node.
 
@@ -231,11 +242,11 @@ module _ (ks : Keys) (key : KeyOf ks) where
         }
 
     pub here_fault : (fault : SwizzleFault) (bound : ℕ) → bound ≡ height (node l a r) → Merges m m1 opened.left opened.right bound (Err fault) → IsFetchFault old.outside fault
-    here_fault fault bound high merges = fetch_back old.outside m.outside fault grows.contents (merges ks at l a r here (tree_grown ks old m at root grows l a r name h) o.left o.right (omega (arith, high)))
+    here_fault fault bound high merges = fetch_back old.outside m.outside fault grows.leaves.contents (merges ks at l a r here (tree_grown ks old m at root grows l a r name h) o.left o.right (omega (arith, high)))
 
 -- what was taken out, by the key of before
-pub removed_as : (ks : Keys) (old new : Place) (root : Option ℕ) (bound : ℕ) (key wanted : KeyOf ks) (result : Result Removed SwizzleFault) → key ≡ wanted → Removes ks old new root bound key result → Removes ks old new root bound wanted result
-removed_as ks old new root bound key wanted result e w = subst (λ k. Removes ks old new root bound k result) e w
+pub removed_as : (ks : Keys) (old new : Place) (root : Option ℕ) (bound : ℕ) (key wanted : KeyOf ks) (span : Span) (result : Result Removed SwizzleFault) → key ≡ wanted → Removes ks old new root bound key span result → Removes ks old new root bound wanted span result
+removed_as ks old new root bound key wanted span result e w = subst (λ k. Removes ks old new root bound k span result) e w
 
 -- Whether the tree had the key.
 pub gone_leaf : (ks : Keys) (key : KeyOf ks) (p : Place) (root : Option ℕ) → root ≡ None → (t : Tree (I ks)) → IsTree ks p root t → false ≢ is_missing (lookup (seek (order_by ks) key) t)
@@ -244,14 +255,14 @@ gone_leaf ks key p root e leaf h = λ f. cc
 gone_leaf ks key p root e (node x b y) h = absurd (subst (λ s. IsLinked p.heap s (Some b.name)) e h.root_is)
 
 module _ (ks : Keys) (key : KeyOf ks) (old m : Place) (root side : Option ℕ) (bound : ℕ) (grows : Touches old m) (x : Tree (I ks)) (b : I ks) (y : Tree (I ks)) (h : IsTree ks old root (node x b y)) where
-  pub gone_left : height x < bound → (wanted : KeyOf ks) → wanted ≡ key → (removed : Removed) → IsGoneAt ks m side bound wanted (Ok removed) → IsLinked m.heap side (root_of x) → order_by ks key b.entry.key ≡ Less → removed.gone ≢ is_missing (lookup (seek (order_by ks) key) (node x b y))
-  gone_left low wanted same removed gone linked less =
-      let below = subst (λ k. removed.gone ≢ is_missing (lookup (seek (order_by ks) k) x)) same (gone x (tree_left ks old m root side grows x b y h linked) low) in
+  pub gone_left : height x < bound → (wanted : KeyOf ks) → wanted ≡ key → (span : Span) (removed : Removed) → IsGoneAt ks m side bound wanted span (Ok removed) → IsLinked m.heap side (root_of x) → IsWithin ks m.heap span (items x) → order_by ks key b.entry.key ≡ Less → removed.gone ≢ is_missing (lookup (seek (order_by ks) key) (node x b y))
+  gone_left low wanted same span removed gone linked within less =
+      let below = subst (λ k. removed.gone ≢ is_missing (lookup (seek (order_by ks) k) x)) same (gone x (tree_left ks old m root side grows x b y h linked) within low) in
       λ e. below (e ∙ ap is_missing (lookup_left ks key x b y less))
 
-  pub gone_right : height y < bound → (wanted : KeyOf ks) → wanted ≡ key → (removed : Removed) → IsGoneAt ks m side bound wanted (Ok removed) → IsLinked m.heap side (root_of y) → order_by ks key b.entry.key ≡ Greater → removed.gone ≢ is_missing (lookup (seek (order_by ks) key) (node x b y))
-  gone_right low wanted same removed gone linked more =
-      let below = subst (λ k. removed.gone ≢ is_missing (lookup (seek (order_by ks) k) y)) same (gone y (tree_right ks old m root side grows x b y h linked) low) in
+  pub gone_right : height y < bound → (wanted : KeyOf ks) → wanted ≡ key → (span : Span) (removed : Removed) → IsGoneAt ks m side bound wanted span (Ok removed) → IsLinked m.heap side (root_of y) → IsWithin ks m.heap span (items y) → order_by ks key b.entry.key ≡ Greater → removed.gone ≢ is_missing (lookup (seek (order_by ks) key) (node x b y))
+  gone_right low wanted same span removed gone linked within more =
+      let below = subst (λ k. removed.gone ≢ is_missing (lookup (seek (order_by ks) k) y)) same (gone y (tree_right ks old m root side grows x b y h linked) within low) in
       λ e. below (e ∙ ap is_missing (lookup_right ks key x b y more))
 
 pub gone_here : (ks : Keys) (key : KeyOf ks) (x : Tree (I ks)) (b : I ks) (y : Tree (I ks)) → order_by ks key b.entry.key ≡ Equal → true ≢ is_missing (lookup (seek (order_by ks) key) (node x b y))

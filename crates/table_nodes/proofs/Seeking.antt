@@ -7,15 +7,20 @@ use Rattle.heap_places.specs.obj_layout.declared.reference.Reference.{Reference}
 use Rattle.heap_places.specs.swizzle.Heap.{Heap, IsHeld}
 use Rattle.heap_places.specs.swizzle.Joint.{name_at}
 use Rattle.avl_trees.specs.Trees.{Tree, leaf, node, height, items, lookup}
-use Rattle.avl_trees.specs.Standing.{Stands, seek, root_of, row_of}
-use Rattle.avl_trees.proofs.Ordered.{all_front, all_back}
+use Rattle.avl_trees.specs.Standing.{Stands, IsRising, seek, root_of, row_of, under}
+use Rattle.avl_trees.proofs.Ordered.{all_front, all_back, around}
 use Rattle.avl_trees.proofs.Standing.{stands_grown}
-use Rattle.table_nodes.specs.Keys.{Keys, KeyOf, order_by}
-use Rattle.table_nodes.specs.Nodes.{Seat, IsNamed, IsLinked, IsFetchFault}
-use Rattle.table_nodes.specs.Steps.{I, Place, rows_of, Touches}
-use Rattle.table_nodes.specs.Searching.{HasValue, IsTree, looks, value_of, IsObject, ReadsValue, IsStep}
+use Rattle.node_rows.specs.Keys.{Keys, KeyOf, order_by}
+use Rattle.node_rows.specs.Nodes.{Seat, I, HasValue}
+use Rattle.table_nodes.specs.Nodes.{IsNamed, IsLinked, IsFetchFault}
+use Rattle.table_nodes.specs.Steps.{Place, rows_of, Touches}
+use Rattle.table_nodes.specs.Searching.{IsTree, looks, value_of, IsObject, ReadsValue, IsStep}
+use Rattle.table_nodes.specs.Spans.{IsWithin}
 use Rattle.table_nodes.specs.declared.search.Step.TheVariants.{Found, Down}
+use Rattle.table_nodes.specs.declared.span.Span.{Span}
+use Rattle.table_nodes.specs.declared.span.Way.{Way}
 use Rattle.table_nodes.proofs.NodeLaws.{fetch_back}
+use Rattle.table_nodes.proofs.SpanLaws.{within_all}
 
 module _ (ks : Keys) (key : KeyOf ks) where
   abbrev sought_in : Tree (I ks) → Option (I ks)
@@ -26,7 +31,7 @@ module _ (ks : Keys) (key : KeyOf ks) where
 
   -- What is sought in a tree is sought in this part of it, which is lower than the bound; so many steps
   -- were taken before and up to now.
-  pub record Sought (p : Place) (at : Option ℕ) (bound before now : ℕ) (t : Tree (I ks)) : Type 0 where
+  pub record Sought (p : Place) (at : Option ℕ) (span : Span) (bound before now : ℕ) (t : Tree (I ks)) : Type 0 where
     pub part : Tree (I ks)
     pub looked : before + looks_in t ≡ now + looks_in part
     pub stands : Stands (rows_of ks p) part
@@ -34,30 +39,32 @@ module _ (ks : Keys) (key : KeyOf ks) where
     pub same : sought_in part ≡ sought_in t
     pub lower : height part < bound
     pub values : AllByRecursion HasValue (items part)
+    pub rising : IsRising (order_by ks) part
+    pub within : IsWithin ks p.heap span (items part)
 
   -- before the first step
-  pub sought_whole : (p : Place) (root : Option ℕ) (bound before : ℕ) (t : Tree (I ks)) → IsTree ks p root t → height t < bound → Sought p root bound before before t
-  sought_whole p root bound before t h low = record { part = t; looked = refl; stands = h.stands; root_is = h.root_is; same = refl; lower = low; values = h.values }
+  pub sought_whole : (p : Place) (root : Option ℕ) (bound before : ℕ) (t : Tree (I ks)) → IsTree ks p root t → height t < bound → Sought p root (record { low = None; high = None }) bound before before t
+  sought_whole p root bound before t h low = record { part = t; looked = refl; stands = h.stands; root_is = h.root_is; same = refl; lower = low; values = h.values; rising = h.rising; within = within_all ks p.heap (items t) }
 
   -- nothing is left
-  pub sought_none : (p : Place) (new : Heap) (bound before now : ℕ) (t : Tree (I ks)) → Sought p None bound before now t → IsObject new None (value_of (sought_in t))
+  pub sought_none : (p : Place) (new : Heap) (span : Span) (bound before now : ℕ) (t : Tree (I ks)) → Sought p None span bound before now t → IsObject new None (value_of (sought_in t))
   unfolding lookup
-  sought_none p new bound before now t s = go s.part s.root_is s.same
+  sought_none p new span bound before now t s = go s.part s.root_is s.same
     where
       go : (part : Tree (I ks)) → IsLinked p.heap None (root_of part) → sought_in part ≡ sought_in t → IsObject new None (value_of (sought_in t))
       go leaf e f = subst (λ o. IsObject new None (value_of o)) f tt
       go (node x b y) e f = absurd e
 
-  pub looked_none : (p : Place) (bound before now : ℕ) (t : Tree (I ks)) → Sought p None bound before now t → now ≡ before + looks_in t
+  pub looked_none : (p : Place) (span : Span) (bound before now : ℕ) (t : Tree (I ks)) → Sought p None span bound before now t → now ≡ before + looks_in t
   unfolding looks
-  looked_none p bound before now t s = go s.part s.root_is s.looked
+  looked_none p span bound before now t s = go s.part s.root_is s.looked
     where
       go : (part : Tree (I ks)) → IsLinked p.heap None (root_of part) → before + looks_in t ≡ now + looks_in part → now ≡ before + looks_in t
       go leaf e f = omega (arith, f)
       go (node x b y) e f = absurd e
 
   -- the part at a node
-  pub record AtNode (p : Place) (n bound before now : ℕ) (t : Tree (I ks)) : Type 0 where
+  pub record AtNode (p : Place) (n : ℕ) (span : Span) (bound before now : ℕ) (t : Tree (I ks)) : Type 0 where
     pub x : Tree (I ks)
     pub b : I ks
     pub y : Tree (I ks)
@@ -66,14 +73,16 @@ module _ (ks : Keys) (key : KeyOf ks) where
     pub same : sought_in (node x b y) ≡ sought_in t
     pub lower : height (node x b y) < bound
     pub values : AllByRecursion HasValue (items (node x b y))
+    pub rising : IsRising (order_by ks) (node x b y)
+    pub within : IsWithin ks p.heap span (items (node x b y))
     pub looked : before + looks_in t ≡ now + looks_in (node x b y)
 
-  pub at_node : (p : Place) (n bound before now : ℕ) (t : Tree (I ks)) → Sought p (Some n) bound before now t → AtNode p n bound before now t
-  at_node p n bound before now t s = go s.part s.stands s.root_is s.same s.lower s.values s.looked
+  pub at_node : (p : Place) (n : ℕ) (span : Span) (bound before now : ℕ) (t : Tree (I ks)) → Sought p (Some n) span bound before now t → AtNode p n span bound before now t
+  at_node p n span bound before now t s = go s.part s.stands s.root_is s.same s.lower s.values s.looked s.rising s.within
     where
-      go : (part : Tree (I ks)) → Stands (rows_of ks p) part → IsLinked p.heap (Some n) (root_of part) → sought_in part ≡ sought_in t → height part < bound → AllByRecursion HasValue (items part) → before + looks_in t ≡ now + looks_in part → AtNode p n bound before now t
-      go leaf h e f l v k = absurd e
-      go (node x b y) h e f l v k = record { looked = k; x = x; b = b; y = y; stands = h; name = e; same = f; lower = l; values = v }
+      go : (part : Tree (I ks)) → Stands (rows_of ks p) part → IsLinked p.heap (Some n) (root_of part) → sought_in part ≡ sought_in t → height part < bound → AllByRecursion HasValue (items part) → before + looks_in t ≡ now + looks_in part → IsRising (order_by ks) part → IsWithin ks p.heap span (items part) → AtNode p n span bound before now t
+      go leaf h e f l v k r w = absurd e
+      go (node x b y) h e f l v k r w = record { looked = k; rising = r; within = w; x = x; b = b; y = y; stands = h; name = e; same = f; lower = l; values = v }
 
   pub lookup_here : (x : Tree (I ks)) (b : I ks) (y : Tree (I ks)) → order_by ks key b.entry.key ≡ Equal → sought_in (node x b y) ≡ Some b
   unfolding lookup
@@ -100,10 +109,10 @@ module _ (ks : Keys) (key : KeyOf ks) where
   looks_right x b y e = rw e refl
 
   -- the height that was read
-  pub height_read : (p : Place) (n bound before now : ℕ) (t : Tree (I ks)) (s : AtNode p n bound before now t) (h : ℕ) → ((at : ℕ) (k : Reference) (row : Seat ks) → Some n ≡ Some at → IsNamed p.heap at k → rows_of ks p k row → h ≡ row.height) → h ≡ height (node s.x s.b s.y)
-  height_read p n bound before now t s h f = f n s.b.name (row_of s.x s.b s.y) refl s.name s.stands.0
+  pub height_read : (p : Place) (n : ℕ) (span : Span) (bound before now : ℕ) (t : Tree (I ks)) (s : AtNode p n span bound before now t) (h : ℕ) → ((at : ℕ) (k : Reference) (row : Seat ks) → Some n ≡ Some at → IsNamed p.heap at k → rows_of ks p k row → h ≡ row.height) → h ≡ height (node s.x s.b s.y)
+  height_read p n span bound before now t s h f = f n s.b.name (row_of s.x s.b s.y) refl s.name s.stands.0
 
-  module _ (p m : Place) (n bound before now : ℕ) (t : Tree (I ks)) (s : AtNode p n bound before now t) (grows : Touches p m) where
+  module _ (p m : Place) (n : ℕ) (span : Span) (bound before now : ℕ) (t : Tree (I ks)) (s : AtNode p n span bound before now t) (grows : Touches p m) where
     -- the key was found, and its value read
     pub sought_found : (new : Place) → IsStep ks m.heap key s.x s.b s.y Found → (result : Result ℕ SwizzleFault) → ReadsValue m.heap new.heap m.outside n result
         → MatchResult result (λ value. IsHeld new.heap value → IsObject new.heap (Some value) (value_of (sought_in t))) (IsFetchFault p.outside)
@@ -114,7 +123,7 @@ module _ (ks : Keys) (key : KeyOf ks) where
         go : (result : Result ℕ SwizzleFault) → MatchResult result (λ value. name_at new.heap value ≡ s.b.entry.value) (IsFetchFault m.outside)
             → MatchResult result (λ value. IsHeld new.heap value → IsObject new.heap (Some value) (value_of (sought_in t))) (IsFetchFault p.outside)
         go (Ok value) e = λ held. subst (λ o. IsObject new.heap (Some value) (value_of o)) (sym (lookup_here s.x s.b s.y found) ∙ s.same) (held, e)
-        go (Err fault) w = fetch_back p.outside m.outside fault grows.contents w
+        go (Err fault) w = fetch_back p.outside m.outside fault grows.leaves.contents w
 
     pub looked_found : (later : ℕ) → later ≡ now + 1 → IsStep ks m.heap key s.x s.b s.y Found → later ≡ before + looks_in t
     looked_found later e found =
@@ -123,21 +132,25 @@ module _ (ks : Keys) (key : KeyOf ks) where
         omega (arith, e, one, all)
 
     -- the search goes on at a side
-    pub sought_down : (later : ℕ) → later ≡ now + 1 → (h : ℕ) (side : Option ℕ) → IsStep ks m.heap key s.x s.b s.y (Down side) → h ≡ height (node s.x s.b s.y) → Sought m side h before later t
-    sought_down later one h side (inl w) e = record {
+    pub sought_down : (later : ℕ) → later ≡ now + 1 → (h : ℕ) (way : Way) → IsStep ks m.heap key s.x s.b s.y (Down way) → h ≡ height (node s.x s.b s.y) → Sought m way.side way.span h before later t
+    sought_down later one h way (inl w) e = record {
       part = s.x;
       looked = (let more = looks_left s.x s.b s.y w.0 in let all = s.looked in omega (arith, one, more, all));
       stands = stands_grown (rows_of ks p) (rows_of ks m) (grows.rows ks) s.x s.stands.1;
       root_is = w.1;
+      rising = (around (under (order_by ks)) (items s.x) s.b (items s.y) s.rising).left;
+      within = w.2;
       same = sym (lookup_left s.x s.b s.y w.0) ∙ s.same;
       lower = omega (arith, e);
       values = all_front HasValue (items s.x) (s.b ∷ items s.y) s.values;
     }
-    sought_down later one h side (inr w) e = record {
+    sought_down later one h way (inr w) e = record {
       part = s.y;
       looked = (let more = looks_right s.x s.b s.y w.0 in let all = s.looked in omega (arith, one, more, all));
       stands = stands_grown (rows_of ks p) (rows_of ks m) (grows.rows ks) s.y s.stands.2;
       root_is = w.1;
+      rising = (around (under (order_by ks)) (items s.x) s.b (items s.y) s.rising).right;
+      within = w.2;
       same = sym (lookup_right s.x s.b s.y w.0) ∙ s.same;
       lower = omega (arith, e);
       values = (all_back HasValue (items s.x) (s.b ∷ items s.y) s.values).1;

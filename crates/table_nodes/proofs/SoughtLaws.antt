@@ -1,5 +1,5 @@
 -- A node's key, read and compared.
-use Rattle.std.proofs.Common.{w32, to_z, of_z, arith, true, ◌≡◌, ℕ, ◌*◌, ◌-◌, ◌^◌, ℤ, pos, None, Some, Ok, Err, Result, refl, sym, ap, ◌∙◌, subst, take, drop, inl, inr}
+use Rattle.std.proofs.Common.{w32, to_z, of_z, arith, true, ◌≡◌, ℕ, ◌*◌, ◌-◌, ◌^◌, ℤ, pos, None, Some, Ok, Result, refl, sym, ap, ◌∙◌, subst, take, drop, inl, inr}
 use Rattle.heap_places.specs.ps_outside.Outside.{Outside}
 use Rattle.heap_places.specs.obj_area.Words.{bytes_of}
 use Rattle.heap_places.specs.obj_layout.Stored.{Space, Holds}
@@ -21,18 +21,16 @@ use Rattle.heap_places.specs.Shapes.{slot_of, word_in, shown_text}
 use Rattle.heap_places.specs.Words.{int_in}
 use Rattle.table_nodes.specs.declared.keys.Key.{Key}
 use Rattle.table_nodes.specs.declared.keys.Key.TheVariants.{Int, Text}
-use Rattle.table_nodes.specs.Keys.{by_ints, by_texts}
-use Rattle.table_nodes.specs.Nodes.{Seat, IsNamed, rows_in}
-use Rattle.std.specs.Ordering.{int_cmp}
+use Rattle.node_rows.specs.Keys.{by_ints, by_texts}
+use Rattle.node_rows.specs.Nodes.{Seat}
+use Rattle.table_nodes.specs.Nodes.{IsNamed, rows_in}
 use Rattle.std.specs.Prelude.{negsuc}
 use Rattle.std.proofs.lemmas.Bool.{cases_lt, ltb-true, lt-ltb}
 use Rattle.std.proofs.lemmas.Int.{to_z-of_z}
 use Rattle.heap_places.specs.ps_heap.Operators.{is_int}
 use Rattle.heap_places.proofs.WordLaws.{int-low, int-mid, int-high}
-use Rattle.std.specs.declared.cmp.Ordering.{Ordering}
-use Rattle.heap_places.specs.ps_heap.Texts.{order_of}
 use Rattle.heap_places.specs.swizzle.declared.fault.SwizzleFault.{SwizzleFault}
-use Rattle.table_nodes.specs.Sought.{kind_of, key_in, IsKeyHeld, IsTextHeld, ReadsInt, ReadsText, OrdersAt}
+use Rattle.table_nodes.specs.Sought.{key_in, IsKeyHeld}
 use Rattle.table_nodes.proofs.NodeLaws.{seen_held, seat_at}
 
 pub bytes_shown : (heap : Heap) (text : ℕ) → (header_at heap text).kind ≡ TextKind → shown_text (shown_at heap text) ≡ text_at heap text
@@ -72,15 +70,12 @@ key_in_kept old new (Text at) keeps held = (texts-kept old new keeps at held.hel
 pub same_ok : (x y : ℤ) (r : Result ℤ SwizzleFault) → r ≡ Ok x → r ≡ Ok y → x ≡ y
 same_ok x y r e f = cc
 
-pub orders_key : (heap : Heap) (outside : Outside Space) (at : ℕ) (key other : Key) (result : Result Ordering SwizzleFault) → key ≡ other → OrdersAt (kind_of other) heap outside at (key_in heap other) result → OrdersAt (kind_of key) heap outside at (key_in heap key) result
-orders_key heap outside at key other result e w = subst (λ k. OrdersAt (kind_of k) heap outside at (key_in heap k) result) (sym e) w
-
 -- An int of 32 bits comes back from code as it is, and what a word stands for is one.
 pub int_same : (z : ℤ) → is_int z ≡ true → to_z w32 (of_z w32 z) ≡ z
 int_same (pos n) e = to_z-of_z w32 (pos n) (record { sfits = ltb-true n (2 ^ 31) e })
 int_same (negsuc n) e = to_z-of_z w32 (negsuc n) (record { sfits = ltb-true n (2 ^ 31) e })
 
-int_read : (word : ℕ) (z : ℤ) → int_in word ≡ Some z → is_int z ≡ true
+pub int_read : (word : ℕ) (z : ℤ) → int_in word ≡ Some z → is_int z ≡ true
 int_read word z e = elim (cases_lt word (2 ^ 31)) [
   | inl low ↦
       let same : pos word ≡ z = let both : Some (pos word) ≡ Some z = sym (int-low word low) ∙ e in cc in
@@ -97,20 +92,6 @@ int_read word z e = elim (cases_lt word (2 ^ 31)) [
 pub int_key_same : (heap : Heap) (outside : Outside Space) (at : ℕ) (n : Reference) (row : Seat by_ints) (int : ℤ) → IsHeap heap → IsNamed heap at n → rows_in by_ints heap outside n row → int ≡ row.entry.key → to_z w32 (of_z w32 int) ≡ row.entry.key
 int_key_same heap outside at n row int h named r same =
     ap (λ y. to_z w32 (of_z w32 y)) same ∙ int_same row.entry.key (int_read (word_in (shown_at heap at) 1) row.entry.key (int_of_key heap outside at n row h named r))
-
-pub orders_int : (heap : Heap) (outside : Outside Space) (at : ℕ) (z int : ℤ) (order : Ordering) → IsHeap heap → is_int z ≡ true → ReadsInt heap outside at (Ok int) → order ≡ int_cmp (to_z w32 (of_z w32 z)) (to_z w32 (of_z w32 int)) → OrdersAt by_ints heap outside at z (Ok order)
-orders_int heap outside at z int order h fits reads e n row named r =
-    let same = same_ok int row.entry.key (Ok int) refl (reads n row named r) in
-    let other = int_read (word_in (shown_at heap at) 1) row.entry.key (int_of_key heap outside at n row h named r) in
-    e ∙ ap (λ y. int_cmp y (to_z w32 (of_z w32 int))) (int_same z fits) ∙ ap (int_cmp z) (ap (λ y. to_z w32 (of_z w32 y)) same ∙ int_same row.entry.key other)
-
-pub orders_no_int : (heap : Heap) (outside : Outside Space) (at : ℕ) (z : ℤ) (fault : SwizzleFault) → ReadsInt heap outside at (Err fault) → OrdersAt by_ints heap outside at z (Err fault)
-orders_no_int heap outside at z fault reads n row named r = let e = reads n row named r in absurd (cc)
-
-pub orders_text : (old new : Heap) (outside : Outside Space) (at text other : ℕ) (order : Ordering) → Keeps old new → IsTextHeld old text → ReadsText old new outside at (Ok other) → order ≡ order_of (text_at new text) (text_at new other)
-    → OrdersAt by_texts old outside at (text_at old text) (Ok order)
-orders_text old new outside at text other order keeps held reads e n row named r =
-    e ∙ ap (λ t. order_of t (text_at new other)) (texts-kept old new keeps text held.held held.kind).bytes ∙ ap (order_of (text_at old text)) (reads n row named r)
 
 -- nil names no object
 pub nil_unseen : (heap : Heap) (outside : Outside Space) (it : Shown) → joint heap outside Nil it → ⊥

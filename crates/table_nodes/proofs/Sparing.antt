@@ -13,7 +13,7 @@ use Rattle.heap_places.specs.swizzle.Touch.{Keeps}
 use Rattle.heap_places.proofs.of_swizzle.JointLaws.{joint-ref, joint-num}
 use Rattle.heap_places.proofs.of_swizzle.MarkLaws.{joint-mark}
 use Rattle.heap_places.proofs.of_swizzle.NameLaws.{name_at-injective}
-use Rattle.table_nodes.specs.Keys.{Keys, KeyOf}
+use Rattle.node_rows.specs.Keys.{Keys, KeyOf}
 use Rattle.table_nodes.specs.Nodes.{IsNode, IsSingle, OthersStay, Grows}
 use Rattle.table_nodes.specs.Entering.{Makes}
 use Rattle.table_nodes.specs.Sparing.{Lasts, IsNoted, Spares}
@@ -48,7 +48,7 @@ spares_seen old new a b keeps seen same = record {
 }
 
 pub spares_touched : (old new : Heap) (a b : Outside Space) → Keeps old new → Grows old new a b → Spares old new a b
-spares_touched old new a b keeps grows = spares_seen old new a b keeps grows.seen grows.contents
+spares_touched old new a b keeps grows = spares_seen old new a b keeps grows.seen grows.leaves.contents
 
 -- a node was made
 pub spares_made : (ks : Keys) (old new : Heap) (outside : Outside Space) (at : ℕ) (key : KeyOf ks) (value : Reference) → Keeps old new → Makes ks old new outside at key value → Spares old new outside outside

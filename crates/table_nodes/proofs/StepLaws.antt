@@ -8,15 +8,17 @@ use Rattle.heap_places.specs.swizzle.Heap.{Heap, IsHeap}
 use Rattle.heap_places.specs.swizzle.Joint.{name_at}
 use Rattle.heap_places.specs.swizzle.Reading.{joint}
 use Rattle.heap_places.proofs.of_swizzle.NameLaws.{Joint-one}
+use Rattle.heap_places.proofs.of_swizzle.ReadingLaws.{leaves-none, leaves-then}
 use Rattle.avl_trees.specs.Trees.{Tree, leaf, node, height}
 use Rattle.avl_trees.specs.Standing.{Item, root_of, row_of, Stands, IsApart, IsOne, IsWritten}
 use Rattle.avl_trees.proofs.Ordered.{all_front, all_back}
-use Rattle.avl_trees.proofs.Turning.{set_between, touched}
-use Rattle.table_nodes.specs.Keys.{Keys, order_by}
-use Rattle.table_nodes.specs.Nodes.{Seat, IsSeat, IsNamed, IsLinked, IsSide, Links, with_sides}
-use Rattle.table_nodes.specs.Steps.{I, Place, place, rows_of, IsPlace, AreSides, SetsSides, Holds as Keeps, Touches}
+use Rattle.avl_trees.proofs.Turning.{set_between}
+use Rattle.node_rows.specs.Keys.{Keys, order_by}
+use Rattle.node_rows.specs.Nodes.{Seat, IsSeat, I}
+use Rattle.table_nodes.specs.Nodes.{IsNamed, IsLinked, IsSide, Links, with_sides}
+use Rattle.table_nodes.specs.Steps.{Place, place, rows_of, IsPlace, AreSides, SetsSides, Holds as Keeps, Touches}
 use Rattle.table_nodes.proofs.KeyLaws.{total}
-use Rattle.table_nodes.proofs.NodeLaws.{seat_one, joint_one, single_kept, fetch_back}
+use Rattle.table_nodes.proofs.NodeLaws.{seat_one, joint_one, single_kept}
 
 pub one : (ks : Keys) (p : Place) → IsPlace p → IsOne (rows_of ks p)
 one ks p h n a b k l =
@@ -43,7 +45,7 @@ linked_kept a b f None (Some n) m = m
 linked_kept a b f (Some at) None m = m
 
 pub place_touched : (old new : Place) → Touches old new → IsPlace old → IsPlace new
-place_touched old new g p = record { heap = g.heap; single = single_kept old.outside new.outside g.contents p.single }
+place_touched old new g p = record { heap = g.heap; single = single_kept old.outside new.outside g.leaves.contents p.single }
 
 pub touches_then : (old mid new : Place) → Touches old mid → Touches mid new → Touches old new
 touches_then old mid new f g = record {
@@ -52,7 +54,7 @@ touches_then old mid new f g = record {
   named = λ at n h. g.named at n (f.named at n h);
   heap = g.heap;
   seen = λ n it k. g.seen n it (f.seen n it k);
-  contents = record { kept = λ x h. g.contents.kept x (f.contents.kept x h); no_other = λ x h. f.contents.no_other x (g.contents.no_other x h) };
+  leaves = leaves-then old.outside mid.outside new.outside f.leaves g.leaves;
 }
 
 -- a name is apart from those of a part of a tree, and isn't that of the node of an item
@@ -97,4 +99,4 @@ holds_over old mid new f (Err fault) g = tt
 
 -- nothing was touched
 pub touches_none : (p : Place) → IsHeap p.heap → Touches p p
-touches_none p h = record { rows = λ ks n row k. k; nodes = λ at k. k; named = λ at n k. k; heap = h; seen = λ n it k. k; contents = record { kept = λ x k. k; no_other = λ x k. k } }
+touches_none p h = record { rows = λ ks n row k. k; nodes = λ at k. k; named = λ at n k. k; heap = h; seen = λ n it k. k; leaves = leaves-none p.outside }

@@ -5,9 +5,10 @@ use Rattle.avl_trees.specs.Trees.{Tree, node, items, height, lean_left, lean_rig
 use Rattle.avl_trees.specs.Standing.{root_of}
 use Rattle.avl_trees.proofs.Turning.{touched}
 use Rattle.avl_trees.proofs.Turns.{given_grown, turned_right, turned_left, turned_inner, turned_outer}
-use Rattle.table_nodes.specs.Keys.{Keys, order_by}
+use Rattle.node_rows.specs.Keys.{Keys, order_by}
 use Rattle.table_nodes.specs.Nodes.{IsLinked}
-use Rattle.table_nodes.specs.Steps.{I, Place, rows_of, AreSides, AreTurned, AreTurnedOut, StandsAt, SetsSides, Touches}
+use Rattle.node_rows.specs.Nodes.{I}
+use Rattle.table_nodes.specs.Steps.{Place, rows_of, AreSides, AreTurned, AreTurnedOut, StandsAt, SetsSides, Touches}
 use Rattle.table_nodes.specs.Turning.{TurnsInner, TurnsOuter, TurnsRight, TurnsLeft}
 use Rattle.table_nodes.specs.Wings.{AreEnds, IsLeftWing, IsRightWing}
 use Rattle.table_nodes.specs.declared.sides.Sides.{Sides}

@@ -1,14 +1,10 @@
 -- Which nodes come into the area.
-use Rattle.std.specs.Prelude.{◌≡◌, ◌⊎◌, ℕ, ◌≤◌, List, [], ◌∷◌, length}
+use Rattle.std.specs.Prelude.{◌≡◌, ◌⊎◌, ℕ, ◌≤◌, List, length}
 use Rattle.heap_places.specs.obj_layout.declared.kind.Kind.TheVariants.{Node}
 use Rattle.heap_places.specs.obj_layout.declared.reference.Reference.{Reference}
 use Rattle.heap_places.specs.swizzle.Heap.{Heap, IsHeld, header_at}
 use Rattle.heap_places.specs.swizzle.Joint.{name_at}
-
--- the name stands in the list
-abbrev pub IsAmong : Reference → List Reference → Type 0
-IsAmong n [] = ⊥
-IsAmong n (m ∷ ms) = (n ≡ m) ⊎ IsAmong n ms
+use Rattle.node_rows.specs.Nodes.{IsAmong}
 
 -- At most so many nodes are in the area that weren't before.
 pub record Brings (old new : Heap) (most : ℕ) : Type 0 where

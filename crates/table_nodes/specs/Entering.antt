@@ -1,5 +1,6 @@
 -- What entering a key into a table's tree does to its nodes.
 use Rattle.std.specs.Prelude.{◌≡◌, ◌⊎◌, ℕ, ◌+◌, ◌<◌, Bool, true, false, Option, Some, None, Result, IfOk, MatchResult}
+use Rattle.std.specs.declared.cmp.Ordering.TheVariants.{Less, Greater}
 use Rattle.heap_places.specs.ps_outside.Outside.{Outside}
 use Rattle.heap_places.specs.obj_layout.Stored.{Space}
 use Rattle.heap_places.specs.obj_layout.declared.reference.Reference.{Reference}
@@ -11,12 +12,15 @@ use Rattle.heap_places.specs.swizzle.Joint.{Shown, name_at}
 use Rattle.heap_places.specs.swizzle.Changes.{Within}
 use Rattle.heap_places.specs.swizzle.Reading.{joint}
 use Rattle.avl_trees.specs.Trees.{Tree, node, height, items, insert, lookup}
-use Rattle.avl_trees.specs.Standing.{Row, Stands, IsWritten, root_of, seek, put, fresh_item}
-use Rattle.table_nodes.specs.Keys.{Keys, KeyOf, order_by}
-use Rattle.table_nodes.specs.Nodes.{Seat, IsNode, IsNamed, IsLinked, IsSingle, IsFetchFault, OthersStay, rows_in}
-use Rattle.table_nodes.specs.Steps.{I, Place, IsPlace, StandsAt, rows_of}
+use Rattle.avl_trees.specs.Standing.{Row, Stands, IsRising, IsWritten, root_of, seek, put, fresh_item}
+use Rattle.node_rows.specs.Keys.{Keys, KeyOf, order_by}
+use Rattle.node_rows.specs.Nodes.{Seat, I}
+use Rattle.table_nodes.specs.Nodes.{IsNode, IsNamed, IsLinked, IsSingle, IsFetchFault, OthersStay, rows_in}
+use Rattle.table_nodes.specs.Steps.{Place, IsPlace, StandsAt, rows_of}
 use Rattle.table_nodes.specs.Searching.{IsTree}
+use Rattle.table_nodes.specs.Spans.{IsWithin}
 use Rattle.table_nodes.specs.Wings.{IsLeftWing, IsRightWing}
+use Rattle.table_nodes.specs.declared.span.Span.{Span}
 use Rattle.table_nodes.specs.declared.enter.Entered.{Entered}
 use Rattle.table_nodes.specs.declared.opening.Opened.{Opened}
 
@@ -49,10 +53,12 @@ pub record IsOpened (ks : Keys) (heap : Heap) (key : KeyOf ks) (x : Tree (I ks))
   pub order : opened.order ≡ order_by ks key b.entry.key
   pub left : IsLinked heap opened.left (root_of x)
   pub right : IsLinked heap opened.right (root_of y)
+  pub left_keys : opened.order ≡ Less → IsWithin ks heap opened.span (items x)
+  pub right_keys : opened.order ≡ Greater → IsWithin ks heap opened.span (items y)
 
-abbrev pub OpensAt : (ks : Keys) → Place → Heap → ℕ → KeyOf ks → Result Opened SwizzleFault → Type 0
-OpensAt ks old new at key result = (x : Tree (I ks)) (b : I ks) (y : Tree (I ks)) → Stands (rows_of ks old) (node x b y) → IsNamed old.heap at b.name
-    → MatchResult result (IsOpened ks new key x b y) (IsFetchFault old.outside)
+abbrev pub OpensAt : (ks : Keys) → Place → Heap → ℕ → KeyOf ks → Span → Result Opened SwizzleFault → Type 0
+OpensAt ks old new at key span result = (x : Tree (I ks)) (b : I ks) (y : Tree (I ks)) → Stands (rows_of ks old) (node x b y) → IsNamed old.heap at b.name
+    → IsRising (order_by ks) (node x b y) → IsWithin ks old.heap span (items (node x b y)) → MatchResult result (IsOpened ks new key x b y) (IsFetchFault old.outside)
 
 -- The pair was put into the tree, where the key was new under a name that had no object.
 -- Where the tree has grown, what a turn above looks at is known.
@@ -72,8 +78,8 @@ IsNoRoom (Vault fault) = ⊥
 abbrev pub IsEnterFault : Outside Space → SwizzleFault → Type 0
 IsEnterFault outside fault = IsFetchFault outside fault ⊎ IsNoRoom fault
 
-abbrev pub EntersAt : (ks : Keys) → Place → Place → Option ℕ → ℕ → KeyOf ks → Reference → Result Entered SwizzleFault → Type 0
-EntersAt ks old new root bound key value result = (t : Tree (I ks)) → IsPlace old → IsTree ks old root t → height t < bound
+abbrev pub EntersAt : (ks : Keys) → Place → Place → Option ℕ → ℕ → KeyOf ks → Span → Reference → Result Entered SwizzleFault → Type 0
+EntersAt ks old new root bound key span value result = (t : Tree (I ks)) → IsPlace old → IsTree ks old root t → IsWithin ks old.heap span (items t) → height t < bound
     → MatchResult result (λ entered. Enters ks old new t key value entered) (IsEnterFault old.outside)
 
 -- the tree hasn't the key
@@ -82,5 +88,5 @@ is_missing None = true
 is_missing (Some a) = false
 
 -- It is told whether the key was new to the tree.
-abbrev pub IsCountedAt : (ks : Keys) → Place → Option ℕ → ℕ → KeyOf ks → Result Entered SwizzleFault → Type 0
-IsCountedAt ks old root bound key result = (t : Tree (I ks)) → IsTree ks old root t → height t < bound → IfOk result (λ entered. entered.made ≡ is_missing (lookup (seek (order_by ks) key) t))
+abbrev pub IsCountedAt : (ks : Keys) → Place → Option ℕ → ℕ → KeyOf ks → Span → Result Entered SwizzleFault → Type 0
+IsCountedAt ks old root bound key span result = (t : Tree (I ks)) → IsTree ks old root t → IsWithin ks old.heap span (items t) → height t < bound → IfOk result (λ entered. entered.made ≡ is_missing (lookup (seek (order_by ks) key) t))

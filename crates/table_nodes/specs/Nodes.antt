@@ -1,44 +1,18 @@
 -- The nodes of a table's tree: what is seen of one under a name.
-use Rattle.std.specs.Prelude.{◌≡◌, ◌≢◌, ℕ, zero, suc, List, length, Option, Some, None}
-use Rattle.heap_places.specs.ps_outside.Outside.{Outside, SameContents}
+use Rattle.std.specs.Prelude.{◌≡◌, ◌≢◌, ℕ, zero, suc, List, Option, Some, None}
+use Rattle.heap_places.specs.ps_outside.Outside.{Outside}
 use Rattle.heap_places.specs.obj_layout.Stored.{Space, Holds}
 use Rattle.heap_places.specs.obj_layout.declared.kind.Kind.TheVariants.{Node}
 use Rattle.heap_places.specs.obj_layout.declared.reference.Reference.{Reference}
-use Rattle.heap_places.specs.obj_layout.declared.reference.Reference.TheVariants.{Nil}
 use Rattle.heap_places.specs.swizzle.declared.fault.SwizzleFault.{SwizzleFault}
 use Rattle.heap_places.specs.swizzle.Heap.{Heap, IsHeap, IsHeld, header_at, ref_at, num_at, reference_to}
 use Rattle.heap_places.specs.swizzle.Joint.{Shown, name_at, name_of}
 use Rattle.heap_places.specs.swizzle.Changes.{Within}
-use Rattle.heap_places.specs.swizzle.Reading.{joint}
+use Rattle.heap_places.specs.swizzle.Reading.{joint, LeavesOutside}
 use Rattle.heap_places.specs.swizzle.Touch.{IsTouchFault}
-use Rattle.heap_places.specs.Shapes.{slot_of, word_in}
 use Rattle.avl_trees.specs.Standing.{Row, Rows, IsWritten}
-use Rattle.table_nodes.specs.Keys.{Keys, KeyOf, Seen, IsKey}
-
--- the object that a slot names, if it names one
-abbrev pub link_of : Reference → Option Reference
-link_of Nil = None
-link_of n = Some n
-
-abbrev pub Seat : Keys → Type 0
-Seat ks = Row Reference (KeyOf ks) Reference
-
--- A node has four references, its sides, its key text and its value, and three number words, its home, its int key and its height.
-pub record IsSeat (ks : Keys) (seen : Seen) (it : Shown) (row : Seat ks) : Type 0 where
-  pub kind : it.kind ≡ Node
-  pub refs : length it.refs ≡ 4
-  pub nums : length it.nums ≡ 3
-  pub left : link_of (slot_of it 0) ≡ row.left
-  pub right : link_of (slot_of it 1) ≡ row.right
-  pub key : IsKey ks seen it row.entry.key
-  pub value : slot_of it 3 ≡ row.entry.value
-  pub height : word_in it 2 ≡ row.height
-
--- What is seen under the name is a node with this row.
-pub record HasNode (ks : Keys) (seen : Seen) (n : Reference) (row : Seat ks) : Type 0 where
-  pub it : Shown
-  pub there : seen n it
-  pub is : IsSeat ks seen it row
+use Rattle.node_rows.specs.Keys.{Keys, KeyOf}
+use Rattle.node_rows.specs.Nodes.{Seat, HasNode}
 
 -- the rows that area and vault show together
 abbrev pub rows_in : (ks : Keys) → Heap → Outside Space → Rows Reference (KeyOf ks) Reference
@@ -66,13 +40,14 @@ IsLinked heap None None = Unit {0}
 IsLinked heap (Some at) (Some n) = IsNamed heap at n
 IsLinked heap _ _ = ⊥
 
--- What a touch leaves: what is seen stays, rows among it, and nodes of the area keep their names.
+-- What touches leave: what is seen stays, rows among it, and nodes of the area keep their names. Nothing is output, what a crash may leave and what the
+-- vault holds stay, and no count sinks.
 pub record Grows (old new : Heap) (before after : Outside Space) : Type 0 where
   pub rows : (ks : Keys) (n : Reference) (row : Seat ks) → rows_in ks old before n row → rows_in ks new after n row
   pub nodes : (at : ℕ) → IsNode old at → IsNode new at
   pub named : (at : ℕ) (n : Reference) → IsNamed old at n → IsNamed new at n
   pub heap : IsHeap new
-  pub contents : SameContents before after
+  pub leaves : LeavesOutside before after
   pub seen : Within (joint old before) (joint new after)
 
 abbrev pub side_of : {K : Type 0} → ℕ → Row Reference K Reference → Option Reference

@@ -3,11 +3,14 @@ use Rattle.std.specs.Prelude.{◌≢◌, ℕ, ◌<◌, ◌≤◌, List, Option, 
 use Rattle.heap_places.specs.swizzle.declared.fault.SwizzleFault.{SwizzleFault}
 use Rattle.avl_trees.specs.Trees.{Tree, node, height, items, lookup, remove, least, rest, merge}
 use Rattle.avl_trees.specs.Standing.{Becomes, Taken, root_of, seek}
-use Rattle.table_nodes.specs.Keys.{Keys, KeyOf, order_by}
+use Rattle.node_rows.specs.Keys.{Keys, KeyOf, order_by}
 use Rattle.table_nodes.specs.Nodes.{IsNamed, IsLinked, IsFetchFault}
-use Rattle.table_nodes.specs.Steps.{I, Place, IsPlace, StayBeside, rows_of}
+use Rattle.node_rows.specs.Nodes.{I}
+use Rattle.table_nodes.specs.Steps.{Place, IsPlace, StayBeside, rows_of}
 use Rattle.table_nodes.specs.Searching.{IsTree}
 use Rattle.table_nodes.specs.Entering.{is_missing}
+use Rattle.table_nodes.specs.Spans.{IsWithin}
+use Rattle.table_nodes.specs.declared.span.Span.{Span}
 use Rattle.table_nodes.specs.declared.remove.Least.{Least}
 use Rattle.table_nodes.specs.declared.remove.Removed.{Removed}
 
@@ -36,10 +39,10 @@ Merges old new left right bound result = (ks : Keys) (at : ℕ) (l : Tree (I ks)
     → MatchResult result (Leaves ks old new (items (node l a r)) (merge l r)) (IsFetchFault old.outside)
 
 -- The tree without the key stands now, or a reference's object couldn't be fetched.
-abbrev pub Removes : (ks : Keys) → Place → Place → Option ℕ → ℕ → KeyOf ks → Result Removed SwizzleFault → Type 0
-Removes ks old new root bound key result = (t : Tree (I ks)) → IsPlace old → IsTree ks old root t → height t < bound
+abbrev pub Removes : (ks : Keys) → Place → Place → Option ℕ → ℕ → KeyOf ks → Span → Result Removed SwizzleFault → Type 0
+Removes ks old new root bound key span result = (t : Tree (I ks)) → IsPlace old → IsTree ks old root t → IsWithin ks old.heap span (items t) → height t < bound
     → MatchResult result (λ removed. Leaves ks old new (items t) (remove (seek (order_by ks) key) t) removed.root) (IsFetchFault old.outside)
 
 -- It is told whether the tree had the key.
-abbrev pub IsGoneAt : (ks : Keys) → Place → Option ℕ → ℕ → KeyOf ks → Result Removed SwizzleFault → Type 0
-IsGoneAt ks old root bound key result = (t : Tree (I ks)) → IsTree ks old root t → height t < bound → IfOk result (λ removed. removed.gone ≢ is_missing (lookup (seek (order_by ks) key) t))
+abbrev pub IsGoneAt : (ks : Keys) → Place → Option ℕ → ℕ → KeyOf ks → Span → Result Removed SwizzleFault → Type 0
+IsGoneAt ks old root bound key span result = (t : Tree (I ks)) → IsTree ks old root t → IsWithin ks old.heap span (items t) → height t < bound → IfOk result (λ removed. removed.gone ≢ is_missing (lookup (seek (order_by ks) key) t))

@@ -13,15 +13,15 @@ use Rattle.heap_places.specs.swizzle.Joint.{name_at}
 use Rattle.avl_trees.specs.Rising.{pick}
 use Rattle.avl_trees.specs.Trees.{Tree, leaf, node, height, items, IsBalanced, lookup}
 use Rattle.avl_trees.specs.Standing.{Item, Stands, IsRising, root_of, seek}
-use Rattle.table_nodes.specs.Keys.{Keys, KeyOf, order_by}
-use Rattle.table_nodes.specs.Nodes.{Seat, IsNode, IsNamed, IsLinked, IsFetchFault, rows_in}
-use Rattle.table_nodes.specs.Steps.{I, Place, rows_of}
+use Rattle.node_rows.specs.Keys.{Keys, KeyOf, order_by}
+use Rattle.node_rows.specs.Nodes.{Seat, I, HasValue}
+use Rattle.table_nodes.specs.Nodes.{IsNode, IsNamed, IsLinked, IsFetchFault, rows_in}
+use Rattle.table_nodes.specs.Steps.{Place, rows_of}
+use Rattle.table_nodes.specs.Spans.{HasSought, IsSpan, IsWithin}
+use Rattle.table_nodes.specs.declared.keys.Key.{Key}
+use Rattle.table_nodes.specs.declared.span.Span.{Span}
 use Rattle.table_nodes.specs.declared.search.Step.{Step}
 use Rattle.table_nodes.specs.declared.search.Step.TheVariants.{Found, Down}
-
--- no pair has nil for its value
-abbrev pub HasValue : {K : Type 0} → Item Reference K Reference → Type 0
-HasValue a = a.entry.value ≢ Nil
 
 -- From this place on a search tree stands, and each of its keys has a value.
 pub record IsTree (ks : Keys) (p : Place) (root : Option ℕ) (t : Tree (I ks)) : Type 0 where
@@ -50,17 +50,18 @@ ReadsValue old new outside at result = (ks : Keys) (n : Reference) (row : Seat k
 -- at a node, the key was found, or it is sought on this side
 abbrev pub IsStep : (ks : Keys) → Heap → KeyOf ks → Tree (I ks) → I ks → Tree (I ks) → Step → Type 0
 IsStep ks heap key x b y Found = order_by ks key b.entry.key ≡ Equal
-IsStep ks heap key x b y (Down side) =
-    ((order_by ks key b.entry.key ≡ Less) × IsLinked heap side (root_of x)) ⊎ ((order_by ks key b.entry.key ≡ Greater) × IsLinked heap side (root_of y))
+IsStep ks heap key x b y (Down way) =
+    ((order_by ks key b.entry.key ≡ Less) × IsLinked heap way.side (root_of x) × IsWithin ks heap way.span (items x))
+    ⊎ ((order_by ks key b.entry.key ≡ Greater) × IsLinked heap way.side (root_of y) × IsWithin ks heap way.span (items y))
 
-abbrev pub StepsAt : (ks : Keys) → Place → Heap → ℕ → KeyOf ks → Result Step SwizzleFault → Type 0
-StepsAt ks old new at key result = (x : Tree (I ks)) (b : I ks) (y : Tree (I ks)) → Stands (rows_of ks old) (node x b y) → IsNamed old.heap at b.name
-    → MatchResult result (IsStep ks new key x b y) (IsFetchFault old.outside)
+abbrev pub StepsAt : (ks : Keys) → Place → Heap → ℕ → KeyOf ks → Span → Result Step SwizzleFault → Type 0
+StepsAt ks old new at key span result = (x : Tree (I ks)) (b : I ks) (y : Tree (I ks)) → Stands (rows_of ks old) (node x b y) → IsNamed old.heap at b.name
+    → IsRising (order_by ks) (node x b y) → IsWithin ks old.heap span (items (node x b y)) → MatchResult result (IsStep ks new key x b y) (IsFetchFault old.outside)
 
--- a side where a key is sought is a node of the area
-abbrev pub IsDown : Heap → Step → Type 0
-IsDown heap Found = Unit {0}
-IsDown heap (Down side) = IfSome side (IsNode heap)
+-- A node where a key was found has it; a side where it is sought is a node of the area, and the ends of the span there are keys of nodes.
+abbrev pub IsDown : Heap → ℕ → Key → Step → Type 0
+IsDown heap at key Found = HasSought heap at key
+IsDown heap at key (Down way) = IfSome way.side (IsNode heap) × IsSpan heap way.span
 
 -- The value of a key in a tree that is lower than the bound is answered, none where the tree hasn't the key, or a reference's object couldn't be fetched.
 abbrev pub Finds : (ks : Keys) → Place → Heap → Option ℕ → ℕ → KeyOf ks → Result (Option ℕ) SwizzleFault → Type 0
@@ -79,4 +80,4 @@ Charges ks old root bound key before after result = (t : Tree (I ks)) → IsTree
 -- how many nodes come at a step, at most
 abbrev pub came_by : Step → ℕ
 came_by Found = 0
-came_by (Down side) = 1
+came_by (Down way) = 1

@@ -1,6 +1,5 @@
 -- A key that is sought, and how it stands to the keys of nodes.
 use Rattle.std.specs.Prelude.{◌≡◌, ℕ, ℤ, true, Result, Ok, MatchResult}
-use Rattle.std.specs.declared.cmp.Ordering.{Ordering}
 use Rattle.heap_places.specs.ps_outside.Outside.{Outside}
 use Rattle.heap_places.specs.ps_heap.Operators.{is_int}
 use Rattle.heap_places.specs.obj_layout.Stored.{Space}
@@ -11,8 +10,15 @@ use Rattle.heap_places.specs.swizzle.Heap.{Heap, IsHeld, header_at}
 use Rattle.heap_places.specs.swizzle.Text.{text_at}
 use Rattle.table_nodes.specs.declared.keys.Key.{Key}
 use Rattle.table_nodes.specs.declared.keys.Key.TheVariants.{Int, Text}
-use Rattle.table_nodes.specs.Keys.{Keys, by_ints, by_texts, KeyOf, order_by}
-use Rattle.table_nodes.specs.Nodes.{Seat, IsNamed, IsFetchFault, rows_in}
+use Rattle.table_nodes.specs.declared.keys.KeyKind.{KeyKind}
+use Rattle.table_nodes.specs.declared.keys.KeyKind.TheVariants.{Ints, Texts}
+use Rattle.node_rows.specs.Keys.{Keys, by_ints, by_texts, KeyOf}
+use Rattle.node_rows.specs.Nodes.{Seat}
+use Rattle.table_nodes.specs.Nodes.{IsNamed, IsFetchFault, rows_in}
+
+abbrev pub keys_of : KeyKind → Keys
+keys_of Ints = by_ints
+keys_of Texts = by_texts
 
 abbrev pub kind_of : Key → Keys
 kind_of (Int value) = by_ints
@@ -41,8 +47,3 @@ ReadsInt heap outside at result = (n : Reference) (row : Seat by_ints) → IsNam
 abbrev pub ReadsText : Heap → Heap → Outside Space → ℕ → Result ℕ SwizzleFault → Type 0
 ReadsText old new outside at result = (n : Reference) (row : Seat by_texts) → IsNamed old at n → rows_in by_texts old outside n row
     → MatchResult result (λ text. text_at new text ≡ row.entry.key) (IsFetchFault outside)
-
--- How a key stands to that of a node that stands is answered, or the node's key couldn't be fetched.
-abbrev pub OrdersAt : (ks : Keys) → Heap → Outside Space → ℕ → KeyOf ks → Result Ordering SwizzleFault → Type 0
-OrdersAt ks heap outside at key result = (n : Reference) (row : Seat ks) → IsNamed heap at n → rows_in ks heap outside n row
-    → MatchResult result (λ order. order ≡ order_by ks key row.entry.key) (IsFetchFault outside)

@@ -7,9 +7,10 @@ use Rattle.heap_places.specs.swizzle.Heap.{Heap, IsHeap}
 use Rattle.heap_places.specs.swizzle.Joint.{Shown, name_at}
 use Rattle.heap_places.specs.swizzle.Reading.{joint}
 use Rattle.avl_trees.specs.Trees.{Tree, height, items, node}
-use Rattle.avl_trees.specs.Standing.{Item, Rows, Given, Becomes, IsApart, root_of}
-use Rattle.table_nodes.specs.Keys.{Keys, KeyOf, order_by}
+use Rattle.avl_trees.specs.Standing.{Rows, Given, Becomes, IsApart, root_of}
+use Rattle.node_rows.specs.Keys.{Keys, KeyOf, order_by}
 use Rattle.table_nodes.specs.Nodes.{IsNode, IsNamed, IsLinked, IsSingle, Grows, rows_in}
+use Rattle.node_rows.specs.Nodes.{I}
 
 -- the area and what is seen of the outside
 pub record Place : Type 1 where
@@ -25,9 +26,6 @@ rows_of ks p = rows_in ks p.heap p.outside
 pub record IsPlace (p : Place) : Type 0 where
   pub heap : IsHeap p.heap
   pub single : IsSingle p.outside
-
-abbrev pub I : Keys → Type 0
-I ks = Item Reference (KeyOf ks) Reference
 
 -- Two trees and a node between them are at these places.
 pub record AreSides (ks : Keys) (p : Place) (at : ℕ) (left right : Option ℕ) (l : Tree (I ks)) (a : I ks) (r : Tree (I ks)) : Type 0 where

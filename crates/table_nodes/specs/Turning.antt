@@ -1,8 +1,9 @@
 -- What a turn does, where a side of a node is higher by two, and what balancing a node does.
 use Rattle.std.specs.Prelude.{ℕ, ◌+◌, ◌<◌, ◌∷◌, ◌++◌, Option, Some}
 use Rattle.avl_trees.specs.Trees.{Tree, height, items, node, lean_inner, lean_outer, lean_left, lean_right, balance}
-use Rattle.table_nodes.specs.Keys.{Keys}
-use Rattle.table_nodes.specs.Steps.{I, Place, AreSides, AreTurned, AreTurnedOut, StandsAt}
+use Rattle.node_rows.specs.Keys.{Keys}
+use Rattle.node_rows.specs.Nodes.{I}
+use Rattle.table_nodes.specs.Steps.{Place, AreSides, AreTurned, AreTurnedOut, StandsAt}
 use Rattle.table_nodes.specs.Wings.{AreEnds, IsLeftWing, IsRightWing}
 use Rattle.table_nodes.specs.declared.sides.Sides.{Sides}
 use Rattle.table_nodes.specs.declared.wing.Wing.{Wing}

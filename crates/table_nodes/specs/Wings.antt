@@ -1,15 +1,14 @@
 -- What a turn looks at: the sides of the side that goes up, and those of its own inner side.
-use Rattle.std.specs.Prelude.{◌≡◌, ◌≢◌, ℕ, ◌+◌, ◌-◌, ◌*◌, ◌<◌, Option, Some, None, Result, IfSome, MatchResult}
-use Rattle.heap_places.specs.ps_outside.Outside.{Outside}
-use Rattle.heap_places.specs.obj_layout.Stored.{Space}
+use Rattle.std.specs.Prelude.{ℕ, ◌<◌, Option, Some, None, Result, IfSome, MatchResult}
 use Rattle.heap_places.specs.obj_layout.declared.reference.Reference.{Reference}
 use Rattle.heap_places.specs.swizzle.declared.fault.SwizzleFault.{SwizzleFault}
 use Rattle.heap_places.specs.swizzle.Heap.{Heap}
 use Rattle.avl_trees.specs.Trees.{Tree, leaf, node, height}
 use Rattle.avl_trees.specs.Standing.{Item, Stands, root_of}
-use Rattle.table_nodes.specs.Keys.{Keys}
+use Rattle.node_rows.specs.Keys.{Keys}
 use Rattle.table_nodes.specs.Nodes.{IsNode, IsNamed, IsLinked, IsFetchFault}
-use Rattle.table_nodes.specs.Steps.{I, Place, rows_of}
+use Rattle.node_rows.specs.Nodes.{I}
+use Rattle.table_nodes.specs.Steps.{Place, rows_of}
 use Rattle.table_nodes.specs.declared.sides.Sides.{Sides}
 use Rattle.table_nodes.specs.declared.wing.Wing.{Wing}
 use Rattle.table_nodes.specs.declared.ready.Ready.{Ready}

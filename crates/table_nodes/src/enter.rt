@@ -1,4 +1,4 @@
-ghost use Rattle.std.specs.Prelude.{◌≡◌, ◌≤◌, ◌*◌, Some, None, OnOk, OnErr, IfOk, IfSome};
+ghost use Rattle.std.specs.Prelude.{◌≡◌, ◌≤◌, ◌*◌, Some, None, OnOk, OnErr, IfOk, IfSome, IfErr};
 ghost use Rattle.heap_places.specs.ps_outside.Outside.{SameContents};
 ghost use Rattle.heap_places.specs.swizzle.Heap.{IsHeld};
 ghost use Rattle.heap_places.specs.swizzle.Joint.{name_at};
@@ -7,16 +7,19 @@ ghost use Rattle.table_nodes.specs.Bringing.{Brings, NoneCome};
 ghost use Rattle.table_nodes.specs.Entering.{EntersAt, IsCountedAt};
 ghost use Rattle.table_nodes.specs.Nodes.{IsNode};
 ghost use Rattle.table_nodes.specs.Sought.{IsKeyHeld, kind_of, key_in};
+ghost use Rattle.table_nodes.specs.Spans.{IsSpan};
 ghost use Rattle.table_nodes.specs.Sparing.{Spares};
 ghost use Rattle.table_nodes.specs.Steps.{place, Holds};
 ghost use Rattle.table_nodes.specs.Turning.{Balances};
 ghost use Rattle.table_nodes.specs.Wings.{IsWingHeld};
+ghost use Rattle.table_nodes.specs.Faults.{IsChangeFault};
 
 use crate::keys::Key;
 use crate::make::make_node;
 use crate::nodes::{height, put};
 use crate::opening::open_node;
 use crate::sides::Sides;
+use crate::span::Span;
 use crate::turns::balance;
 use crate::wing::{Wing, unknown};
 use heap_places::obj_layout::vault::Vault;
@@ -120,13 +123,15 @@ fn with_right<V: Vault>(
 }
 
 /// Enters a key with a value into the tree of a root: a new node where the tree hasn't the key, else the value of its node is replaced. It goes
-/// down by calls, each for a lower height than the one before, so at most `bound` deep. All that can fail comes before the first write.
+/// down by calls, each for a lower height than the one before, so at most `bound` deep, and the keys on its way lie in the span, else a node is damaged.
+/// All that can fail comes before the first write.
 pub fn enter<V: Vault>(
     sw: &mut Swizzle,
     vault: &mut V,
     root: Option<u32>,
     bound: u64,
     key: Key,
+    span: Span,
     value: u32,
 ) -> Result<Entered, SwizzleFault>
     requires alive { V.alive vault.old }
@@ -134,9 +139,10 @@ pub fn enter<V: Vault>(
     requires some { 1 ≤ bound }
     requires bound { bound ≤ 200 }
     requires key { IsKeyHeld sw.old key }
+    requires span { IsSpan sw.old span }
     requires value { IsHeld sw.old value }
-    ensures entered { EntersAt (kind_of key) (place sw.old (V.outside vault.old)) (place sw.new (V.outside vault.new)) root bound (key_in sw.old key) (name_at sw.old value) result }
-    ensures counted { IsCountedAt (kind_of key) (place sw.old (V.outside vault.old)) root bound (key_in sw.old key) result }
+    ensures entered { EntersAt (kind_of key) (place sw.old (V.outside vault.old)) (place sw.new (V.outside vault.new)) root bound (key_in sw.old key) span (name_at sw.old value) result }
+    ensures counted { IsCountedAt (kind_of key) (place sw.old (V.outside vault.old)) root bound (key_in sw.old key) span result }
     ensures root { IfOk result (λ entered. IsNode sw.new entered.root) }
     ensures known { IfOk result (λ entered. IsWingHeld sw.new entered.wing) }
     ensures held { OnOk result (Holds sw.old sw.new) }
@@ -144,6 +150,7 @@ pub fn enter<V: Vault>(
     ensures still { OnErr result (Keeps sw.old sw.new) }
     ensures brings { Brings sw.old sw.new (3 * bound) }
     ensures contents { OnOk result (SameContents (V.outside vault.old) (V.outside vault.new)) }
+    ensures fault { IfErr result (IsChangeFault (V.outside vault.old) (V.outside vault.new) sw.new) }
     ensures alive { OnOk result (V.alive vault.new) }
 {
     let Some(at) = root else {
@@ -167,12 +174,12 @@ pub fn enter<V: Vault>(
     if height == 0 || height >= bound {
         return Err(damaged(sw, at, height, bound));
     }
-    let opened = match open_node(sw, vault, at, key) {
+    let opened = match open_node(sw, vault, at, key, span) {
         Ok(opened) => opened,
         Err(fault) => return Err(fault),
     };
     match opened.order {
-        Ordering::Less => match enter(sw, vault, opened.left, height, key, value) {
+        Ordering::Less => match enter(sw, vault, opened.left, height, key, opened.span, value) {
             Ok(left) => Ok(with_left(sw, &*vault, at, left, opened.right)),
             Err(fault) => Err(fault),
         },
@@ -184,7 +191,7 @@ pub fn enter<V: Vault>(
                 wing: unknown(),
             })
         }
-        Ordering::Greater => match enter(sw, vault, opened.right, height, key, value) {
+        Ordering::Greater => match enter(sw, vault, opened.right, height, key, opened.span, value) {
             Ok(right) => Ok(with_right(sw, &*vault, at, opened.left, right)),
             Err(fault) => Err(fault),
         },

@@ -1,8 +1,13 @@
-ghost use Rattle.std.specs.Prelude.{◌≡◌, OnOk, OnErr, IfOk, MatchResult};
+ghost use Rattle.std.specs.Prelude.{◌≡◌, Some, OnOk, OnErr, IfOk, MatchResult, IfErr};
+ghost use Rattle.heap_places.specs.Shapes.{slot_of};
+ghost use Rattle.heap_places.specs.Words.{int_in};
+ghost use Rattle.heap_places.specs.swizzle.Heap.{num_at};
+ghost use Rattle.heap_places.specs.swizzle.Joint.{name_at, shown_at};
 ghost use Rattle.heap_places.specs.swizzle.Touch.{Keeps};
 ghost use Rattle.table_nodes.specs.Bringing.{Brings};
 ghost use Rattle.table_nodes.specs.Nodes.{IsNode, Grows};
-ghost use Rattle.table_nodes.specs.Sought.{IsKeyHeld, IsTextHeld, OrdersAt, ReadsInt, ReadsText, kind_of, key_in};
+ghost use Rattle.table_nodes.specs.Sought.{IsTextHeld, ReadsInt, ReadsText, keys_of, kind_of};
+ghost use Rattle.table_nodes.specs.Faults.{IsNodeFault};
 
 use heap_places::obj_layout::kind::Kind;
 use heap_places::obj_layout::vault::Vault;
@@ -10,8 +15,6 @@ use heap_places::places::damaged;
 use heap_places::swizzle::fault::SwizzleFault;
 use heap_places::swizzle::swizzle::Swizzle;
 use heap_places::words::int_of_word;
-use std::cmp::Ordering;
-use text_ops::operators::compare;
 
 // One more than the greatest int.
 const INT_BOUND: u64 = 1 << 31;
@@ -23,10 +26,29 @@ pub enum Key {
     Text(u32),
 }
 
+/// Of which kind keys are.
+#[derive(Clone, Copy)]
+pub enum KeyKind {
+    Ints,
+    Texts,
+}
+
+/// The kind of a key.
+pub fn kind_of_key(key: Key) -> KeyKind
+    ensures { keys_of result ≡ kind_of key }
+{
+    match key {
+        Key::Int(_) => KeyKind::Ints,
+        Key::Text(_) => KeyKind::Texts,
+    }
+}
+
 /// The int key of a node.
 pub fn int_key<V: Vault>(sw: &Swizzle, vault: &V, at: u32) -> Result<i32, SwizzleFault>
     requires node { IsNode sw.now at }
-    ensures { ReadsInt sw.now (V.outside vault.now) at result }
+    ensures read { ReadsInt sw.now (V.outside vault.now) at result }
+    ensures word { IfOk result (λ value. int_in (num_at sw.now at 1) ≡ Some value) }
+    ensures fault { IfErr result (IsNodeFault (V.outside vault.now) (V.outside vault.now) sw.now) }
 {
     let _ = vault;
     sw.sound();
@@ -42,11 +64,13 @@ pub fn text_key<V: Vault>(sw: &mut Swizzle, vault: &mut V, at: u32) -> Result<u3
     requires alive { V.alive vault.old }
     requires node { IsNode sw.old at }
     ensures held { IfOk result (IsTextHeld sw.new) }
+    ensures slot { IfOk result (λ text. slot_of (shown_at sw.new at) 2 ≡ name_at sw.new text) }
     ensures read { ReadsText sw.old sw.new (V.outside vault.old) at result }
     ensures grows { OnOk result (Grows sw.old sw.new (V.outside vault.old) (V.outside vault.new)) }
     ensures keeps { OnOk result (Keeps sw.old sw.new) }
     ensures still { OnErr result (Keeps sw.old sw.new) }
     ensures brings { MatchResult result (λ answer. Brings sw.old sw.new 0) (λ fault. Brings sw.old sw.new 1) }
+    ensures fault { IfErr result (IsNodeFault (V.outside vault.old) (V.outside vault.new) sw.new) }
     ensures alive { OnOk result (V.alive vault.new) }
 {
     sw.sound();
@@ -65,35 +89,5 @@ pub fn text_key<V: Vault>(sw: &mut Swizzle, vault: &mut V, at: u32) -> Result<u3
             Err(damaged(sw, at, 0, 1))
         }
         Err(fault) => Err(fault),
-    }
-}
-
-/// How a sought key stands to that of a node. The text of the node's key is fetched where it isn't in the area.
-pub fn order<V: Vault>(
-    sw: &mut Swizzle,
-    vault: &mut V,
-    at: u32,
-    key: Key,
-) -> Result<Ordering, SwizzleFault>
-    requires alive { V.alive vault.old }
-    requires node { IsNode sw.old at }
-    requires key { IsKeyHeld sw.old key }
-    ensures ordered { OrdersAt (kind_of key) sw.old (V.outside vault.old) at (key_in sw.old key) result }
-    ensures grows { OnOk result (Grows sw.old sw.new (V.outside vault.old) (V.outside vault.new)) }
-    ensures keeps { OnOk result (Keeps sw.old sw.new) }
-    ensures still { OnErr result (Keeps sw.old sw.new) }
-    ensures brings { MatchResult result (λ answer. Brings sw.old sw.new 0) (λ fault. Brings sw.old sw.new 1) }
-    ensures alive { OnOk result (V.alive vault.new) }
-{
-    sw.sound();
-    match key {
-        Key::Int(value) => match int_key(sw, &*vault, at) {
-            Ok(int) => Ok(value.cmp(&int)),
-            Err(fault) => Err(fault),
-        },
-        Key::Text(text) => match text_key(sw, vault, at) {
-            Ok(other) => Ok(compare(sw, text, other)),
-            Err(fault) => Err(fault),
-        },
     }
 }

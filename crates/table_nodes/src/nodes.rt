@@ -1,13 +1,17 @@
 ghost use Rattle.std.specs.Prelude.{◌≡◌, ◌⊎◌, ℕ, ◌<◌, ◌≤◌, true, false, None, Some, IfOk, IfErr, IfSome, OnOk, OnErr};
 ghost use Rattle.heap_places.specs.obj_layout.declared.reference.Reference.{Reference as Name};
-ghost use Rattle.heap_places.specs.swizzle.Heap.{IsHeld, IsListed};
+ghost use Rattle.heap_places.specs.swizzle.Heap.{IsHeld, IsListed, num_at};
+ghost use Rattle.heap_places.specs.swizzle.Joint.{name_at, shown_at};
 ghost use Rattle.heap_places.specs.swizzle.Touch.{Keeps};
+ghost use Rattle.heap_places.specs.Shapes.{slot_of};
 ghost use Rattle.table_nodes.specs.Bringing.{Brings, NoneCome};
-ghost use Rattle.table_nodes.specs.Nodes.{IsNode, IsNamed, IsLinked, IsSide, IsSlot, HasSides, Seat, Grows, Links, IsFetchFault, rows_in, side_of};
+ghost use Rattle.node_rows.specs.Nodes.{Seat};
+ghost use Rattle.table_nodes.specs.Nodes.{IsNode, IsNamed, IsLinked, IsSide, IsSlot, HasSides, Grows, Links, IsFetchFault, rows_in, side_of};
 ghost use Rattle.table_nodes.specs.Entering.{Puts};
-ghost use Rattle.table_nodes.specs.Keys.{Keys};
+ghost use Rattle.node_rows.specs.Keys.{Keys};
 ghost use Rattle.table_nodes.specs.Searching.{ReadsValue};
 ghost use Rattle.table_nodes.specs.Sparing.{Spares};
+ghost use Rattle.table_nodes.specs.Faults.{IsNodeFault};
 
 use heap_places::obj_layout::kind::Kind;
 use heap_places::obj_layout::reference::Reference;
@@ -29,6 +33,7 @@ pub fn is_node(sw: &Swizzle, at: u32) -> bool
 pub fn height<V: Vault>(sw: &Swizzle, vault: &V, side: Option<u32>) -> u64
     requires { IfSome side (IsNode sw.now) }
     ensures none { side ≡ None → result ≡ 0 }
+    ensures word { (at : ℕ) → side ≡ Some at → result ≡ num_at sw.now at 2 }
     ensures some { (ks : Keys) (at : ℕ) (n : Name) (row : Seat ks) → side ≡ Some at → IsNamed sw.now at n → rows_in ks sw.now (V.outside vault.now) n row → result ≡ row.height }
 {
     let _ = vault;
@@ -56,6 +61,7 @@ pub fn side<V: Vault>(
     ensures keeps { OnOk result (Keeps sw.old sw.new) }
     ensures still { OnErr result (Keeps sw.old sw.new) }
     ensures brings { Brings sw.old sw.new 1 }
+    ensures fault { IfErr result (IsNodeFault (V.outside vault.old) (V.outside vault.new) sw.new) }
     ensures alive { OnOk result (V.alive vault.new) }
 {
     sw.sound();
@@ -81,11 +87,13 @@ pub fn value<V: Vault>(sw: &mut Swizzle, vault: &mut V, at: u32) -> Result<u32, 
     requires alive { V.alive vault.old }
     requires node { IsNode sw.old at }
     ensures held { IfOk result (IsHeld sw.new) }
+    ensures slot { IfOk result (λ value. slot_of (shown_at sw.new at) 3 ≡ name_at sw.new value) }
     ensures read { ReadsValue sw.old sw.new (V.outside vault.old) at result }
     ensures grows { OnOk result (Grows sw.old sw.new (V.outside vault.old) (V.outside vault.new)) }
     ensures keeps { OnOk result (Keeps sw.old sw.new) }
     ensures still { OnErr result (Keeps sw.old sw.new) }
     ensures brings { Brings sw.old sw.new 1 }
+    ensures fault { IfErr result (IsNodeFault (V.outside vault.old) (V.outside vault.new) sw.new) }
     ensures alive { OnOk result (V.alive vault.new) }
 {
     sw.sound();

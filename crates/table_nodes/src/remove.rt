@@ -1,16 +1,19 @@
-ghost use Rattle.std.specs.Prelude.{◌≤◌, ◌+◌, ◌*◌, OnOk, OnErr, IfOk, IfSome};
+ghost use Rattle.std.specs.Prelude.{◌≤◌, ◌+◌, ◌*◌, OnOk, OnErr, IfOk, IfSome, IfErr};
 ghost use Rattle.heap_places.specs.ps_outside.Outside.{SameContents};
 ghost use Rattle.heap_places.specs.swizzle.Touch.{Keeps};
 ghost use Rattle.table_nodes.specs.Bringing.{Brings};
 ghost use Rattle.table_nodes.specs.Nodes.{IsNode};
 ghost use Rattle.table_nodes.specs.Removing.{IsGoneAt, Merges, Removes, TakesLeast};
 ghost use Rattle.table_nodes.specs.Sought.{IsKeyHeld, kind_of, key_in};
+ghost use Rattle.table_nodes.specs.Spans.{IsSpan};
 ghost use Rattle.table_nodes.specs.Sparing.{Spares};
 ghost use Rattle.table_nodes.specs.Steps.{place, Holds};
+ghost use Rattle.table_nodes.specs.Faults.{IsNodeFault};
 
 use crate::keys::Key;
 use crate::nodes::height;
 use crate::opening::open_node;
+use crate::span::Span;
 use crate::turns::balance;
 use crate::wings::{open_left, open_right, open_sides};
 use heap_places::obj_layout::vault::Vault;
@@ -44,6 +47,7 @@ fn take_least<V: Vault>(
     ensures still { OnErr result (Keeps sw.old sw.new) }
     ensures brings { Brings sw.old sw.new (3 * bound) }
     ensures contents { OnOk result (SameContents (V.outside vault.old) (V.outside vault.new)) }
+    ensures fault { IfErr result (IsNodeFault (V.outside vault.old) (V.outside vault.new) sw.new) }
     ensures alive { OnOk result (V.alive vault.new) }
 {
     let height = height(sw, &*vault, Some(at));
@@ -95,6 +99,7 @@ fn merge_sides<V: Vault>(
     ensures still { OnErr result (Keeps sw.old sw.new) }
     ensures brings { Brings sw.old sw.new (3 * bound + 1) }
     ensures contents { OnOk result (SameContents (V.outside vault.old) (V.outside vault.new)) }
+    ensures fault { IfErr result (IsNodeFault (V.outside vault.old) (V.outside vault.new) sw.new) }
     ensures alive { OnOk result (V.alive vault.new) }
 {
     let Some(above) = right else {
@@ -123,26 +128,30 @@ pub struct Removed {
 }
 
 /// Takes a key out of the tree of a root, where the tree has it: its node is unlinked, and the next one takes its place. It goes down by calls,
-/// each for a lower height than the one before, so at most `bound` deep. All that can fail comes before the first write.
+/// each for a lower height than the one before, so at most `bound` deep, and the keys on its way to that of the key lie in the span, else a node is
+/// damaged. All that can fail comes before the first write.
 pub fn remove<V: Vault>(
     sw: &mut Swizzle,
     vault: &mut V,
     root: Option<u32>,
     bound: u64,
     key: Key,
+    span: Span,
 ) -> Result<Removed, SwizzleFault>
     requires alive { V.alive vault.old }
     requires root { IfSome root (IsNode sw.old) }
     requires bound { bound ≤ 200 }
     requires key { IsKeyHeld sw.old key }
-    ensures removed { Removes (kind_of key) (place sw.old (V.outside vault.old)) (place sw.new (V.outside vault.new)) root bound (key_in sw.old key) result }
-    ensures counted { IsGoneAt (kind_of key) (place sw.old (V.outside vault.old)) root bound (key_in sw.old key) result }
+    requires span { IsSpan sw.old span }
+    ensures removed { Removes (kind_of key) (place sw.old (V.outside vault.old)) (place sw.new (V.outside vault.new)) root bound (key_in sw.old key) span result }
+    ensures counted { IsGoneAt (kind_of key) (place sw.old (V.outside vault.old)) root bound (key_in sw.old key) span result }
     ensures root { IfOk result (λ removed. IfSome removed.root (IsNode sw.new)) }
     ensures held { OnOk result (Holds sw.old sw.new) }
     ensures spares { OnOk result (Spares sw.old sw.new (V.outside vault.old) (V.outside vault.new)) }
     ensures still { OnErr result (Keeps sw.old sw.new) }
     ensures brings { Brings sw.old sw.new (3 * bound) }
     ensures contents { OnOk result (SameContents (V.outside vault.old) (V.outside vault.new)) }
+    ensures fault { IfErr result (IsNodeFault (V.outside vault.old) (V.outside vault.new) sw.new) }
     ensures alive { OnOk result (V.alive vault.new) }
 {
     let Some(at) = root else {
@@ -155,7 +164,7 @@ pub fn remove<V: Vault>(
     if height == 0 || height >= bound {
         return Err(damaged(sw, at, height, bound));
     }
-    let opened = match open_node(sw, vault, at, key) {
+    let opened = match open_node(sw, vault, at, key, span) {
         Ok(opened) => opened,
         Err(fault) => return Err(fault),
     };
@@ -165,7 +174,7 @@ pub fn remove<V: Vault>(
                 Ok(ready) => ready,
                 Err(fault) => return Err(fault),
             };
-            match remove(sw, vault, opened.left, ready.bound, key) {
+            match remove(sw, vault, opened.left, ready.bound, key, opened.span) {
                 Ok(left) => {
                     let root = balance(sw, &*vault, at, left.root, opened.right, ready.wing);
                     Ok(Removed {
@@ -185,7 +194,7 @@ pub fn remove<V: Vault>(
                 Ok(ready) => ready,
                 Err(fault) => return Err(fault),
             };
-            match remove(sw, vault, opened.right, ready.bound, key) {
+            match remove(sw, vault, opened.right, ready.bound, key, opened.span) {
                 Ok(right) => {
                     let root = balance(sw, &*vault, at, opened.left, right.root, ready.wing);
                     Ok(Removed {

@@ -1,9 +1,10 @@
-ghost use Rattle.std.specs.Prelude.{◌≡◌, ◌≤◌, ◌+◌, ◌*◌, ◌-◌, IfOk, IfSome, OnOk, OnErr, MatchResult};
+ghost use Rattle.std.specs.Prelude.{◌≡◌, ◌≤◌, ◌+◌, ◌*◌, ◌-◌, IfOk, IfSome, OnOk, OnErr, MatchResult, IfErr};
 ghost use Rattle.heap_places.specs.swizzle.Touch.{Keeps};
 ghost use Rattle.table_nodes.specs.Bringing.{Brings};
 ghost use Rattle.table_nodes.specs.Nodes.{IsNode, Grows};
 ghost use Rattle.table_nodes.specs.Steps.{place};
 ghost use Rattle.table_nodes.specs.Wings.{AreHeld, IsLeftWing, IsRightWing, IsWingHeld, OpensEnds, OpensInner, OpensWing};
+ghost use Rattle.table_nodes.specs.Faults.{IsNodeFault};
 
 use crate::nodes::{height, side};
 use crate::ready::Ready;
@@ -24,6 +25,7 @@ pub fn open_sides<V: Vault>(sw: &mut Swizzle, vault: &mut V, at: u32) -> Result<
     ensures keeps { OnOk result (Keeps sw.old sw.new) }
     ensures still { OnErr result (Keeps sw.old sw.new) }
     ensures brings { Brings sw.old sw.new 2 }
+    ensures fault { IfErr result (IsNodeFault (V.outside vault.old) (V.outside vault.new) sw.new) }
     ensures alive { OnOk result (V.alive vault.new) }
 {
     let left = match side(sw, vault, at, 0) {
@@ -53,6 +55,7 @@ fn open_inner<V: Vault>(
     ensures keeps { OnOk result (Keeps sw.old sw.new) }
     ensures still { OnErr result (Keeps sw.old sw.new) }
     ensures brings { Brings sw.old sw.new 2 }
+    ensures fault { IfErr result (IsNodeFault (V.outside vault.old) (V.outside vault.new) sw.new) }
     ensures alive { OnOk result (V.alive vault.new) }
 {
     sw.sound();
@@ -87,6 +90,7 @@ pub fn open_left<V: Vault>(
     ensures keeps { OnOk result (Keeps sw.old sw.new) }
     ensures still { OnErr result (Keeps sw.old sw.new) }
     ensures brings { MatchResult result (λ ready. Brings sw.old sw.new (3 * bound + 1 - 3 * ready.bound)) (λ fault. Brings sw.old sw.new 4) }
+    ensures fault { IfErr result (IsNodeFault (V.outside vault.old) (V.outside vault.new) sw.new) }
     ensures alive { OnOk result (V.alive vault.new) }
 {
     sw.sound();
@@ -142,6 +146,7 @@ pub fn open_right<V: Vault>(
     ensures keeps { OnOk result (Keeps sw.old sw.new) }
     ensures still { OnErr result (Keeps sw.old sw.new) }
     ensures brings { MatchResult result (λ ready. Brings sw.old sw.new (3 * bound + 1 - 3 * ready.bound)) (λ fault. Brings sw.old sw.new 4) }
+    ensures fault { IfErr result (IsNodeFault (V.outside vault.old) (V.outside vault.new) sw.new) }
     ensures alive { OnOk result (V.alive vault.new) }
 {
     sw.sound();

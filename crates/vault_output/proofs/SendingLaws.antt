@@ -5,9 +5,9 @@ use Rattle.std.proofs.lemmas.List.{append-nil, take-append-drop, replicate-appen
 use Rattle.obj_layout.specs.ps_outside.Outside.{Outside, Adds, AddsPrefix, TellsPrefix, ToldAll, SameContents, Rose}
 use Rattle.obj_layout.proofs.of_ps_outside.Moments.{along_none, along_then, along_now, along_weaker}
 use Rattle.obj_layout.specs.declared.vault.VaultFault.{VaultFault}
-use Rattle.obj_layout.specs.declared.vault.VaultFault.TheVariants.{Device, Output, Full, Damaged}
+use Rattle.obj_layout.specs.declared.vault.VaultFault.TheVariants.{Device, Output, Full, NoPages, Damaged}
 use Rattle.obj_layout.specs.Stored.{Space}
-use Rattle.obj_layout.specs.Storing.{Puts, NeverFull, NeverDamaged}
+use Rattle.obj_layout.specs.Storing.{Puts, NeverFull, NeverLacksPages, NeverDamaged}
 use Rattle.vault_output.specs.Sending.{Sends, left_of}
 
 -- nothing more than some that had been output
@@ -171,13 +171,14 @@ sends-all a b due owed bytes is told =
     }
 
 -- an output's fault is the only one
-pub only-output : {T : Type 0} (result : Result T VaultFault) → result ≢ Err Device → NeverFull result → NeverDamaged result
+pub only-output : {T : Type 0} (result : Result T VaultFault) → result ≢ Err Device → NeverFull result → NeverLacksPages result → NeverDamaged result
     → IfErr result (λ fault. fault ≡ Output)
-only-output (Ok x) device full damaged = tt
-only-output (Err Device) device full damaged = absurd (device refl)
-only-output (Err Output) device full damaged = refl
-only-output (Err (Full used wanted capacity)) device full damaged = absurd (full used wanted capacity refl)
-only-output (Err (Damaged at found wanted)) device full damaged = absurd (damaged at found wanted refl)
+only-output (Ok x) device full pages damaged = tt
+only-output (Err Device) device full pages damaged = absurd (device refl)
+only-output (Err Output) device full pages damaged = refl
+only-output (Err (Full used wanted capacity)) device full pages damaged = absurd (full used wanted capacity refl)
+only-output (Err (NoPages held wanted all)) device full pages damaged = absurd (pages held wanted all refl)
+only-output (Err (Damaged at found wanted)) device full pages damaged = absurd (damaged at found wanted refl)
 
 -- bytes that are kept are pending, and none was sent
 pub sends-kept : (outside : Outside Space) (due owed : List ℕ) → owed ≡ due → Sends {T = Unit {0}} outside outside due owed (Ok tt)

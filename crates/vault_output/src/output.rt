@@ -56,7 +56,7 @@ impl Output {
         ensures left { OnOk result (length self.new ≡ left_of (length self.old + length bytes.now)) }
         ensures fits { length self.old + length bytes.now ≤ BUFFER_BYTES → IsOk result × (vault.new ≡ vault.old) }
         ensures fault { IfErr result (λ fault. fault ≡ vault_fault.Output) }
-        ensures numbers { SameNumbers V.used_words V.directory_at V.most_words vault.old vault.new }
+        ensures numbers { SameNumbers V.used_words V.directory_at V.most_words V.access vault.old vault.new }
         ensures alive { OnOk result (V.alive vault.new) }
     {
         if bytes.len() <= self.room() {
@@ -74,7 +74,7 @@ impl Output {
         ensures left { OnOk result (length self.new ≡ left_of (length self.old + count)) }
         ensures fits { length self.old + count ≤ BUFFER_BYTES → IsOk result × (vault.new ≡ vault.old) }
         ensures fault { IfErr result (λ fault. fault ≡ vault_fault.Output) }
-        ensures numbers { SameNumbers V.used_words V.directory_at V.most_words vault.old vault.new }
+        ensures numbers { SameNumbers V.used_words V.directory_at V.most_words V.access vault.old vault.new }
         ensures alive { OnOk result (V.alive vault.new) }
     {
         let count = count as usize;
@@ -91,7 +91,7 @@ impl Output {
         ensures sends { Sends (V.outside vault.old) (V.outside vault.new) (self.old ++ bytes.now) self.new result }
         ensures left { OnOk result (length self.new ≡ left_of (length self.old + length bytes.now)) }
         ensures fault { IfErr result (λ fault. fault ≡ vault_fault.Output) }
-        ensures numbers { SameNumbers V.used_words V.directory_at V.most_words vault.old vault.new }
+        ensures numbers { SameNumbers V.used_words V.directory_at V.most_words V.access vault.old vault.new }
         ensures alive { OnOk result (V.alive vault.new) }
     {
         let mut rest = bytes;
@@ -113,7 +113,7 @@ impl Output {
         ensures sends { Sends (V.outside vault.old) (V.outside vault.new) (self.old ++ replicate count 32) self.new result }
         ensures left { OnOk result (length self.new ≡ left_of (length self.old + count)) }
         ensures fault { IfErr result (λ fault. fault ≡ vault_fault.Output) }
-        ensures numbers { SameNumbers V.used_words V.directory_at V.most_words vault.old vault.new }
+        ensures numbers { SameNumbers V.used_words V.directory_at V.most_words V.access vault.old vault.new }
         ensures alive { OnOk result (V.alive vault.new) }
     {
         let mut rest = count;
@@ -137,7 +137,7 @@ impl Output {
         ensures emptied { self.new ≡ [] }
         ensures idle { self.old ≡ [] → IsOk result × (vault.new ≡ vault.old) }
         ensures fault { IfErr result (λ fault. fault ≡ vault_fault.Output) }
-        ensures numbers { SameNumbers V.used_words V.directory_at V.most_words vault.old vault.new }
+        ensures numbers { SameNumbers V.used_words V.directory_at V.most_words V.access vault.old vault.new }
         ensures alive { OnOk result (V.alive vault.new) }
     {
         if self.bytes.is_empty() {

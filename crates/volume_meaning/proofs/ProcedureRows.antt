@@ -29,9 +29,9 @@ use Rattle.heap_meaning.specs.Units.{IsUnitSeen, shown_code}
 use Rattle.heap_meaning.specs.Standing.{AreFor, StandsForProcedure}
 use Rattle.heap_meaning.specs.Paired.{paired}
 use Rattle.heap_fit.specs.ps_heap.Objects.{Object, Structure}
-use Rattle.volume_meaning.specs.Space.{IsStored, SeenIn, with_tables}
+use Rattle.volume_meaning.specs.Space.{IsStored, SeenIn}
 use Rattle.volume_meaning.specs.Stands.{IsThing}
-use Rattle.volume_meaning.proofs.Seen.{seen-one, seen-itself}
+use Rattle.volume_meaning.proofs.Seen.{seen-one}
 use Rattle.volume_meaning.proofs.Spelled.{each-below}
 use Rattle.volume_meaning.proofs.Cutting.{pid, at, space_with, is-object, Follow, seen-there, of_text, text-is}
 
@@ -147,11 +147,11 @@ three_is_held = (
     words = [];
     refs = refl;
     nums = refl;
-    is_text = text-is (with_tables (SeenIn space)) (Pid 8) 16 (0x2d28636f72702870 ∷ 0x29662029746e693e ∷ []) (codes "p(proc(->int) f)") (inl class-seen) refl;
+    is_text = text-is (SeenIn space) (Pid 8) 16 (0x2d28636f72702870 ∷ 0x29662029746e693e ∷ []) (codes "p(proc(->int) f)") class-seen refl;
     are = (
       record {
         it = closure_shown;
-        there = inl closure-seen;
+        there = closure-seen;
         is = record {
           kind_is = refl;
           code_name = Pid 22;
@@ -161,9 +161,9 @@ three_is_held = (
           nums = refl;
           is_unit = (
             code_shown,
-            inl code-seen,
+            code-seen,
             record { kind_is = refl; code_is = refl; frame_is = refl },
-            (text-is (with_tables (SeenIn space)) (Pid 31) 11 (0x693e2d28636f7270 ∷ 0x000000000029746e ∷ []) (codes "proc(->int)") (inl type-seen) refl, tt),
+            (text-is (SeenIn space) (Pid 31) 11 (0x693e2d28636f7270 ∷ 0x000000000029746e ∷ []) (codes "proc(->int)") type-seen refl, tt),
           );
           fit = (
             each-below 256 (1 ∷ 3 ∷ 0 ∷ 0 ∷ 0 ∷ 62 ∷ 1 ∷ 0 ∷ 0 ∷ 0 ∷ []) (omega arith) refl,
@@ -179,36 +179,28 @@ three_is_held = (
   (((int-fits 3 (omega arith), ((omega arith, tt), tt)), tt), tt),
 )
 
--- What values name is what is seen there, where that is no structure.
-seen-at : (n : Reference) (it other : Shown) (of : Kind) → it.kind ≡ of → of ≢ kind.Structure
-    → with_tables (SeenIn space) n it → SeenIn space n other → it ≡ other
-seen-at n it other of is no_structure there here =
-    seen-one space n it other (seen-itself (SeenIn space) n it (λ same. no_structure (sym is ∙ same)) there) here
-
 procedure-of : (n : ℕ) → IsThing (SeenIn space) (paired []) holder_shown (holding n)
-    → StandsForProcedure (with_tables (SeenIn space)) (paired []) (Pid 15) (unit_of (giving n)) None
+    → StandsForProcedure (SeenIn space) (paired []) (Pid 15) (unit_of (giving n)) None
 unfolding forms_of forms_from form_here begins compiled_routine
 procedure-of n thing =
     let refs : holder_shown.refs ≡ thing.0.text_name ∷ thing.0.names = thing.0.refs in
     let names : thing.0.names ≡ Pid 15 ∷ [] = cc in
     let forms = forms_of (codes "p(proc(->int) f)") in
-    (subst (λ (ns : List Reference). AreFor (with_tables (SeenIn space)) (paired []) forms ns thing.0.words (compiled_all (values n))) names thing.0.are).0
+    (subst (λ (ns : List Reference). AreFor (SeenIn space) (paired []) forms ns thing.0.words (compiled_all (values n))) names thing.0.are).0
 
-code-of : (of : UnitView) → StandsForProcedure (with_tables (SeenIn space)) (paired []) (Pid 15) of None → IsUnitSeen (with_tables (SeenIn space)) (Pid 22) of
+code-of : (of : UnitView) → StandsForProcedure (SeenIn space) (paired []) (Pid 15) of None → IsUnitSeen (SeenIn space) (Pid 22) of
 code-of of procedure =
-    let other : kind.Closure ≢ kind.Structure = λ same. absurd (cc) in
-    let it = seen-at (Pid 15) procedure.it closure_shown kind.Closure procedure.is.kind_is other procedure.there closure-seen in
+    let it = seen-one space (Pid 15) procedure.it closure_shown procedure.there closure-seen in
     let two = procedure.is.code_name ∷ procedure.is.scope_name ∷ [] in
     let refs : closure_shown.refs ≡ two = subst (λ (shown : Shown). shown.refs ≡ two) it procedure.is.refs in
     let named : procedure.is.code_name ≡ Pid 22 = cc in
-    subst (λ (n : Reference). IsUnitSeen (with_tables (SeenIn space)) n of) named procedure.is.is_unit
+    subst (λ (n : Reference). IsUnitSeen (SeenIn space) n of) named procedure.is.is_unit
 
-bytes-of : (bytes : List ℕ) (row : ConstantsView) (frame : Frame) → IsUnitSeen (with_tables (SeenIn space)) (Pid 22) (unit bytes row frame)
+bytes-of : (bytes : List ℕ) (row : ConstantsView) (frame : Frame) → IsUnitSeen (SeenIn space) (Pid 22) (unit bytes row frame)
     → shown_code code_shown ≡ bytes
 unfolding IsUnitSeen
 bytes-of bytes row frame of =
-    let other : kind.Code ≢ kind.Structure = λ same. absurd (cc) in
-    let it = seen-at (Pid 22) of.0 code_shown kind.Code of.2.kind_is other of.1 code-seen in
+    let it = seen-one space (Pid 22) of.0 code_shown of.1 code-seen in
     subst (λ (shown : Shown). shown_code shown ≡ bytes) it of.2.code_is
 
 four_is_another : IsThing (SeenIn space) (paired []) holder_shown (holding 4) → ⊥

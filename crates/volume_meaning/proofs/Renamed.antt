@@ -5,7 +5,7 @@ use Rattle.std.specs.Option.{option_map}
 use Rattle.std.specs.Ordering.{int_cmp}
 use Rattle.std.specs.declared.cmp.Ordering.{Ordering}
 use Rattle.std.specs.declared.cmp.Ordering.TheVariants.{Less}
-use Rattle.std.proofs.lemmas.List.{length-map, map-append}
+use Rattle.std.proofs.lemmas.List.{length-map}
 use Rattle.reaching.specs.Reaching.{IsIn}
 use Rattle.reaching.proofs.Lists.{in-front, in-behind}
 use Rattle.ps_volumes.specs.obj_layout.declared.reference.Reference.{Reference}
@@ -17,13 +17,14 @@ use Rattle.ps_code_laws.specs.ps_heap.Values.{Value, Num, Flag, Text, Nil, Point
 use Rattle.ps_code_laws.specs.ps_heap.Objects.{Object, Structure, Elements, Scope, Keyed, is_vector}
 use Rattle.ps_code_laws.specs.ps_heap.Texts.{order_of}
 use Rattle.ps_code_laws.specs.Compiled.{compiled, compiled_all}
+use Rattle.heap_meaning.specs.avl_trees.Trees.{items}
+use Rattle.heap_meaning.specs.avl_trees.Standing.{Item}
+use Rattle.heap_meaning.specs.node_rows.Keys.{Keys, by_ints as int_keys, by_texts as text_keys, KeyOf}
+use Rattle.heap_meaning.specs.Tables.{key_kind, ArePairs, HasEntries, HasNodes, IsTable}
 use Rattle.heap_meaning.specs.Standing.{Seen, Pairing, IsWordOf, StandsForScope, StandsFor, AreFor, IsVector}
 use Rattle.heap_fit.specs.ps_heap.Tables.{Entry, Table, without_keys, by_strings, by_ints, AreInKeyOrder, IsInKeyOrder, cardinality}
 use Rattle.heap_fit.specs.ps_heap.References.{pointers, scope_ids, value_ids, values_ids, object_ids}
-use Rattle.heap_fit.specs.ps_heap.avl_trees.Trees.{Tree, leaf, node, height, items, Near}
 use Rattle.heap_fit.specs.database_meaning.Same.{renamed_value, renamed_entry, renamed_table, renamed}
-use Rattle.volume_meaning.specs.Space.{with_tables}
-use Rattle.volume_meaning.specs.Tables.{StandsForTree, HasEntries, IsStringKey, IsIntKey, AreNodesOf, key_kind, IsTable}
 use Rattle.volume_meaning.specs.Stands.{HasUnits, IsThing}
 
 -- a name that goes with one of these ids goes with the new one
@@ -167,64 +168,35 @@ these-renamed seen pair now new forms ns words vs c a =
 
 -- Tables.
 
-abbrev with_items : {A : Type 0} → (A → A) → Tree A → Tree A
-with_items f leaf = leaf
-with_items f (node l a r) = node (with_items f l) (f a) (with_items f r)
+pairs-renamed : {K : Type 0} (seen : Seen) (pair now : Pairing) (new : ℕ → ℕ) (is : List (Item Reference K Reference)) (entries : List (Entry K))
+    → Carries pair now new (values_ids (pointers entries)) → ArePairs seen pair is entries → ArePairs seen now is (map (renamed_entry new) entries)
+pairs-renamed seen pair now new [] [] c p = tt
+pairs-renamed seen pair now new (a ∷ is) (e ∷ entries) c p = (
+  p.0,
+  value-renamed seen pair now new a.entry.value (Pointer e.object) (λ n id i. elim i [ inl here ↦ c n id (inl here) | inr none ↦ absurd none ]) p.1,
+  pairs-renamed seen pair now new is entries (λ n id i. c n id (inr i)) p.2,
+)
+pairs-renamed seen pair now new [] (e ∷ entries) c p = absurd p
+pairs-renamed seen pair now new (a ∷ is) [] c p = absurd p
 
-height-with : {A : Type 0} (f : A → A) (t : Tree A) → height (with_items f t) ≡ height t
-height-with f leaf = refl
-height-with f (node l a r) =
-    ap (λ (n : ℕ). max n (height (with_items f r)) + 1) (height-with f l) ∙ ap (λ (n : ℕ). max (height l) n + 1) (height-with f r)
-
-items-with : {A : Type 0} (f : A → A) (t : Tree A) → items (with_items f t) ≡ map f (items t)
-items-with f leaf = refl
-items-with f (node l a r) =
-    ap (λ (xs : List _). xs ++ f a ∷ items (with_items f r)) (items-with f l)
-    ∙ ap (λ (xs : List _). map f (items l) ++ f a ∷ xs) (items-with f r) ∙ sym (map-append f (items l) (a ∷ items r))
-
-ids-append : {K : Type 0} (xs ys : List (Entry K)) → values_ids (pointers (xs ++ ys)) ≡ values_ids (pointers xs) ++ values_ids (pointers ys)
-ids-append [] ys = refl
-ids-append (x ∷ xs) ys = ap (λ (ids : List ℕ). x.object ∷ ids) (ids-append xs ys)
-
-tree-renamed : {K : Type 0} (seen : Seen) (pair now : Pairing) (new : ℕ → ℕ) (IsKey : Shown → K → Type 0) (n : Reference) (t : Tree (Entry K))
-    → Carries pair now new (values_ids (pointers (items t))) → StandsForTree seen pair IsKey n t → StandsForTree seen now IsKey n (with_items (renamed_entry new) t)
-tree-renamed seen pair now new IsKey n leaf c s = s
-tree-renamed seen pair now new IsKey n (node l e r) c s =
-    let split = subst (Carries pair now new) (ids-append (items l) (e ∷ items r)) c in
-    let on_left = carries-front pair now new (values_ids (pointers (items l))) (e.object ∷ values_ids (pointers (items r))) split in
-    let rest = carries-behind pair now new (values_ids (pointers (items l))) (e.object ∷ values_ids (pointers (items r))) split in
-    let left = height-with (renamed_entry new) l in
-    let right = height-with (renamed_entry new) r in (
-      s.0,
-      s.1,
-      s.2,
-      s.3,
-      record {
-        kind_is = s.4.kind_is;
-        key_name = s.4.key_name;
-        value_name = s.4.value_name;
-        home = s.4.home;
-        key_word = s.4.key_word;
-        refs = s.4.refs;
-        nums = s.4.nums ∙ ap (λ (h : ℕ). s.4.home ∷ s.4.key_word ∷ h ∷ []) (sym (height-with (renamed_entry new) (node l e r)));
-        is_key = s.4.is_key;
-        is_value = value-renamed (with_tables seen) pair now new s.4.value_name (Pointer e.object) (λ m id i. elim i [
-          | inl is ↦ rest m id (inl is)
-          | inr none ↦ absurd none
-        ]) s.4.is_value;
-      },
-      tree-renamed seen pair now new IsKey s.1 l on_left s.5,
-      tree-renamed seen pair now new IsKey s.2 r (λ m id i. rest m id (inr i)) s.6,
-      subst (λ (h : ℕ). Near 1 h (height (with_items (renamed_entry new) r))) (sym left) (subst (λ (h : ℕ). Near 1 (height l) h) (sym right) s.7),
-    )
-
-entries-renamed : {K : Type 0} (seen : Seen) (pair now : Pairing) (new : ℕ → ℕ) (IsKey : Shown → K → Type 0) (n : Reference) (entries : List (Entry K))
-    → Carries pair now new (values_ids (pointers entries)) → HasEntries seen pair IsKey n entries → HasEntries seen now IsKey n (map (renamed_entry new) entries)
-entries-renamed seen pair now new IsKey n entries c s = record {
-  tree = with_items (renamed_entry new) s.tree;
-  stands = tree-renamed seen pair now new IsKey n s.tree (subst (λ (es : List (Entry _)). Carries pair now new (values_ids (pointers es))) (sym s.are) c) s.stands;
-  are = items-with (renamed_entry new) s.tree ∙ ap (map (renamed_entry new)) s.are;
+entries-renamed : (ks : Keys) (seen : Seen) (pair now : Pairing) (new : ℕ → ℕ) (n : Reference) (entries : List (Entry (KeyOf ks))) (nodes : List Reference)
+    → Carries pair now new (values_ids (pointers entries)) → HasEntries ks seen pair n entries nodes → HasEntries ks seen now n (map (renamed_entry new) entries) nodes
+entries-renamed ks seen pair now new n entries nodes c h = record {
+  tree = h.tree;
+  root_is = h.root_is;
+  stands = h.stands;
+  rising = h.rising;
+  balanced = h.balanced;
+  values = h.values;
+  pairs = pairs-renamed seen pair now new (items h.tree) entries c h.pairs;
+  nodes_are = h.nodes_are;
 }
+
+nodes-renamed : (seen : Seen) (pair now : Pairing) (new : ℕ → ℕ) (n : Reference) (table : Table) (nodes : List Reference)
+    → Carries pair now new (object_ids (Some (Keyed table))) → HasNodes seen pair n table nodes → HasNodes seen now n (renamed_table new table) nodes
+nodes-renamed seen pair now new n without_keys nodes c h = h
+nodes-renamed seen pair now new n (by_strings entries) nodes c h = entries-renamed text_keys seen pair now new n entries nodes c h
+nodes-renamed seen pair now new n (by_ints entries) nodes c h = entries-renamed int_keys seen pair now new n entries nodes c h
 
 above-renamed : {K : Type 0} (order : K → K → Ordering) (new : ℕ → ℕ) (a : Entry K) (entries : List (Entry K))
     → AllByRecursion (λ b. order a.key b.key ≡ Less) entries → AllByRecursion (λ b. order a.key b.key ≡ Less) (map (renamed_entry new) entries)
@@ -241,12 +213,6 @@ ordered-renamed new without_keys o = o
 ordered-renamed new (by_strings entries) o = order-renamed order_of new entries o
 ordered-renamed new (by_ints entries) o = order-renamed int_cmp new entries o
 
-nodes-renamed : (seen : Seen) (pair now : Pairing) (new : ℕ → ℕ) (n : Reference) (table : Table) → Carries pair now new (object_ids (Some (Keyed table)))
-    → AreNodesOf seen pair n table → AreNodesOf seen now n (renamed_table new table)
-nodes-renamed seen pair now new n without_keys c s = s
-nodes-renamed seen pair now new n (by_strings entries) c s = entries-renamed seen pair now new (IsStringKey seen) n entries c s
-nodes-renamed seen pair now new n (by_ints entries) c s = entries-renamed seen pair now new IsIntKey n entries c s
-
 kind-renamed : (new : ℕ → ℕ) (table : Table) → key_kind (renamed_table new table) ≡ key_kind table
 kind-renamed new without_keys = refl
 kind-renamed new (by_strings entries) = refl
@@ -258,17 +224,18 @@ count-renamed new without_keys = refl
 count-renamed new (by_strings entries) = length-map entries (renamed_entry new)
 count-renamed new (by_ints entries) = length-map entries (renamed_entry new)
 
-table-renamed : (seen : Seen) (pair now : Pairing) (new : ℕ → ℕ) (it : Shown) (table : Table) → Carries pair now new (object_ids (Some (Keyed table)))
-    → IsTable seen pair it table → IsTable seen now it (renamed_table new table)
-table-renamed seen pair now new it table c s = record {
+pub table-renamed : (seen : Seen) (pair now : Pairing) (new : ℕ → ℕ) (n : Reference) (table : Table) (nodes : List Reference)
+    → Carries pair now new (object_ids (Some (Keyed table))) → IsTable seen pair n table nodes → IsTable seen now n (renamed_table new table) nodes
+table-renamed seen pair now new n table nodes c s = record {
+  it = s.it;
+  there = s.there;
   kind_is = s.kind_is;
   root = s.root;
   home = s.home;
   refs = s.refs;
   nums = s.nums ∙ (ap (λ (k : ℕ). s.home ∷ k ∷ cardinality table ∷ []) (sym (kind-renamed new table))
       ∙ ap (λ (k : ℕ). s.home ∷ key_kind (renamed_table new table) ∷ k ∷ []) (sym (count-renamed new table)));
-  nodes = nodes-renamed seen pair now new s.root table c s.nodes;
-  ordered = ordered-renamed new table s.ordered;
+  has = nodes-renamed seen pair now new s.root table nodes c s.has;
 }
 
 -- Vectors have as many elements.
@@ -309,12 +276,12 @@ thing-renamed seen pair now new it (Structure class fields) c s = (
     refs = s.0.refs;
     nums = s.0.nums;
     is_text = s.0.is_text;
-    are = these-renamed (with_tables seen) pair now new _ s.0.names s.0.words fields c s.0.are;
+    are = these-renamed seen pair now new _ s.0.names s.0.words fields c s.0.are;
   },
   all-units new fields s.1,
 )
 thing-renamed seen pair now new it (Elements ty low elements) c s =
-    (vector-renamed (with_tables seen) pair now new it ty low elements c s.0, all-units new elements s.1)
+    (vector-renamed seen pair now new it ty low elements c s.0, all-units new elements s.1)
 thing-renamed seen pair now new it (Scope text parent values) c s = (
   record {
     kind_is = s.0.kind_is;
@@ -326,9 +293,9 @@ thing-renamed seen pair now new it (Scope text parent values) c s = (
     refs = s.0.refs;
     nums = s.0.nums;
     is_text = s.0.is_text;
-    is_parent = scope-renamed (with_tables seen) pair now new s.0.parent_name parent (carries-front pair now new (scope_ids parent) (values_ids values) c) s.0.is_parent;
-    are = these-renamed (with_tables seen) pair now new _ s.0.names s.0.words values (carries-behind pair now new (scope_ids parent) (values_ids values) c) s.0.are;
+    is_parent = scope-renamed seen pair now new s.0.parent_name parent (carries-front pair now new (scope_ids parent) (values_ids values) c) s.0.is_parent;
+    are = these-renamed seen pair now new _ s.0.names s.0.words values (carries-behind pair now new (scope_ids parent) (values_ids values) c) s.0.are;
   },
   all-units new values s.1,
 )
-thing-renamed seen pair now new it (Keyed table) c s = table-renamed seen pair now new it table c s
+thing-renamed seen pair now new it (Keyed table) c s = s

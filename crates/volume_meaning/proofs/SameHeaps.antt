@@ -2,24 +2,27 @@
 use Rattle.std.proofs.Common.{◌≡◌, inl, inr, ℕ, zero, suc, ◌+◌, ◌<◌, Bool, true, false, nat_eq, List, [], ◌∷◌, length, map, refl, sym, ◌∙◌, ap, subst, arith, Option, Some, None}
 use Rattle.std.specs.Prelude.{if◌then◌else◌, max}
 use Rattle.std.specs.Option.{option_map}
-use Rattle.std.proofs.lemmas.Bool.{eqb-true, eqb-false}
+use Rattle.std.proofs.lemmas.Bool.{eq-eqb, eqb-true, eqb-false}
 use Rattle.reaching.specs.Reaching.{IsIn, at_start, by_step, ReachedIn, reach}
 use Rattle.reaching.proofs.WalkLaws.{least-in, in-least}
 use Rattle.ps_volumes.specs.obj_layout.declared.reference.Reference.{Reference}
 use Rattle.ps_volumes.specs.obj_layout.declared.reference.Reference.TheVariants.{Nil, Pid}
 use Rattle.ps_volumes.specs.obj_layout.Stored.{Space}
+use Rattle.heap_meaning.specs.node_rows.Nodes.{IsAmong}
+use Rattle.heap_meaning.specs.Tables.{IsTable}
 use Rattle.heap_meaning.specs.Standing.{Seen, Pairing}
 use Rattle.heap_meaning.specs.Paired.{name_in, paired}
-use Rattle.heap_fit.specs.ps_heap.Objects.{Heap, Object, object_at}
+use Rattle.heap_fit.specs.ps_heap.Objects.{Heap, Object, Structure, Elements, Scope, Keyed, object_at}
+use Rattle.heap_fit.specs.ps_heap.Tables.{Table}
 use Rattle.heap_fit.specs.ps_heap.References.{next_in}
 use Rattle.heap_fit.specs.ps_heap.Databases.{Database, every_root}
 use Rattle.heap_fit.specs.ps_heap.Held.{StoredHeap, home_at}
-use Rattle.heap_fit.specs.database_meaning.Same.{renamed, renamed_database, IsInHeap, IsSame}
+use Rattle.heap_fit.specs.database_meaning.Same.{renamed, renamed_table, renamed_database, IsInHeap, IsSame}
 use Rattle.heap_fit.specs.Heaps.{IsFitHeap}
 use Rattle.volume_meaning.specs.Space.{SeenIn}
-use Rattle.volume_meaning.specs.Stands.{IsHome, Both, AreNamed, IsDirectoryOf, StandsUnder, Stands}
+use Rattle.volume_meaning.specs.Stands.{IsHome, Both, AreNamed, IsDirectoryOf, stored, StandsUnder, Stands}
 use Rattle.volume_meaning.proofs.FitSame.{referred, fit-same}
-use Rattle.volume_meaning.proofs.Renamed.{Carries, thing-renamed}
+use Rattle.volume_meaning.proofs.Renamed.{Carries, thing-renamed, table-renamed}
 
 -- All that is reached is listed, where the heap is fit: what is reached is there.
 
@@ -201,7 +204,15 @@ stands-same_under space a b s names fit stands = record {
       let x = back pid i p in
       let y = back pid j q in
       sym x.is_new ∙ ap s.new (stands.one_number pid x.old y.old x.named y.named) ∙ y.is_new;
-  apart = λ v w i j n p q. stands.apart v w (back v i p).old (back w j q).old n (back v i p).named (back w j q).named;
+  tables = record {
+    nodes = nodes;
+    each = λ n j table p is. each n j table p is (back p.1 j (subst (λ (m : Reference). paired (names_same a b s names) m j) p.2 p.0));
+    are_nodes = λ j n at. stands.tables.are_nodes (s.back j) n (among j n at).1;
+    apart = λ i j n at also.
+        let x = among i n at in
+        let y = among j n also in
+        sym x.0 ∙ ap s.new (stands.tables.apart (s.back i) (s.back j) n x.1 y.1) ∙ y.0;
+  };
 }
   where
     on : (n : Reference) (id : ℕ) → IsInHeap a id → paired names n id → paired (names_same a b s names) n (s.new id)
@@ -209,6 +220,46 @@ stands-same_under space a b s names fit stands = record {
 
     back : (pid j : ℕ) → paired (names_same a b s names) (Pid pid) j → Old s.new names (listed a) j pid
     back pid j p = pairs-back s.new names (listed a) j pid p
+
+    -- a number that no id becomes has no nodes
+    nodes : ℕ → List Reference
+    nodes j = if nat_eq (s.new (s.back j)) j then stands.tables.nodes (s.back j) else []
+
+    among : (j : ℕ) (n : Reference) → IsAmong n (nodes j) → (s.new (s.back j) ≡ j) × IsAmong n (stands.tables.nodes (s.back j))
+    among j n at = by (nat_eq (s.new (s.back j)) j) refl at
+      where
+        by : (r : Bool) → nat_eq (s.new (s.back j)) j ≡ r → IsAmong n (if r then stands.tables.nodes (s.back j) else []) → (s.new (s.back j) ≡ j) × IsAmong n (stands.tables.nodes (s.back j))
+        by true is here = (eqb-true (s.new (s.back j)) j is, here)
+        by false is here = absurd here
+
+    nodes-new : (old j : ℕ) → IsInHeap a old → s.new old ≡ j → nodes j ≡ stands.tables.nodes old
+    nodes-new old j there is =
+        let returns : s.back j ≡ old = ap s.back (sym is) ∙ s.one old there in
+        let same : s.new (s.back j) ≡ j = ap s.new returns ∙ is in
+        ap (λ (r : Bool). if r then stands.tables.nodes (s.back j) else []) (eq-eqb (s.new (s.back j)) j same) ∙ ap stands.tables.nodes returns
+
+    -- the table of a number there is one here, with other ids
+    each : (n : Reference) (j : ℕ) (table : Table) → (p : stored (names_same a b s names) n j) → object_at b.objects j ≡ Some (Keyed table)
+        → Old s.new names (listed a) j p.1 → IsTable (SeenIn space) (stored (names_same a b s names)) n table (nodes j)
+    each n j table p is x =
+        let there = listed-in a x.old x.among in
+        let old = stands.both p.1 x.old x.named in
+        let means : object_at b.objects j ≡ Some (renamed s.new old.object) =
+        ap (object_at b.objects) (sym x.is_new) ∙ s.objects x.old there ∙ ap (option_map (renamed s.new)) old.means in
+        of old.object old.means (sym means ∙ is)
+      where
+        of : (o : Object) → object_at a.objects x.old ≡ Some o → Some (renamed s.new o) ≡ Some (Keyed table) → IsTable (SeenIn space) (stored (names_same a b s names)) n table (nodes j)
+        of (Structure class fields) means e = absurd (cc)
+        of (Elements ty low elements) means e = absurd (cc)
+        of (Scope text parent values) means e = absurd (cc)
+        of (Keyed u) means e =
+            let same : renamed_table s.new u ≡ table = cc in
+            let there = listed-in a x.old x.among in
+            let was = stands.tables.each n x.old u (subst (λ (m : Reference). paired names m x.old) (sym p.2) x.named, p.1, p.2) means in
+            subst (IsTable (SeenIn space) (stored (names_same a b s names)) n table) (sym (nodes-new x.old j there x.is_new))
+            (subst (λ (v : Table). IsTable (SeenIn space) (stored (names_same a b s names)) n v (stands.tables.nodes x.old)) same
+            (table-renamed (SeenIn space) (stored names) (stored (names_same a b s names)) s.new n u (stands.tables.nodes x.old)
+            (λ m id l q. (on m id (referred a x.old (Keyed u) there means id l) q.0, q.1, q.2)) was))
 
     both : (pid j : ℕ) → Old s.new names (listed a) j pid → Both (SeenIn space) b (paired (names_same a b s names)) (Pid pid) j
     both pid j x =

@@ -1,13 +1,12 @@
 -- What is seen in a space: one object under a name.
-use Rattle.std.proofs.Common.{◌≡◌, ◌≢◌, inl, inr, ℕ, sym, ◌∙◌, ap, subst}
-use Rattle.ps_volumes.specs.obj_layout.declared.kind.Kind.TheVariants as kind
+use Rattle.std.proofs.Common.{◌≡◌, ℕ, sym, ◌∙◌, ap, subst}
 use Rattle.ps_volumes.specs.obj_layout.declared.reference.Reference.{Reference}
 use Rattle.ps_volumes.specs.obj_layout.declared.reference.Reference.TheVariants.{Pid}
 use Rattle.ps_volumes.specs.obj_layout.Stored.{Space, HasObject}
 use Rattle.ps_volumes.proofs.of_obj_layout.StoredLaws.{HasObject-one}
 use Rattle.heap_meaning.specs.swizzle.Joint.{Shown, shown_words}
-use Rattle.heap_meaning.specs.Standing.{Seen, IsOne}
-use Rattle.volume_meaning.specs.Space.{SeenIn, with_tables}
+use Rattle.heap_meaning.specs.Standing.{IsOne}
+use Rattle.volume_meaning.specs.Space.{SeenIn}
 
 pub seen-one : (space : Space) → IsOne (SeenIn space)
 seen-one space n a b s t =
@@ -15,10 +14,3 @@ seen-one space n a b s t =
     let pids : s.pid ≡ t.pid = cc in
     let words = HasObject-one space t.pid s.words t.words (subst (λ (pid : ℕ). HasObject space pid s.words) pids s.there) t.there in
     s.shown_is ∙ ap shown_words words ∙ sym t.shown_is
-
--- what is seen under the name of no structure is seen there as it is
-pub seen-itself : (seen : Seen) (n : Reference) (it : Shown) → it.kind ≢ kind.Structure → with_tables seen n it → seen n it
-seen-itself seen n it other t = elim t [
-  | inl there ↦ there
-  | inr as_structure ↦ absurd (other (ap (λ (shown : Shown). shown.kind) as_structure.it_is))
-]

@@ -1,24 +1,30 @@
 -- A worked space in which a node belongs to two tables: under 3 and 5 the root has a table whose root is the node of 3. It stands for no heap, though all else
 -- is as it must be.
-use Rattle.std.proofs.Common.{◌≡◌, inl, inr, ℕ, List, [], ◌∷◌, refl, subst, arith}
+use Rattle.std.proofs.Common.{◌≡◌, inl, inr, ℕ, ℤ, List, [], ◌∷◌, ◌++◌, refl, sym, ap, ◌∙◌, subst, arith, Some}
 use Rattle.ps_volumes.specs.obj_layout.declared.kind.Kind.TheVariants as kind
+use Rattle.ps_volumes.specs.obj_layout.declared.reference.Reference.{Reference}
 use Rattle.ps_volumes.specs.obj_layout.declared.reference.Reference.TheVariants.{Nil, Pid}
 use Rattle.ps_volumes.specs.obj_layout.Objects.{Placed, IsAmong}
 use Rattle.ps_volumes.specs.obj_layout.Objects as contents
 use Rattle.ps_volumes.specs.obj_layout.Stored.{Space}
 use Rattle.heap_meaning.specs.swizzle.Objects.{header_in, reference_at, object_in}
 use Rattle.heap_meaning.specs.swizzle.Joint.{Shown, shown_words}
+use Rattle.heap_meaning.specs.avl_trees.Trees.{Tree, node as node_of, items}
+use Rattle.heap_meaning.specs.node_rows.Keys.{by_ints as int_keys}
+use Rattle.heap_meaning.specs.node_rows.Nodes.{I, IsAmong as IsNameAmong}
+use Rattle.heap_meaning.specs.Tables.{ArePairs, names_of}
 use Rattle.heap_meaning.specs.Standing.{Pairing}
-use Rattle.heap_meaning.specs.Paired.{paired}
+use Rattle.heap_meaning.specs.Paired.{name_in, paired}
+use Rattle.heap_meaning.proofs.TableLaws.{among-front}
+use Rattle.heap_fit.specs.ps_heap.Tables.{Entry}
 use Rattle.heap_fit.specs.ps_heap.Databases.{Database}
 use Rattle.heap_fit.specs.ps_heap.Held.{StoredHeap}
 use Rattle.volume_meaning.specs.Space.{IsStored, SeenIn}
-use Rattle.volume_meaning.specs.Tables.{IsIntKey, IsNodeOf}
-use Rattle.volume_meaning.specs.Stands.{IsThing, AreNamed, IsDirectoryOf, SpaceStands}
+use Rattle.volume_meaning.specs.Stands.{AreNamed, IsDirectoryOf, stored, SpaceStands}
 use Rattle.volume_meaning.proofs.Seen.{seen-one}
 use Rattle.volume_meaning.proofs.Cutting.{pid, at, space_with, is-object, Follow, seen-there}
-use Rattle.volume_meaning.proofs.Trees.{node_shown, sides-of}
-use Rattle.volume_meaning.proofs.TableRows.{table, name, password, table_shown, table-in, ints-in}
+use Rattle.volume_meaning.proofs.Trees.{node_shown, sides-of, root-among}
+use Rattle.volume_meaning.proofs.TableRows.{table, name, password, table_shown, table-in, ints-in, pair-under}
 
 -- The words.
 
@@ -106,43 +112,36 @@ unfolding header_in reference_at object_in
 directory-seen = seen-in 50 directory directory_shown (inr (inr (inr (inr (inr (inr (inl refl)))))))
     (record { flags = refl; pid = refl; chain = refl; refs = (inr (omega arith), (inr (omega arith), (inr (omega arith), tt))) }) refl
 
--- The node of 3 is one of the root, on the left of its root, and one of the other table.
-
-of_the_root : IsNodeOf (SeenIn space) (Pid 1) (Pid 20)
-of_the_root = record {
-  it = table_shown 2;
-  there = table-seen;
-  kind_is = refl;
-  steps = 1;
-  below = (node_shown (Pid 20) Nil Nil (Pid 31) 5 2, upper-seen, refl, inl refl);
-  is_node = record { it = node_shown Nil Nil Nil (Pid 31) 3 1; there = shared-seen; kind_is = refl };
-}
-
-of_the_second : IsNodeOf (SeenIn space) (Pid 31) (Pid 20)
-of_the_second = record {
-  it = second_shown;
-  there = second-seen;
-  kind_is = refl;
-  steps = 0;
-  below = refl;
-  is_node = record { it = node_shown Nil Nil Nil (Pid 31) 3 1; there = shared-seen; kind_is = refl };
-}
-
 paired-root : (pair : Pairing) (ds : List Database) → IsDirectoryOf (SeenIn space) pair 50 ds → (d : Database) × pair (Pid 1) d.root
 paired-root pair [] is = absurd (omega (arith, is))
 paired-root pair (d ∷ ds) is =
     let same = seen-one space (Pid 50) is.it directory_shown is.there directory-seen in
     (d, (subst (λ (it : Shown). AreNamed (SeenIn space) pair it.refs (d ∷ ds)) same is.names).2.0)
 
+-- a node to the left of a tree's root is one of its nodes
+left-among : (l : Tree (I int_keys)) (a : I int_keys) (r : Tree (I int_keys)) (n : Reference) → IsNameAmong n (names_of (items l)) → IsNameAmong n (names_of (items (node_of l a r)))
+left-among l a r n there = among-front (items l) (a ∷ items r) n there
+
+-- The node of 3 is on the left of the root of the first table, and it is the root of the second.
 a_node_of_two_tables : (heap : StoredHeap) → SpaceStands space heap → ⊥
 unfolding space
 a_node_of_two_tables heap s =
-    let seen = SeenIn space in
+    let pair = stored s.names in
     let root = paired-root (paired s.names) heap.directory s.stands.directory in
-    let both = s.stands.both 1 root.0.root root.1 in
-    let same = seen-one space (Pid 1) both.it (table_shown 2) both.there table-seen in
-    let of = table-in space (paired s.names) 2 both.object (subst (λ (it : Shown). IsThing seen (paired s.names) it both.object) same both.like) in
-    let tree = (ints-in space (paired s.names) 2 of.0 of.1).1 in
-    let sides = sides-of space (paired s.names) IsIntKey 9 (Pid 20) Nil Nil (Pid 31) 5 2 tree.tree upper-seen tree.stands in
-    let one : 1 ≡ 31 = s.stands.apart 1 31 root.0.root sides.entry.object (Pid 20) root.1 sides.value_is.0 of_the_root of_the_second in
-    absurd (omega (arith, one))
+    let id = root.0.root in
+    let first = table-in space heap s.names s.stands 1 id (table_shown 2) table-seen refl root.1 in
+    let ints = ints-in space pair (Pid 1) (Pid 9) 1 2 first.0 (s.stands.tables.nodes id) table-seen first.1 in
+    let tree = ints.has in
+    let sides = sides-of int_keys space 9 (Pid 20) Nil Nil (Pid 31) 5 2 tree.tree upper-seen tree.root_is tree.stands in
+    let below : IsNameAmong (Pid 20) (s.stands.tables.nodes id) =
+    subst (IsNameAmong (Pid 20)) (sym tree.nodes_are) (subst (λ (t : Tree (I int_keys)). IsNameAmong (Pid 20) (names_of (items t))) (sym sides.tree_is)
+    (left-among sides.l sides.item sides.r (Pid 20) (root-among int_keys sides.l (Pid 20) sides.left_is refl))) in
+    let value = pair-under (SeenIn space) pair (items sides.l) sides.item (items sides.r) ints.entries
+    (subst (λ (t : Tree (I int_keys)). ArePairs (SeenIn space) pair (items t) ints.entries) sides.tree_is tree.pairs) in
+    let second = table-in space heap s.names s.stands 31 value.0 second_shown second-seen refl (subst (λ (n : Reference). paired s.names n value.0) (sym sides.value_is) value.1.0.0) in
+    let other = (ints-in space pair (Pid 31) (Pid 20) 1 1 second.0 (s.stands.tables.nodes value.0) second-seen second.1).has in
+    let also : IsNameAmong (Pid 20) (s.stands.tables.nodes value.0) = subst (IsNameAmong (Pid 20)) (sym other.nodes_are) (root-among int_keys other.tree (Pid 20) other.root_is refl) in
+    let one = s.stands.tables.apart id value.0 (Pid 20) below also in
+    let names : Some (Pid 1) ≡ Some (Pid 31) = sym root.1 ∙ ap (name_in s.names) one ∙ subst (λ (n : Reference). paired s.names n value.0) (sym sides.value_is) value.1.0.0 in
+    let same : ◌≡◌ {A = ℕ} 1 31 = cc in
+    absurd (omega (arith, same))

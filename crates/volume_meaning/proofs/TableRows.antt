@@ -1,7 +1,8 @@
 -- Worked tables of ints. One with the keys 3, 5 and 8 has a tree whose root is 5; one has the keys -1 and 5. Their entries stand in the order of their
 -- keys, and in no other. A space in which the root of such a tree has another height stands for no heap, and neither does one in which all is to the right.
-use Rattle.std.proofs.Common.{◌≡◌, inl, inr, ℕ, List, [], ◌∷◌, refl, sym, ◌∙◌, ap, subst, arith, pos, Some}
+use Rattle.std.proofs.Common.{◌≡◌, ◌≢◌, inl, inr, ℕ, List, [], ◌∷◌, ◌++◌, refl, sym, ◌∙◌, ap, subst, arith, pos, Option, Some, None}
 use Rattle.std.specs.Prelude.{negsuc, ℤ}
+use Rattle.std.specs.Ordering.{int_cmp}
 use Rattle.ps_volumes.specs.obj_layout.declared.kind.Kind.TheVariants as kind
 use Rattle.ps_volumes.specs.obj_layout.declared.reference.Reference.{Reference}
 use Rattle.ps_volumes.specs.obj_layout.declared.reference.Reference.TheVariants.{Nil, Pid}
@@ -11,20 +12,24 @@ use Rattle.ps_volumes.specs.obj_layout.Stored.{Space}
 use Rattle.heap_meaning.specs.swizzle.Objects.{header_in, reference_at, object_in}
 use Rattle.heap_meaning.specs.swizzle.Joint.{Shown, shown_words}
 use Rattle.heap_meaning.specs.heap_places.Words.{int_in}
-use Rattle.heap_meaning.specs.Standing.{Pairing, IsKindOf}
+use Rattle.heap_meaning.specs.avl_trees.Trees.{Tree, height, items, IsBalanced}
+use Rattle.heap_meaning.specs.avl_trees.Trees as trees
+use Rattle.heap_meaning.specs.avl_trees.Standing.{root_of, Stands as TreeStands}
+use Rattle.heap_meaning.specs.node_rows.Keys.{by_ints as int_keys}
+use Rattle.heap_meaning.specs.node_rows.Nodes.{I, HasNode, link_of}
+use Rattle.heap_meaning.specs.Tables.{key_kind, ArePairs, HasEntries, HasNodes, IsTable}
+use Rattle.heap_meaning.specs.Standing.{Seen, Pairing, StandsFor}
 use Rattle.heap_meaning.specs.Paired.{paired}
 use Rattle.heap_fit.specs.ps_heap.Tables.{Entry, Table, by_ints, by_strings, without_keys, cardinality}
-use Rattle.heap_fit.specs.ps_heap.avl_trees.Trees.{Tree, height}
-use Rattle.heap_fit.specs.ps_heap.avl_trees.Trees as trees
-use Rattle.heap_fit.specs.ps_heap.Objects.{Object, Structure, Elements, Scope, Keyed}
+use Rattle.heap_fit.specs.ps_heap.Values.{Pointer}
+use Rattle.heap_fit.specs.ps_heap.Objects.{Object, Structure, Elements, Scope, Keyed, object_at}
 use Rattle.heap_fit.specs.ps_heap.Databases.{Database}
 use Rattle.heap_fit.specs.ps_heap.Held.{StoredHeap}
-use Rattle.volume_meaning.specs.Space.{IsStored, SeenIn, with_tables}
-use Rattle.volume_meaning.specs.Tables.{IsNode, IsIntKey, StandsForTree, HasEntries, IsTable}
-use Rattle.volume_meaning.specs.Stands.{IsThing, AreNamed, IsDirectoryOf, SpaceStands}
+use Rattle.volume_meaning.specs.Space.{IsStored, SeenIn}
+use Rattle.volume_meaning.specs.Stands.{IsThing, AreNamed, IsDirectoryOf, stored, StandsUnder, SpaceStands}
 use Rattle.volume_meaning.proofs.Seen.{seen-one}
 use Rattle.volume_meaning.proofs.Cutting.{pid, at, space_with, is-object, Follow, seen-there}
-use Rattle.volume_meaning.proofs.Trees.{node_shown, nil-leaf, sides-of}
+use Rattle.volume_meaning.proofs.Trees.{node_shown, nil-leaf, sides-of, entries-rise}
 
 -- The words.
 
@@ -128,26 +133,24 @@ names = Pid 42 ∷ []
 abbrev under : ℤ → Entry ℤ
 under key = record { key = key; object = 0 }
 
--- a pntr may name the table
-empty_as_pntr : (count : ℕ) (a b c : Spelled) → IsKindOf (with_tables (SeenIn (space count a b c))) (Pid 42) kind.Structure
-empty_as_pntr count a b c = record {
-  it = record { kind = kind.Structure; refs = Nil ∷ []; nums = 1 ∷ 0 ∷ 0 ∷ []; bytes = 0 };
-  there = inr (record { table = empty_shown; there = empty-seen count a b c; kind_is = refl; it_is = refl });
-  kind_is = refl;
-}
+-- the pair of a node, whose value is the table without keys
+abbrev item : Reference → ℤ → I int_keys
+item n key = record { name = n; entry = record { key = key; value = Pid 42 } }
 
-node-is : (count : ℕ) (a b c : Spelled) (left right : Reference) (of : Spelled) (key : ℤ) → int_in of.key ≡ Some key
-    → IsNode (SeenIn (space count a b c)) (paired names) IsIntKey (shown left right of) left right (under key) of.high
-node-is count a b c left right of key spelled = record {
-  kind_is = refl;
-  key_name = Nil;
-  value_name = Pid 42;
-  home = 0;
-  key_word = of.key;
-  refs = refl;
-  nums = refl;
-  is_key = spelled;
-  is_value = (refl, empty_as_pntr count a b c);
+-- a pntr may name the table
+empty-named : (count : ℕ) (a b c : Spelled) → StandsFor (SeenIn (space count a b c)) (stored names) (Pid 42) (Pointer 0)
+empty-named count a b c = ((refl, 42, refl), inr (record { it = empty_shown; there = empty-seen count a b c; kind_is = refl }))
+
+some-name : Pid 42 ≢ Nil
+some-name e = cc
+
+node-is : (count : ℕ) (a b c : Spelled) (n left right : Reference) (of : Spelled) (key : ℤ) (on_left on_right : Option Reference) → int_in of.key ≡ Some key
+    → SeenIn (space count a b c) n (shown left right of) → link_of left ≡ on_left → link_of right ≡ on_right
+    → HasNode int_keys (SeenIn (space count a b c)) n (record { left = on_left; right = on_right; entry = record { key = key; value = Pid 42 }; height = of.high })
+node-is count a b c n left right of key on_left on_right spelled there l r = record {
+  it = shown left right of;
+  there = there;
+  is = record { kind = refl; refs = refl; nums = refl; left = l; right = r; key = spelled; value = refl; height = refl };
 }
 
 -- Three keys: 5 over 3 and 8.
@@ -177,57 +180,57 @@ unfolding header_in reference_at object_in
 eight-seen high = seen-in 3 (five high) (alone 3) (alone 8) 31 (node (alone 8)) (shown Nil Nil (alone 8)) (inr (inr (inr (inl refl))))
     (record { flags = refl; pid = refl; chain = refl; refs = (inl refl, (inl refl, (inl refl, (inr (omega arith), tt)))) }) refl
 
-three_keys : IsTable (SeenIn (three 2)) (paired names) (table_shown 3) (by_ints (under (pos 3) ∷ under (pos 5) ∷ under (pos 8) ∷ []))
+three_keys : IsTable (SeenIn (three 2)) (stored names) (Pid 1) (by_ints (under (pos 3) ∷ under (pos 5) ∷ under (pos 8) ∷ [])) (Pid 20 ∷ Pid 9 ∷ Pid 31 ∷ [])
 unfolding int_in cardinality
 three_keys = record {
+  it = table_shown 3;
+  there = table-seen 3 (five 2) (alone 3) (alone 8);
   kind_is = refl;
   root = Pid 9;
   home = 1;
   refs = refl;
   nums = refl;
-  nodes = record {
-    tree = trees.node (trees.node trees.leaf (under (pos 3)) trees.leaf) (under (pos 5)) (trees.node trees.leaf (under (pos 8)) trees.leaf);
+  has = record {
+    tree = trees.node (trees.node trees.leaf (item (Pid 20) (pos 3)) trees.leaf) (item (Pid 9) (pos 5)) (trees.node trees.leaf (item (Pid 31) (pos 8)) trees.leaf);
+    root_is = refl;
     stands = (
-      shown (Pid 20) (Pid 31) (five 2),
-      Pid 20,
-      Pid 31,
-      five-seen 2,
-      node-is 3 (five 2) (alone 3) (alone 8) (Pid 20) (Pid 31) (five 2) (pos 5) refl,
-      (
-        shown Nil Nil (alone 3),
-        Nil,
-        Nil,
-        three-seen 2,
-        node-is 3 (five 2) (alone 3) (alone 8) Nil Nil (alone 3) (pos 3) refl,
-        refl,
-        refl,
-        (omega arith, omega arith),
-      ),
-      (
-        shown Nil Nil (alone 8),
-        Nil,
-        Nil,
-        eight-seen 2,
-        node-is 3 (five 2) (alone 3) (alone 8) Nil Nil (alone 8) (pos 8) refl,
-        refl,
-        refl,
-        (omega arith, omega arith),
-      ),
-      (omega arith, omega arith),
+      node-is 3 (five 2) (alone 3) (alone 8) (Pid 9) (Pid 20) (Pid 31) (five 2) (pos 5) (Some (Pid 20)) (Some (Pid 31)) refl (five-seen 2) refl refl,
+      (node-is 3 (five 2) (alone 3) (alone 8) (Pid 20) Nil Nil (alone 3) (pos 3) None None refl (three-seen 2) refl refl, tt, tt),
+      (node-is 3 (five 2) (alone 3) (alone 8) (Pid 31) Nil Nil (alone 8) (pos 8) None None refl (eight-seen 2) refl refl, tt, tt),
     );
-    are = refl;
+    rising = ((refl, (refl, tt)), ((refl, tt), (tt, tt)));
+    balanced = ((tt, tt, (omega arith, omega arith)), (tt, tt, (omega arith, omega arith)), (omega arith, omega arith));
+    values = (some-name, (some-name, (some-name, tt)));
+    pairs = (
+      refl,
+      empty-named 3 (five 2) (alone 3) (alone 8),
+      (refl, empty-named 3 (five 2) (alone 3) (alone 8), (refl, empty-named 3 (five 2) (alone 3) (alone 8), tt)),
+    );
+    nodes_are = refl;
   };
-  ordered = ((refl, (refl, tt)), ((refl, tt), (tt, tt)));
 }
 
 -- a table is read from its words: where they say that its keys are ints, it has a tree of ints
-pub ints-in : (at : Space) (pair : Pairing) (count : ℕ) (of : Table) → IsTable (SeenIn at) pair (table_shown count) of
-    → (entries : List (Entry ℤ)) × HasEntries (SeenIn at) pair IsIntKey (Pid 9) entries
-ints-in at pair count without_keys is = let nums : 1 ∷ 2 ∷ count ∷ [] ≡ is.home ∷ 0 ∷ cardinality without_keys ∷ [] = is.nums in absurd (cc)
-ints-in at pair count (by_strings entries) is = let nums : 1 ∷ 2 ∷ count ∷ [] ≡ is.home ∷ 1 ∷ cardinality (by_strings entries) ∷ [] = is.nums in absurd (cc)
-ints-in at pair count (by_ints entries) is =
-    let root : is.root ≡ Pid 9 = cc in
-    (entries, subst (λ (n : Reference). HasEntries (SeenIn at) pair IsIntKey n entries) root is.nodes)
+pub record IntsIn (at : Space) (pair : Pairing) (root : Reference) (nodes : List Reference) : Type 0 where
+  pub entries : List (Entry ℤ)
+  pub has : HasEntries int_keys (SeenIn at) pair root entries nodes
+
+pub ints-in : (at : Space) (pair : Pairing) (n root : Reference) (home count : ℕ) (of : Table) (nodes : List Reference)
+    → SeenIn at n (record { kind = kind.Table; refs = root ∷ []; nums = home ∷ 2 ∷ count ∷ []; bytes = 0 }) → IsTable (SeenIn at) pair n of nodes → IntsIn at pair root nodes
+ints-in at pair n root home count of nodes there is = by of is.nums is.has
+  where
+    same : is.it ≡ record { kind = kind.Table; refs = root ∷ []; nums = home ∷ 2 ∷ count ∷ []; bytes = 0 }
+    same = seen-one at n is.it (record { kind = kind.Table; refs = root ∷ []; nums = home ∷ 2 ∷ count ∷ []; bytes = 0 }) is.there there
+
+    by : (of : Table) → is.it.nums ≡ is.home ∷ key_kind of ∷ cardinality of ∷ [] → HasNodes (SeenIn at) pair is.root of nodes → IntsIn at pair root nodes
+    by without_keys nums has =
+        let words : home ∷ 2 ∷ count ∷ [] ≡ is.home ∷ 0 ∷ cardinality without_keys ∷ [] = sym (ap (λ (it : Shown). it.nums) same) ∙ nums in absurd (cc)
+    by (by_strings entries) nums has =
+        let words : home ∷ 2 ∷ count ∷ [] ≡ is.home ∷ 1 ∷ cardinality (by_strings entries) ∷ [] = sym (ap (λ (it : Shown). it.nums) same) ∙ nums in absurd (cc)
+    by (by_ints entries) nums has =
+        let refs : root ∷ [] ≡ is.root ∷ [] = sym (ap (λ (it : Shown). it.refs) same) ∙ is.refs in
+        let here : is.root ≡ root = cc in
+        record { entries = entries; has = subst (λ (m : Reference). HasEntries int_keys (SeenIn at) pair m entries nodes) here has }
 
 -- Where the table stands for none, the space stands for no heap: the directory names the table.
 
@@ -238,39 +241,43 @@ paired-root count a b c pair (d ∷ ds) is =
     let same = seen-one (space count a b c) (Pid 61) is.it directory_shown is.there (directory-seen count a b c) in
     (d, (subst (λ (it : Shown). AreNamed (SeenIn (space count a b c)) pair it.refs (d ∷ ds)) same is.names).2.0)
 
--- what stands for an object and has the kind of a table stands for a table
-pub table-in : (at : Space) (pair : Pairing) (count : ℕ) (object : Object) → IsThing (SeenIn at) pair (table_shown count) object
-    → (of : Table) × IsTable (SeenIn at) pair (table_shown count) of
-table-in at pair count (Structure class fields) is = let of : kind.Table ≡ kind.Structure = is.0.kind_is in absurd (cc)
-table-in at pair count (Elements ty low elements) is = let of : kind.Table ≡ kind.Vector = is.0.rows.kind_is in absurd (cc)
-table-in at pair count (Scope text parent values) is = let of : kind.Table ≡ kind.Scope = is.0.kind_is in absurd (cc)
-table-in at pair count (Keyed of) is = (of, is)
+-- what is seen as a table stands for a table
+pub table-in : (at : Space) (heap : StoredHeap) (names : List Reference) (s : StandsUnder at heap names) (n id : ℕ) (it : Shown) → SeenIn at (Pid n) it → it.kind ≡ kind.Table
+    → paired names (Pid n) id → (of : Table) × IsTable (SeenIn at) (stored names) (Pid n) of (s.tables.nodes id)
+table-in at heap names s n id it there is p =
+    let both = s.both n id p in
+    by both.object both.means (subst (λ (x : Shown). IsThing (SeenIn at) (paired names) x both.object) (seen-one at (Pid n) both.it it both.there there) both.like)
+  where
+    by : (o : Object) → object_at heap.objects id ≡ Some o → IsThing (SeenIn at) (paired names) it o → (of : Table) × IsTable (SeenIn at) (stored names) (Pid n) of (s.tables.nodes id)
+    by (Structure class fields) means like = let of : kind.Table ≡ kind.Structure = sym is ∙ like.0.kind_is in absurd (cc)
+    by (Elements ty low elements) means like = let of : kind.Table ≡ kind.Vector = sym is ∙ like.0.rows.kind_is in absurd (cc)
+    by (Scope text parent values) means like = let of : kind.Table ≡ kind.Scope = sym is ∙ like.0.kind_is in absurd (cc)
+    by (Keyed of) means like = (of, s.tables.each (Pid n) id of (p, n, refl) means)
 
-no-heap : (count : ℕ) (a b c : Spelled) → ((pair : Pairing) (of : Table) → IsTable (SeenIn (space count a b c)) pair (table_shown count) of → ⊥)
+no-heap : (count : ℕ) (a b c : Spelled)
+    → ((pair : Pairing) (of : Table) (nodes : List Reference) → IsTable (SeenIn (space count a b c)) pair (Pid 1) of nodes → ⊥)
     → (heap : StoredHeap) → SpaceStands (space count a b c) heap → ⊥
 unfolding space
 no-heap count a b c none heap s =
-    let seen = SeenIn (space count a b c) in
     let root = paired-root count a b c (paired s.names) heap.directory s.stands.directory in
-    let both = s.stands.both 1 root.0.root root.1 in
-    let same = seen-one (space count a b c) (Pid 1) both.it (table_shown count) both.there (table-seen count a b c) in
-    let of = table-in (space count a b c) (paired s.names) count both.object (subst (λ (it : Shown). IsThing seen (paired s.names) it both.object) same both.like) in
-    none (paired s.names) of.0 of.1
+    let of = table-in (space count a b c) heap s.names s.stands 1 root.0.root (table_shown count) (table-seen count a b c) refl root.1 in
+    none (stored s.names) of.0 (s.stands.tables.nodes root.0.root) of.1
 
 -- a node without sides has height 1
-height-alone : (at : Space) (pair : Pairing) (n key : ℕ) (t : Tree (Entry ℤ)) → SeenIn at (Pid n) (shown Nil Nil (alone key))
-    → StandsForTree (SeenIn at) pair IsIntKey (Pid n) t → height t ≡ 1
-height-alone at pair n key t there stands = sym (sides-of at pair IsIntKey n Nil Nil Nil (Pid 42) key 1 t there stands).high_is
+height-alone : (at : Space) (n key : ℕ) (t : Tree (I int_keys)) → SeenIn at (Pid n) (shown Nil Nil (alone key)) → link_of (Pid n) ≡ root_of t
+    → TreeStands (HasNode int_keys (SeenIn at)) t → height t ≡ 1
+height-alone at n key t there root stands = sym (sides-of int_keys at n Nil Nil Nil (Pid 42) key 1 t there root stands).high_is
 
 -- Another height of the root.
 
-too-high : (pair : Pairing) (of : Table) → IsTable (SeenIn (three 3)) pair (table_shown 3) of → ⊥
-too-high pair of is =
-    let tree = (ints-in (three 3) pair 3 of is).1 in
-    let sides = sides-of (three 3) pair IsIntKey 9 (Pid 20) (Pid 31) Nil (Pid 42) 5 3 tree.tree (five-seen 3) tree.stands in
-    let left = height-alone (three 3) pair 20 3 sides.l (three-seen 3) sides.on_left in
-    let right = height-alone (three 3) pair 31 8 sides.r (eight-seen 3) sides.on_right in
-    let high : 3 ≡ height (trees.node sides.l sides.entry sides.r) = sides.high_is ∙ ap height sides.tree_is in
+too-high : (pair : Pairing) (of : Table) (nodes : List Reference) → IsTable (SeenIn (three 3)) pair (Pid 1) of nodes → ⊥
+too-high pair of nodes is =
+    let ints = ints-in (three 3) pair (Pid 1) (Pid 9) 1 3 of nodes (table-seen 3 (five 3) (alone 3) (alone 8)) is in
+    let tree = ints.has in
+    let sides = sides-of int_keys (three 3) 9 (Pid 20) (Pid 31) Nil (Pid 42) 5 3 tree.tree (five-seen 3) tree.root_is tree.stands in
+    let left = height-alone (three 3) 20 3 sides.l (three-seen 3) sides.left_is sides.on_left in
+    let right = height-alone (three 3) 31 8 sides.r (eight-seen 3) sides.right_is sides.on_right in
+    let high : 3 ≡ height (trees.node sides.l sides.item sides.r) = sides.high_is ∙ ap height sides.tree_is in
     absurd (omega (arith, left, right, high))
 
 another_height : (heap : StoredHeap) → SpaceStands (three 3) heap → ⊥
@@ -299,13 +306,15 @@ second-leans = seen-in 3 upper middle (alone 8) 20
     (node middle) (shown Nil (Pid 31) middle) (inr (inr (inl refl)))
     (record { flags = refl; pid = refl; chain = refl; refs = (inl refl, (inr (omega arith), (inl refl, (inr (omega arith), tt)))) }) refl
 
-leans : (pair : Pairing) (of : Table) → IsTable (SeenIn leaning) pair (table_shown 3) of → ⊥
-leans pair of is =
-    let tree = (ints-in leaning pair 3 of is).1 in
-    let sides = sides-of leaning pair IsIntKey 9 Nil (Pid 20) Nil (Pid 42) 3 3 tree.tree first-leans tree.stands in
-    let left = ap height (nil-leaf leaning pair IsIntKey sides.l sides.on_left) in
-    let right = (sides-of leaning pair IsIntKey 20 Nil (Pid 31) Nil (Pid 42) 5 2 sides.r second-leans sides.on_right).high_is in
-    absurd (omega (arith, left, right, sides.near.0, sides.near.1))
+leans : (pair : Pairing) (of : Table) (nodes : List Reference) → IsTable (SeenIn leaning) pair (Pid 1) of nodes → ⊥
+leans pair of nodes is =
+    let ints = ints-in leaning pair (Pid 1) (Pid 9) 1 3 of nodes (table-seen 3 upper middle (alone 8)) is in
+    let tree = ints.has in
+    let sides = sides-of int_keys leaning 9 Nil (Pid 20) Nil (Pid 42) 3 3 tree.tree first-leans tree.root_is tree.stands in
+    let left = ap height (nil-leaf int_keys sides.l sides.left_is) in
+    let right = (sides-of int_keys leaning 20 Nil (Pid 31) Nil (Pid 42) 5 2 sides.r second-leans sides.right_is sides.on_right).high_is in
+    let balanced = subst IsBalanced sides.tree_is tree.balanced in
+    absurd (omega (arith, left, right, balanced.2.0, balanced.2.1))
 
 all_to_the_right : (heap : StoredHeap) → SpaceStands leaning heap → ⊥
 all_to_the_right heap s = no-heap 3 upper middle (alone 8) leans heap s
@@ -332,43 +341,56 @@ unfolding header_in reference_at object_in
 below-seen = seen-in 2 over (alone minus_one) (alone 8) 20 (node (alone minus_one)) (shown Nil Nil (alone minus_one)) (inr (inr (inl refl)))
     (record { flags = refl; pid = refl; chain = refl; refs = (inl refl, (inl refl, (inl refl, (inr (omega arith), tt)))) }) refl
 
-two_keys : IsTable (SeenIn two) (paired names) (table_shown 2) (by_ints (under (negsuc 0) ∷ under (pos 5) ∷ []))
+two_keys : IsTable (SeenIn two) (stored names) (Pid 1) (by_ints (under (negsuc 0) ∷ under (pos 5) ∷ [])) (Pid 20 ∷ Pid 9 ∷ [])
 unfolding int_in cardinality
 two_keys = record {
+  it = table_shown 2;
+  there = table-seen 2 over (alone minus_one) (alone 8);
   kind_is = refl;
   root = Pid 9;
   home = 1;
   refs = refl;
   nums = refl;
-  nodes = record {
-    tree = trees.node (trees.node trees.leaf (under (negsuc 0)) trees.leaf) (under (pos 5)) trees.leaf;
+  has = record {
+    tree = trees.node (trees.node trees.leaf (item (Pid 20) (negsuc 0)) trees.leaf) (item (Pid 9) (pos 5)) trees.leaf;
+    root_is = refl;
     stands = (
-      shown (Pid 20) Nil over,
-      Pid 20,
-      Nil,
-      over-seen,
-      node-is 2 over (alone minus_one) (alone 8) (Pid 20) Nil over (pos 5) refl,
-      (
-        shown Nil Nil (alone minus_one),
-        Nil,
-        Nil,
-        below-seen,
-        node-is 2 over (alone minus_one) (alone 8) Nil Nil (alone minus_one) (negsuc 0) refl,
-        refl,
-        refl,
-        (omega arith, omega arith),
-      ),
-      refl,
-      (omega arith, omega arith),
+      node-is 2 over (alone minus_one) (alone 8) (Pid 9) (Pid 20) Nil over (pos 5) (Some (Pid 20)) None refl over-seen refl refl,
+      (node-is 2 over (alone minus_one) (alone 8) (Pid 20) Nil Nil (alone minus_one) (negsuc 0) None None refl below-seen refl refl, tt, tt),
+      tt,
     );
-    are = refl;
+    rising = ((refl, tt), (tt, tt));
+    balanced = ((tt, tt, (omega arith, omega arith)), tt, (omega arith, omega arith));
+    values = (some-name, (some-name, tt));
+    pairs = (refl, empty-named 2 over (alone minus_one) (alone 8), (refl, empty-named 2 over (alone minus_one) (alone 8), tt));
+    nodes_are = refl;
   };
-  ordered = ((refl, tt), (tt, tt));
 }
 
-no_keys : IsTable (SeenIn two) (paired names) empty_shown without_keys
+no_keys : IsTable (SeenIn two) (stored names) (Pid 42) without_keys []
 unfolding cardinality
-no_keys = record { kind_is = refl; root = Nil; home = 1; refs = refl; nums = refl; nodes = refl; ordered = tt }
+no_keys = record {
+  it = empty_shown;
+  there = empty-seen 2 over (alone minus_one) (alone 8);
+  kind_is = refl;
+  root = Nil;
+  home = 1;
+  refs = refl;
+  nums = refl;
+  has = (refl, refl);
+}
 
-another_order : IsTable (SeenIn two) (paired names) (table_shown 2) (by_ints (under (pos 5) ∷ under (negsuc 0) ∷ [])) → ⊥
-another_order table = let below = table.ordered.0.0 in absurd (cc)
+another_order : (nodes : List Reference) → IsTable (SeenIn two) (stored names) (Pid 1) (by_ints (under (pos 5) ∷ under (negsuc 0) ∷ [])) nodes → ⊥
+another_order nodes table =
+    let has = table.has in
+    let rise = entries-rise int_cmp (SeenIn two) (stored names) (items has.tree) (under (pos 5) ∷ under (negsuc 0) ∷ []) has.rising has.pairs in
+    let below = rise.0.0 in
+    absurd (cc)
+
+-- the value of a node's pair stands for an object
+pub pair-under : (seen : Seen) (pair : Pairing) (before : List (I int_keys)) (a : I int_keys) (behind : List (I int_keys)) (entries : List (Entry ℤ))
+    → ArePairs seen pair (before ++ a ∷ behind) entries → (id : ℕ) × StandsFor seen pair a.entry.value (Pointer id)
+pair-under seen pair [] a behind (e ∷ entries) p = (e.object, p.1)
+pair-under seen pair [] a behind [] p = absurd p
+pair-under seen pair (b ∷ before) a behind (e ∷ entries) p = pair-under seen pair before a behind entries p.2
+pair-under seen pair (b ∷ before) a behind [] p = absurd p

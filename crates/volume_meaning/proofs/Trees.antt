@@ -1,16 +1,24 @@
--- What is seen of a table's nodes tells which tree they stand for: nil stands for no entry, and a node that is seen for a tree of its height.
-use Rattle.std.proofs.Common.{◌≡◌, ℕ, [], ◌∷◌, ◌++◌, length, length-append, refl, sym, ◌∙◌, ap, subst, arith}
+-- What is seen of a table's nodes tells which tree they stand for: nil stands for no item, and a node that is seen for a tree of its height.
+use Rattle.std.proofs.Common.{inl, inr, ◌⊎◌, ◌≡◌, ℕ, List, [], ◌∷◌, ◌++◌, refl, sym, ◌∙◌, ap, subst, Option, Some, None}
+use Rattle.std.specs.List.{AllByRecursion}
+use Rattle.std.specs.declared.cmp.Ordering.{Ordering}
+use Rattle.std.specs.declared.cmp.Ordering.TheVariants.{Less}
 use Rattle.ps_volumes.specs.obj_layout.declared.kind.Kind.TheVariants as kind
 use Rattle.ps_volumes.specs.obj_layout.declared.reference.Reference.{Reference}
 use Rattle.ps_volumes.specs.obj_layout.declared.reference.Reference.TheVariants.{Nil, Pid}
 use Rattle.ps_volumes.specs.obj_layout.Stored.{Space}
 use Rattle.heap_meaning.specs.swizzle.Joint.{Shown}
-use Rattle.heap_meaning.specs.Standing.{Pairing, StandsFor}
-use Rattle.ps_code_laws.specs.ps_heap.Values.{Pointer}
-use Rattle.heap_fit.specs.ps_heap.Tables.{Entry}
-use Rattle.heap_fit.specs.ps_heap.avl_trees.Trees.{Tree, leaf, node, height, items, Near}
-use Rattle.volume_meaning.specs.Space.{SeenIn, with_tables}
-use Rattle.volume_meaning.specs.Tables.{StandsForTree}
+use Rattle.heap_meaning.specs.heap_places.Shapes.{slot_of, word_in}
+use Rattle.heap_meaning.specs.avl_trees.Rising.{AreRising}
+use Rattle.heap_meaning.specs.avl_trees.Trees.{Tree, leaf, node, height, items}
+use Rattle.heap_meaning.specs.avl_trees.Standing.{Item, root_of, under, Stands as TreeStands}
+use Rattle.heap_meaning.specs.node_rows.Keys.{Keys, KeyOf}
+use Rattle.heap_meaning.specs.node_rows.Nodes.{I, IsAmong, HasNode, link_of}
+use Rattle.heap_meaning.specs.Standing.{Seen, Pairing}
+use Rattle.heap_meaning.specs.Tables.{ArePairs, names_of}
+use Rattle.heap_meaning.proofs.TableLaws.{among-back}
+use Rattle.heap_fit.specs.ps_heap.Tables.{Entry, AreInKeyOrder}
+use Rattle.volume_meaning.specs.Space.{SeenIn}
 use Rattle.volume_meaning.proofs.Seen.{seen-one}
 
 -- what is seen of a node: its sides, its key's text and its value, and its key and its height as words
@@ -18,52 +26,71 @@ abbrev pub node_shown : Reference → Reference → Reference → Reference → 
 node_shown left right key value word high =
     record { kind = kind.Node; refs = left ∷ right ∷ key ∷ value ∷ []; nums = 0 ∷ word ∷ high ∷ []; bytes = 0 }
 
--- nil stands for no entry
-pub nil-leaf : {K : Type 0} (space : Space) (pair : Pairing) (IsKey : Shown → K → Type 0) (t : Tree (Entry K))
-    → StandsForTree (SeenIn space) pair IsKey Nil t → t ≡ leaf
-nil-leaf space pair IsKey leaf stands = refl
-nil-leaf space pair IsKey (node l e r) stands = let name : Nil ≡ Pid stands.3.pid = stands.3.name_is in absurd (cc)
+-- nil stands for no item
+pub nil-leaf : (ks : Keys) (t : Tree (I ks)) → link_of Nil ≡ root_of t → t ≡ leaf
+nil-leaf ks leaf root = refl
+nil-leaf ks (node l a r) root = absurd (cc)
 
 -- a tree with its sides, for which the sides of a node stand
-pub record Sides {K : Type 0} (space : Space) (pair : Pairing) (IsKey : Shown → K → Type 0) (left right value : Reference) (high : ℕ) (t : Tree (Entry K)) : Type 0 where
-  pub l : Tree (Entry K)
-  pub entry : Entry K
-  pub r : Tree (Entry K)
-  pub tree_is : t ≡ node l entry r
+pub record Sides (ks : Keys) (space : Space) (left right value : Reference) (high : ℕ) (t : Tree (I ks)) : Type 0 where
+  pub l : Tree (I ks)
+  pub item : I ks
+  pub r : Tree (I ks)
+  pub tree_is : t ≡ node l item r
   pub high_is : high ≡ height t
-  pub value_is : StandsFor (with_tables (SeenIn space)) pair value (Pointer entry.object)
-  pub on_left : StandsForTree (SeenIn space) pair IsKey left l
-  pub on_right : StandsForTree (SeenIn space) pair IsKey right r
-  pub near : Near 1 (height l) (height r)
+  pub value_is : value ≡ item.entry.value
+  pub left_is : link_of left ≡ root_of l
+  pub right_is : link_of right ≡ root_of r
+  pub on_left : TreeStands (HasNode ks (SeenIn space)) l
+  pub on_right : TreeStands (HasNode ks (SeenIn space)) r
 
-pub sides-of : {K : Type 0} (space : Space) (pair : Pairing) (IsKey : Shown → K → Type 0) (n : ℕ) (left right key value : Reference) (word high : ℕ) (t : Tree (Entry K))
-    → SeenIn space (Pid n) (node_shown left right key value word high) → StandsForTree (SeenIn space) pair IsKey (Pid n) t
-    → Sides space pair IsKey left right value high t
-sides-of space pair IsKey n left right key value word high leaf there stands = absurd (cc)
-sides-of space pair IsKey n left right key value word high (node l e r) there stands =
-    let same = seen-one space (Pid n) stands.0 (node_shown left right key value word high) stands.3 there in
-    let is = stands.4 in
-    let refs : left ∷ right ∷ key ∷ value ∷ [] ≡ stands.1 ∷ stands.2 ∷ is.key_name ∷ is.value_name ∷ [] = sym (ap (λ (it : Shown). it.refs) same) ∙ is.refs in
-    let nums : 0 ∷ word ∷ high ∷ [] ≡ is.home ∷ is.key_word ∷ height (node l e r) ∷ [] = sym (ap (λ (it : Shown). it.nums) same) ∙ is.nums in
-    let left_is : stands.1 ≡ left = cc in
-    let right_is : stands.2 ≡ right = cc in
-    let named : is.value_name ≡ value = cc in
-    let tall : high ≡ height (node l e r) = cc in
+pub sides-of : (ks : Keys) (space : Space) (n : ℕ) (left right key value : Reference) (word high : ℕ) (t : Tree (I ks))
+    → SeenIn space (Pid n) (node_shown left right key value word high) → link_of (Pid n) ≡ root_of t → TreeStands (HasNode ks (SeenIn space)) t
+    → Sides ks space left right value high t
+sides-of ks space n left right key value word high leaf there root stands = absurd (cc)
+sides-of ks space n left right key value word high (node l a r) there root stands =
+    let h = stands.0 in
+    let named : a.name ≡ Pid n = cc in
+    let same = seen-one space (Pid n) h.it (node_shown left right key value word high) (subst (λ (m : Reference). SeenIn space m h.it) named h.there) there in
     record {
       l = l;
-      entry = e;
+      item = a;
       r = r;
       tree_is = refl;
-      high_is = tall;
-      value_is = subst (λ (m : Reference). StandsFor (with_tables (SeenIn space)) pair m (Pointer e.object)) named is.is_value;
-      on_left = subst (λ (m : Reference). StandsForTree (SeenIn space) pair IsKey m l) left_is stands.5;
-      on_right = subst (λ (m : Reference). StandsForTree (SeenIn space) pair IsKey m r) right_is stands.6;
-      near = stands.7;
+      high_is = sym (ap (λ (it : Shown). word_in it 2) same) ∙ h.is.height;
+      value_is = sym (ap (λ (it : Shown). slot_of it 3) same) ∙ h.is.value;
+      left_is = sym (ap (λ (it : Shown). link_of (slot_of it 0)) same) ∙ h.is.left;
+      right_is = sym (ap (λ (it : Shown). link_of (slot_of it 1)) same) ∙ h.is.right;
+      on_left = stands.1;
+      on_right = stands.2;
     }
 
--- the entry of a tree that has one alone
-pub one-entry : {A : Type 0} (l : Tree A) (a : A) (r : Tree A) (e : A) → items (node l a r) ≡ e ∷ [] → a ≡ e
-one-entry leaf a r e is = cc
-one-entry (node x b y) a r e is =
-    let long : length (items (node x b y) ++ a ∷ items r) ≡ 1 = ap length is in
-    absurd (omega (arith, long, length-append (items (node x b y)) (a ∷ items r), length-append (items x) (b ∷ items y)))
+-- the root of a tree is one of its nodes
+pub root-among : (ks : Keys) (t : Tree (I ks)) (n : Reference) → link_of n ≡ root_of t → link_of n ≡ Some n → IsAmong n (names_of (items t))
+root-among ks leaf n root some = absurd (cc)
+root-among ks (node l a r) n root some =
+    let named : n ≡ a.name = cc in
+    among-back (items l) (a ∷ items r) n (inl named)
+
+-- the only entry of a tree with one item alone
+pub one-value : (ks : Keys) (seen : Seen) (pair : Pairing) (l : Tree (I ks)) (a : I ks) (r : Tree (I ks)) (e : Entry (KeyOf ks)) → l ≡ leaf → r ≡ leaf
+    → ArePairs seen pair (items (node l a r)) (e ∷ []) → ArePairs seen pair (a ∷ []) (e ∷ [])
+one-value ks seen pair l a r e left right p =
+    subst (λ (u : Tree (I ks)). ArePairs seen pair (a ∷ items u) (e ∷ [])) right (subst (λ (u : Tree (I ks)). ArePairs seen pair (items u ++ a ∷ items r) (e ∷ [])) left p)
+
+-- The entries of a table stand in the order of their keys.
+
+above-all : {K : Type 0} (order : K → K → Ordering) (seen : Seen) (pair : Pairing) (a : Item Reference K Reference) (e : Entry K) (is : List (Item Reference K Reference)) (es : List (Entry K))
+    → a.entry.key ≡ e.key → AllByRecursion (under order a) is → ArePairs seen pair is es → AllByRecursion (λ f. order e.key f.key ≡ Less) es
+above-all order seen pair a e [] [] same u p = tt
+above-all order seen pair a e (b ∷ is) (f ∷ es) same u p =
+    (sym (ap (λ (k : _). order k f.key) same) ∙ (sym (ap (order a.entry.key) p.0) ∙ u.0), above-all order seen pair a e is es same u.1 p.2)
+above-all order seen pair a e [] (f ∷ es) same u p = absurd p
+above-all order seen pair a e (b ∷ is) [] same u p = absurd p
+
+pub entries-rise : {K : Type 0} (order : K → K → Ordering) (seen : Seen) (pair : Pairing) (is : List (Item Reference K Reference)) (es : List (Entry K)) → AreRising (under order) is
+    → ArePairs seen pair is es → AreInKeyOrder order es
+entries-rise order seen pair [] [] u p = tt
+entries-rise order seen pair (a ∷ is) (e ∷ es) u p = (above-all order seen pair a e is es p.0 u.0 p.2, entries-rise order seen pair is es u.1 p.2)
+entries-rise order seen pair [] (e ∷ es) u p = absurd p
+entries-rise order seen pair (a ∷ is) [] u p = absurd p

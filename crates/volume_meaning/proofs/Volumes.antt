@@ -127,9 +127,17 @@ stands-without space objects heap cut no_directory no_database = record {
     directory = subst (λ (ds : List Database). IsDirectoryOf (SeenIn space) (paired []) space.directory ds) (sym no_database) no_directory;
     both = λ pid id p. absurd (cc);
     one_number = λ pid i j p q. absurd (cc);
-    apart = λ a b i j n p q. absurd (cc);
+    tables = record {
+      nodes = λ id. [];
+      each = λ n id table p is. absurd (none_named n id p.0);
+      are_nodes = λ id n a. absurd a;
+      apart = λ i j n a b. absurd a;
+    };
   };
 }
+  where
+    none_named : (n : Reference) (id : ℕ) → paired [] n id → ⊥
+    none_named n id p = cc
 
 no-database : (space : Space) (names : List Reference) (databases : List Database) → space.directory ≡ 0
     → IsDirectoryOf (SeenIn space) (paired names) space.directory databases → databases ≡ []

@@ -1,6 +1,6 @@
 -- A worked space: a database whose root has one entry, a structure with an int, a string and the root. It stands for its heap. With another home of
 -- the structure, or another number of entries of the table, it doesn't.
-use Rattle.std.proofs.Common.{◌≡◌, ◌⊎◌, inl, inr, ℕ, zero, suc, List, [], ◌∷◌, ◌++◌, ◌^◌, refl, sym, ◌∙◌, ap, subst, arith, pos, Some}
+use Rattle.std.proofs.Common.{◌≡◌, ◌≢◌, ◌⊎◌, inl, inr, ℕ, zero, suc, List, [], ◌∷◌, ◌++◌, ◌^◌, refl, sym, ◌∙◌, ap, subst, arith, pos, Some}
 use Rattle.std.specs.Prelude.{codes}
 use Rattle.ps_volumes.specs.obj_layout.declared.kind.Kind.TheVariants as kind
 use Rattle.ps_volumes.specs.obj_layout.declared.reference.Reference.{Reference}
@@ -16,12 +16,15 @@ use Rattle.heap_meaning.specs.heap_places.Words.{int_in}
 use Rattle.heap_meaning.specs.heap_places.Shapes.{word_in}
 use Rattle.ps_code_laws.specs.text_forms.Forms.{forms_of, forms_from, form_here, begins}
 use Rattle.ps_code_laws.specs.ps_heap.Values.{Num, Text, Pointer}
-use Rattle.heap_meaning.specs.Standing.{IsKindOf}
+use Rattle.heap_meaning.specs.avl_trees.Trees as trees
+use Rattle.heap_meaning.specs.avl_trees.Trees.{Tree, items}
+use Rattle.heap_meaning.specs.node_rows.Keys.{by_texts as text_keys}
+use Rattle.heap_meaning.specs.node_rows.Nodes.{I, IsAmong as IsNameAmong, link_of}
+use Rattle.heap_meaning.specs.Tables.{ArePairs, IsTable, TablesStand}
+use Rattle.heap_meaning.specs.Standing.{IsKindOf, IsPointed}
 use Rattle.heap_meaning.specs.Paired.{paired}
-use Rattle.heap_fit.specs.ps_heap.Tables.{Entry, by_strings, cardinality}
-use Rattle.heap_fit.specs.ps_heap.avl_trees.Trees as trees
-use Rattle.heap_fit.specs.ps_heap.avl_trees.Trees.{items}
-use Rattle.heap_fit.specs.ps_heap.Objects.{Object, Structure, Keyed}
+use Rattle.heap_fit.specs.ps_heap.Tables.{Table, by_strings, cardinality}
+use Rattle.heap_fit.specs.ps_heap.Objects.{Object, Structure, Keyed, object_at}
 use Rattle.heap_fit.specs.ps_heap.References.{next_in}
 use Rattle.heap_fit.specs.ps_heap.Databases.{every_root}
 use Rattle.heap_fit.specs.ps_heap.Held.{StoredHeap, home_at}
@@ -30,12 +33,11 @@ use Rattle.heap_fit.specs.ps_heap.reaching.Reaching.{IsIn, at_start, by_step}
 use Rattle.heap_fit.specs.ps_soundness.ps_meaning.ps_base.TyView as types
 use Rattle.heap_fit.specs.ps_soundness.ps_type_text.Texts.{Field, IsNamed, is_name_byte}
 use Rattle.heap_fit.specs.Heaps.{at_structure, at_table, IsFitAt, IsFitHeap}
-use Rattle.volume_meaning.specs.Space.{holding, IsStored, SeenIn, with_tables}
-use Rattle.volume_meaning.specs.Tables.{IsStringKey, StandsForTree, IsTable, IsNodeOf}
-use Rattle.volume_meaning.specs.Stands.{IsThing, IsHome, Both, AreNamed, IsDirectory, StandsUnder, SpaceStands, Stands}
+use Rattle.volume_meaning.specs.Space.{holding, IsStored, SeenIn}
+use Rattle.volume_meaning.specs.Stands.{IsThing, IsHome, Both, AreNamed, IsDirectory, stored, StandsUnder, SpaceStands, Stands}
 use Rattle.volume_meaning.proofs.Seen.{seen-one}
 use Rattle.volume_meaning.proofs.Spelled.{space-held, each-below}
-use Rattle.volume_meaning.proofs.Trees.{node_shown, sides-of, one-entry}
+use Rattle.volume_meaning.proofs.Trees.{node_shown, nil-leaf, sides-of, one-value}
 use Rattle.volume_meaning.proofs.Cutting.{pid, at, space_with, is-object, Follow, cut-of, seen-there, of_text, text-is}
 
 -- The words.
@@ -276,48 +278,55 @@ directory-is = record {
   );
 }
 
-table-is : IsTable (SeenIn (space 1 1)) (paired names) (table_shown 1) (by_strings (record { key = codes "k"; object = 1 } ∷ []))
+-- the pair of the only node
+abbrev only : I text_keys
+only = record { name = Pid 28; entry = record { key = codes "k"; value = Pid 45 } }
+
+table-is : IsTable (SeenIn (space 1 1)) (stored names) (Pid 20) (by_strings (record { key = codes "k"; object = 1 } ∷ [])) (Pid 28 ∷ [])
 unfolding bytes_of word_bytes cardinality
 table-is = record {
+  it = table_shown 1;
+  there = table-seen 1 1;
   kind_is = refl;
   root = Pid 28;
   home = 1;
   refs = refl;
   nums = refl;
-  nodes = record {
-    tree = trees.node trees.leaf (record { key = codes "k"; object = 1 }) trees.leaf;
+  has = record {
+    tree = trees.node trees.leaf only trees.leaf;
+    root_is = refl;
     stands = (
-      one_node,
-      Nil,
-      Nil,
-      node-seen 1 1,
       record {
-        kind_is = refl;
-        key_name = Pid 39;
-        value_name = Pid 45;
-        home = 0;
-        key_word = 0;
-        refs = refl;
-        nums = refl;
-        is_key = text-is (SeenIn (space 1 1)) (Pid 39) 1 (0x6b ∷ []) (codes "k") (key-seen 1 1) refl;
-        is_value = (refl, record { it = box_shown 1; there = inl (box-seen 1 1); kind_is = refl });
+        it = one_node;
+        there = node-seen 1 1;
+        is = record {
+          kind = refl;
+          refs = refl;
+          nums = refl;
+          left = refl;
+          right = refl;
+          key = text-is (SeenIn (space 1 1)) (Pid 39) 1 (0x6b ∷ []) (codes "k") (key-seen 1 1) refl;
+          value = refl;
+          height = refl;
+        };
       },
-      refl,
-      refl,
-      (omega arith, omega arith),
+      tt,
+      tt,
     );
-    are = refl;
+    rising = (tt, tt);
+    balanced = (tt, tt, (omega arith, omega arith));
+    values = (some_value, tt);
+    pairs = (refl, ((refl, 45, refl), inl (record { it = box_shown 1; there = box-seen 1 1; kind_is = refl })), tt);
+    nodes_are = refl;
   };
-  ordered = (tt, tt);
 }
+  where
+    some_value : Pid 45 ≢ Nil
+    some_value e = cc
 
 -- a pntr may name the table
-root_as_pntr : IsKindOf (with_tables (SeenIn (space 1 1))) (Pid 20) kind.Structure
-root_as_pntr = record {
-  it = record { kind = kind.Structure; refs = Pid 28 ∷ []; nums = 1 ∷ 1 ∷ 1 ∷ []; bytes = 0 };
-  there = inr (record { table = table_shown 1; there = table-seen 1 1; kind_is = refl; it_is = refl });
-  kind_is = refl;
-}
+root_as_pntr : IsPointed (SeenIn (space 1 1)) (Pid 20)
+root_as_pntr = inr (record { it = table_shown 1; there = table-seen 1 1; kind_is = refl })
 
 box-is : IsThing (SeenIn (space 1 1)) (paired names) (box_shown 1) boxed
 unfolding bytes_of word_bytes forms_of forms_from form_here begins int_in
@@ -330,8 +339,8 @@ box-is = (
     words = 3 ∷ [];
     refs = refl;
     nums = refl;
-    is_text = record { it = class_shown; there = inl (class-seen 1 1); kind = refl; bytes_are = refl };
-    are = (refl, (text-is (with_tables (SeenIn (space 1 1))) (Pid 63) 2 (0x6968 ∷ []) (codes "hi") (inl (string-seen 1 1)) refl, ((refl, root_as_pntr), tt)));
+    is_text = record { it = class_shown; there = class-seen 1 1; kind = refl; bytes_are = refl };
+    are = (refl, (text-is (SeenIn (space 1 1)) (Pid 63) 2 (0x6968 ∷ []) (codes "hi") (string-seen 1 1) refl, ((refl, root_as_pntr), tt)));
   },
   (tt, (tt, (tt, tt))),
 )
@@ -341,7 +350,7 @@ unfolding home_at
 both-are n zero p =
     let same : Pid 20 ≡ Pid n = cc in
     subst (λ (m : Reference). Both (SeenIn (space 1 1)) heap (paired names) m 0) same
-    (record { it = table_shown 1; object = root; there = table-seen 1 1; means = refl; like = table-is; home = refl })
+    (record { it = table_shown 1; object = root; there = table-seen 1 1; means = refl; like = refl; home = refl })
 both-are n (suc zero) p =
     let same : Pid 45 ≡ Pid n = cc in
     subst (λ (m : Reference). Both (SeenIn (space 1 1)) heap (paired names) m 1) same
@@ -357,20 +366,32 @@ one-number n (suc (suc i)) j p q = absurd (cc)
 one-number n zero (suc (suc j)) p q = absurd (cc)
 one-number n (suc zero) (suc (suc j)) p q = absurd (cc)
 
-no-nodes : (a : ℕ) (n : Reference) → paired names (Pid a) 1 → IsNodeOf (SeenIn (space 1 1)) (Pid a) n → (b : ℕ) → a ≡ b
-no-nodes a n p h b =
-    let here : Pid a ≡ Pid 45 = cc in
-    let same = seen-one (space 1 1) (Pid 45) h.it (box_shown 1) (subst (λ (m : Reference). SeenIn (space 1 1) m h.it) here h.there) (box-seen 1 1) in
-    let of : kind.Structure ≡ kind.Table = sym (ap (λ (it : Shown). it.kind) same) ∙ h.kind_is in
-    absurd (cc)
+-- the root has one node, and the structure none
+abbrev nodes_at : ℕ → List Reference
+nodes_at zero = Pid 28 ∷ []
+nodes_at (suc id) = []
 
-they-are-apart : (a b i j : ℕ) (n : Reference) → paired names (Pid a) i → paired names (Pid b) j
-    → IsNodeOf (SeenIn (space 1 1)) (Pid a) n → IsNodeOf (SeenIn (space 1 1)) (Pid b) n → a ≡ b
-they-are-apart a b zero zero n p q h k = cc
-they-are-apart a b zero (suc zero) n p q h k = sym (no-nodes b n q k a)
-they-are-apart a b (suc zero) j n p q h k = no-nodes a n p h b
-they-are-apart a b (suc (suc i)) j n p q h k = absurd (cc)
-they-are-apart a b zero (suc (suc j)) n p q h k = absurd (cc)
+tables-stand : TablesStand (SeenIn (space 1 1)) heap.objects (stored names)
+tables-stand = record { nodes = nodes_at; each = each; are_nodes = are_nodes; apart = apart }
+  where
+    each : (n : Reference) (id : ℕ) (table : Table) → stored names n id → object_at heap.objects id ≡ Some (Keyed table) → IsTable (SeenIn (space 1 1)) (stored names) n table (nodes_at id)
+    each n zero table p is =
+        let same : by_strings (record { key = codes "k"; object = 1 } ∷ []) ≡ table = cc in
+        let named : Pid 20 ≡ n = let e = p.0 in cc in
+        subst (λ (m : Reference). IsTable (SeenIn (space 1 1)) (stored names) m table (Pid 28 ∷ [])) named
+        (subst (λ (of : Table). IsTable (SeenIn (space 1 1)) (stored names) (Pid 20) of (Pid 28 ∷ [])) same table-is)
+    each n (suc zero) table p is = absurd (cc)
+    each n (suc (suc id)) table p is = absurd (cc)
+
+    are_nodes : (id : ℕ) (n : Reference) → IsNameAmong n (nodes_at id) → IsKindOf (SeenIn (space 1 1)) n kind.Node
+    are_nodes zero n (inl is) = subst (λ (m : Reference). IsKindOf (SeenIn (space 1 1)) m kind.Node) (sym is) (record { it = one_node; there = node-seen 1 1; kind_is = refl })
+    are_nodes zero n (inr more) = absurd more
+    are_nodes (suc id) n a = absurd a
+
+    apart : (i j : ℕ) (n : Reference) → IsNameAmong n (nodes_at i) → IsNameAmong n (nodes_at j) → i ≡ j
+    apart zero zero n a b = refl
+    apart zero (suc j) n a b = absurd b
+    apart (suc i) j n a b = absurd a
 
 worked_out : SpaceStands (space 1 1) heap
 unfolding space
@@ -383,7 +404,7 @@ worked_out = record {
     directory = directory-is;
     both = both-are;
     one_number = one-number;
-    apart = they-are-apart;
+    tables = tables-stand;
   };
 }
 
@@ -407,24 +428,23 @@ root-paired home count names s =
     (subst (λ (it : Shown). AreNamed (SeenIn (space home count)) (paired names) it.refs heap.directory) same s.directory.names).2.0
 
 -- what stands for the root, and for the structure
-table-of : (home count : ℕ) (names : List Reference) → StandsUnder (space home count) heap names
-    → IsTable (SeenIn (space home count)) (paired names) (table_shown count) (by_strings (record { key = codes "k"; object = 1 } ∷ []))
-table-of home count names s =
-    let both = s.both 20 0 (root-paired home count names s) in
-    let same = seen-one (space home count) (Pid 20) both.it (table_shown count) both.there (table-seen home count) in
-    let is : both.object ≡ root = cc in
-    subst (λ (it : Shown). IsThing (SeenIn (space home count)) (paired names) it root) same
-    (subst (λ (k : Object). IsThing (SeenIn (space home count)) (paired names) both.it k) is both.like)
+table-of : (home count : ℕ) (names : List Reference) → (s : StandsUnder (space home count) heap names)
+    → IsTable (SeenIn (space home count)) (stored names) (Pid 20) (by_strings (record { key = codes "k"; object = 1 } ∷ [])) (s.tables.nodes 0)
+table-of home count names s = s.tables.each (Pid 20) 0 (by_strings (record { key = codes "k"; object = 1 } ∷ [])) (root-paired home count names s, 20, refl) refl
 
 box-paired : (home count : ℕ) (names : List Reference) → StandsUnder (space home count) heap names → paired names (Pid 45) 1
 box-paired home count names s =
     let table = table-of home count names s in
+    let same = seen-one (space home count) (Pid 20) table.it (table_shown count) table.there (table-seen home count) in
+    let refs : Pid 28 ∷ [] ≡ table.root ∷ [] = sym (ap (λ (it : Shown). it.refs) same) ∙ table.refs in
     let first : table.root ≡ Pid 28 = cc in
-    let seen = SeenIn (space home count) in
-    let stands = subst (λ (n : Reference). StandsForTree seen (paired names) (IsStringKey seen) n table.nodes.tree) first table.nodes.stands in
-    let sides = sides-of (space home count) (paired names) (IsStringKey seen) 28 Nil Nil (Pid 39) (Pid 45) 0 1 table.nodes.tree (node-seen home count) stands in
-    let is = one-entry sides.l sides.entry sides.r (record { key = codes "k"; object = 1 }) (sym (ap items sides.tree_is) ∙ table.nodes.are) in
-    subst (λ (e : Entry (List ℕ)). paired names (Pid 45) e.object) is sides.value_is.0
+    let has = table.has in
+    let root = sym (ap link_of first) ∙ has.root_is in
+    let sides = sides-of text_keys (space home count) 28 Nil Nil (Pid 39) (Pid 45) 0 1 has.tree (node-seen home count) root has.stands in
+    let pairs = subst (λ (t : Tree (I text_keys)). ArePairs (SeenIn (space home count)) (stored names) (items t) (record { key = codes "k"; object = 1 } ∷ [])) sides.tree_is has.pairs in
+    let one = one-value text_keys (SeenIn (space home count)) (stored names) sides.l sides.item sides.r (record { key = codes "k"; object = 1 })
+    (nil-leaf text_keys sides.l sides.left_is) (nil-leaf text_keys sides.r sides.right_is) pairs in
+    subst (λ (n : Reference). paired names n 1) (sym sides.value_is) one.1.0.0
 
 -- Another home: the structure's word is the number of another database.
 another_home : SpaceStands (space 2 1) heap → ⊥
@@ -440,6 +460,7 @@ another_count : SpaceStands (space 1 2) heap → ⊥
 unfolding cardinality
 another_count s =
     let table = table-of 1 2 s.names s.stands in
-    let nums : 1 ∷ 1 ∷ 2 ∷ [] ≡ table.home ∷ 1 ∷ 1 ∷ [] = table.nums in
+    let same = seen-one (space 1 2) (Pid 20) table.it (table_shown 2) table.there (table-seen 1 2) in
+    let nums : 1 ∷ 1 ∷ 2 ∷ [] ≡ table.home ∷ 1 ∷ 1 ∷ [] = sym (ap (λ (it : Shown). it.nums) same) ∙ table.nums in
     let two : ◌≡◌ {A = ℕ} 2 1 = cc in
     absurd (omega arith)

@@ -1,4 +1,3 @@
 pub mod Space
-pub mod Tables
 pub mod Stands
 pub use Rattle.heap_fit.specs as heap_fit

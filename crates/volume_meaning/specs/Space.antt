@@ -5,14 +5,12 @@ use Rattle.std.specs.Option.{option_map}
 use Rattle.ps_volumes.specs.volume_parts.Holding.{Held}
 use Rattle.ps_volumes.specs.paged_volume.Standing.{held_in}
 use Rattle.ps_volumes.specs.volume_parts.declared.note.Note.{Note}
-use Rattle.ps_volumes.specs.obj_layout.declared.kind.Kind.TheVariants.{Structure, Table}
 use Rattle.ps_volumes.specs.obj_layout.declared.reference.Reference.{Reference}
 use Rattle.ps_volumes.specs.obj_layout.declared.reference.Reference.TheVariants.{Pid}
 use Rattle.ps_volumes.specs.obj_layout.Stored.{Space, HasObject}
 use Rattle.ps_volumes.specs.obj_store.Spaces.{space_of, space_held}
 use Rattle.heap_meaning.specs.swizzle.Objects.{header_in}
 use Rattle.heap_meaning.specs.swizzle.Joint.{Shown, shown_words}
-use Rattle.heap_meaning.specs.Standing.{Seen}
 
 -- a space of these words
 abbrev pub spaced : List ℕ → ℕ → Space
@@ -49,13 +47,3 @@ pub record SeenIn (space : Space) (n : Reference) (it : Shown) : Type 0 where
   pub there : HasObject space pid words
   pub stored : IsStored words
   pub shown_is : it ≡ shown_words words
-
--- A value of type pntr names a structure or a table. So for what values name, a table is seen as a structure too.
-pub record SeenAsStructure (seen : Seen) (n : Reference) (it : Shown) : Type 0 where
-  pub table : Shown
-  pub there : seen n table
-  pub kind_is : table.kind ≡ Table
-  pub it_is : it ≡ record table { kind = Structure }
-
-abbrev pub with_tables : Seen → Seen
-with_tables seen n it = seen n it ⊎ SeenAsStructure seen n it

@@ -14,14 +14,14 @@ use Rattle.ps_code_laws.specs.ps_heap.Values.{Value, Procedure, as_written}
 use Rattle.ps_code_laws.specs.ps_heap.Objects as object
 use Rattle.ps_code_laws.specs.Compiled.{compiled_object}
 use Rattle.ps_code_laws.specs.Literals.{BodyIs}
+use Rattle.heap_meaning.specs.Tables.{TablesStand}
 use Rattle.heap_meaning.specs.Standing.{Seen, Pairing, IsKindOf, IsLike}
 use Rattle.heap_meaning.specs.Paired.{paired}
 use Rattle.heap_fit.specs.ps_heap.Objects.{Object, Structure, Elements, Scope, Keyed, object_at}
 use Rattle.heap_fit.specs.ps_heap.Databases.{Database}
 use Rattle.heap_fit.specs.ps_heap.Held.{StoredHeap, home_at}
 use Rattle.heap_fit.specs.Heaps.{IsFitHeap}
-use Rattle.volume_meaning.specs.Space.{SeenIn, space_in, with_tables}
-use Rattle.volume_meaning.specs.Tables.{IsTable, IsNodeOf}
+use Rattle.volume_meaning.specs.Space.{SeenIn, space_in}
 
 -- a procedure as it is written has a unit, and so has each literal in it
 abbrev pub HasUnits : Value → Type 0
@@ -30,14 +30,14 @@ HasUnits v = Unit {0}
 
 -- what is seen is like an object of the heap, whose values are these; each procedure stands there as its unit
 abbrev pub IsObject : Seen → Pairing → Shown → object.Object → List Value → Type 0
-IsObject seen pair it of values = IsLike (with_tables seen) pair it (compiled_object of) × AllByRecursion HasUnits values
+IsObject seen pair it of values = IsLike seen pair it (compiled_object of) × AllByRecursion HasUnits values
 
--- What is seen stands for an object.
+-- What is seen stands for an object; what a table's words and nodes tell is said of all tables at once.
 abbrev pub IsThing : Seen → Pairing → Shown → Object → Type 0
 IsThing seen pair it (Structure class fields) = IsObject seen pair it (object.Structure class fields) fields
 IsThing seen pair it (Elements ty low elements) = IsObject seen pair it (object.Elements ty low elements) elements
 IsThing seen pair it (Scope text parent names) = IsObject seen pair it (object.Scope text parent names) names
-IsThing seen pair it (Keyed table) = IsTable seen pair it table
+IsThing seen pair it (Keyed table) = it.kind ≡ kind.Table
 
 -- a word names a home: the number of its database, or 0 for none
 abbrev pub IsHome : ℕ → Option ℕ → Type 0
@@ -72,15 +72,18 @@ abbrev pub IsDirectoryOf : Seen → Pairing → ℕ → List Database → Type 0
 IsDirectoryOf seen pair pid [] = pid ≡ 0
 IsDirectoryOf seen pair pid (d ∷ ds) = IsDirectory seen pair pid (d ∷ ds)
 
+-- the pairing of the names that are PIDs
+abbrev pub stored : List Reference → Pairing
+stored names n id = paired names n id × (pid : ℕ) × (n ≡ Pid pid)
+
 -- A space stands for a heap under a row of names, one for each id; what isn't paired has a name that is no PID. The roots are paired, and so is
--- all that what is paired refers to: so each object that is reached from the directory is. The pairing is one-to-one, and what is paired is alike.
+-- all that what is paired refers to: so each object that is reached from the directory is. The pairing is one-to-one, what is paired is alike, and the
+-- tables have their entries.
 pub record StandsUnder (space : Space) (heap : StoredHeap) (names : List Reference) : Type 0 where
   pub directory : IsDirectoryOf (SeenIn space) (paired names) space.directory heap.directory
   pub both : (pid id : ℕ) → paired names (Pid pid) id → Both (SeenIn space) heap (paired names) (Pid pid) id
   pub one_number : (pid i j : ℕ) → paired names (Pid pid) i → paired names (Pid pid) j → i ≡ j
-  -- no node belongs to two tables
-  pub apart : (a b i j : ℕ) (n : Reference) → paired names (Pid a) i → paired names (Pid b) j
-      → IsNodeOf (SeenIn space) (Pid a) n → IsNodeOf (SeenIn space) (Pid b) n → a ≡ b
+  pub tables : TablesStand (SeenIn space) heap.objects (stored names)
 
 -- a space that is cut into objects, and stands for a fit heap under some row of names
 pub record SpaceStands (space : Space) (heap : StoredHeap) : Type 0 where

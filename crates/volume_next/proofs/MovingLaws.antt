@@ -1,5 +1,5 @@
 -- A volume that was committed once more, or looked at alone.
-use Rattle.std.proofs.Common.{◌≡◌, ◌⊎◌, inr, ⊎_elim, ℕ, ◌-◌, ◌*◌, ◌≤◌, Bool, true, false, List, [], length, get_or, replicate, refl, sym, ◌∙◌, ap, subst, arith, Option, Some, None}
+use Rattle.std.proofs.Common.{◌≡◌, ◌⊎◌, inr, ⊎_elim, ℕ, ◌+◌, ◌-◌, ◌*◌, ◌/◌, ◌≤◌, Bool, true, false, List, [], length, get_or, replicate, refl, sym, ◌∙◌, ap, subst, arith, nat_eq, nat_lt, if◌then◌else◌, Option, Some, None}
 use Rattle.std.specs.Option.{option_map}
 use Rattle.std.proofs.lemmas.List.{take-append-le, take_all}
 use Rattle.ps_port.specs.ps_outside.Outside.{Outside, After, Leaves, TellsNothing, Rose}
@@ -11,18 +11,37 @@ use Rattle.volume_parts.specs.Holding.{Held}
 use Rattle.volume_parts.specs.Holding.{saved}
 use Rattle.volume_parts.specs.Calls.{Was}
 use Rattle.volume_parts.specs.declared.note.Note.{Note}
-use Rattle.paged_volume.specs.Layout.{capacity_pages}
-use Rattle.paged_volume.specs.Found.{held_at}
-use Rattle.paged_volume.specs.Standing.{held_in, held_of, seen, staged_in, with_zeros}
-use Rattle.paged_volume.specs.Attaching.{IsAttached}
+use Rattle.paged_volume.specs.Layout.{least_indexed, capacity_pages, map_pages_of}
+use Rattle.paged_volume.specs.Found.{Found, held_at}
+use Rattle.paged_volume.specs.Planning.{depth_of}
+use Rattle.paged_volume.specs.Standing.{held_in, held_of, seen, staged_in, with_zeros, map_count}
+use Rattle.paged_volume.specs.Attaching.{IsAttached, IsFound}
 use Rattle.paged_volume.specs.Committing.{IsSwitchFault}
 use Rattle.paged_volume.specs.declared.committed.Committed.{Committed}
 use Rattle.paged_volume.specs.declared.pinned.Pinned.{Pinned}
 use Rattle.paged_volume.specs.declared.table.Table.{Table}
 use Rattle.paged_volume.specs.declared.volume.VolumeFault.{VolumeFault}
 use Rattle.paged_volume.specs.declared.volume.VolumeFault.TheVariants.{Device, Full}
+use Rattle.paged_volume.proofs.Bounds.{are_low}
 use Rattle.paged_volume.proofs.Held.{length_bytes}
-use Rattle.volume_next.specs.Moving.{IsKeptIn, IsCommittedIn, KeepsFrom, Moves, IsMigrated}
+use Rattle.volume_next.specs.Moving.{IsKeptIn, IsCommittedIn, KeepsFrom, Moves, IsMigrated, CallsFew, maps_held, lacks_at, lacks_page, lacks_index}
+
+-- a file in which a volume is found that has an index page, or needs none
+pub indexed_by : (committed : Committed) (bytes : List ℕ) → IsFound committed bytes → lacks_at committed.pages committed.depth ≡ false → lacks_index bytes ≡ false
+indexed_by committed bytes is none =
+    ap (λ (found : Found). lacks_page found bytes) is.volume ∙ ap (λ (depth : ℕ). lacks_at committed.pages depth) is.depth ∙ none
+
+-- a commit gives it one
+pub switched_lacks : (pages : ℕ) → lacks_at pages (depth_of pages) ≡ false
+switched_lacks pages = by (nat_lt pages least_indexed)
+  where
+    by : (small : Bool) → (if small then false else nat_eq (if small then 0 else 1) 0) ≡ false
+    by true = refl
+    by false = refl
+
+-- as many calls as a switch takes
+pub few_maps : (used : ℕ) → (used + 524287) / 524288 ≡ map_pages_of (pages_of_words used)
+few_maps used = omega arith
 
 -- what was found where nothing was committed since
 module _ (a b : Outside (List ℕ)) (lives : Bool) (table : Table) (is : IsAttached a b lives table) where
@@ -60,8 +79,35 @@ module _ (a b : Outside (List ℕ)) (lives : Bool) (table : Table) (is : IsAttac
     untold = is.settles.untold;
   }
 
+  -- the map pages of what is held
+  maps_are : (bytes : List ℕ) → a.contents bytes → maps_held (held_in bytes) ≡ map_count table.committed
+  maps_are bytes at = ap maps_held (started bytes at) ∙ ap (λ (n : Note). map_pages_of (pages_of_words n.used)) (start_used bytes at)
+
+  -- so many calls
+  looked_few : CallsFew a b false
+  looked_few =
+      let low = (are_low table.committed is.alive.is_table.fit).few in
+      let first = is.looks.calls in
+      record {
+        told = λ bytes at. let maps = maps_are bytes at in omega arith;
+        most = omega arith;
+      }
+
+  pub committed_few : (c : Outside (List ℕ)) → c.device_calls ≤ b.device_calls + (map_count table.committed + 6) → CallsFew a c true
+  committed_few c more =
+      let low = (are_low table.committed is.alive.is_table.fit).few in
+      let first = is.looks.calls in
+      record {
+        told = λ bytes at. let maps = maps_are bytes at in omega arith;
+        most = omega arith;
+      }
+
   pub looks_moves : Moves a b
   looks_moves = record { told = is.looks.told; past = past_along is.looks.images; counts = is.looks.counts; output = is.looks.output; keeps = looked }
+
+  -- what a read gives then has its index page, where it needs none
+  pub looked_indexed : lacks_at table.committed.pages table.committed.depth ≡ false → (bytes : List ℕ) → b.contents bytes → lacks_index bytes ≡ false
+  looked_indexed none bytes at = indexed_by table.committed bytes (is.found bytes (is.looks.same.no_other bytes at)) none
 
   pub looked_alone : IsMigrated a b false
   looked_alone = record {
@@ -69,6 +115,7 @@ module _ (a b : Outside (List ℕ)) (lives : Bool) (table : Table) (is : IsAttac
     still = λ bytes at. record { from = bytes; was = is.looks.same.kept bytes at; by = kept_by bytes bytes at refl };
     once = λ e. absurd (cc);
     left = λ e. (is.looks.images, is.looks.same);
+    calls = looked_few;
   }
 
   module _ (c : Outside (List ℕ)) (other : Table) (past : KeepsPast b c) (told : TellsNothing b c)
@@ -165,12 +212,13 @@ module _ (a b : Outside (List ℕ)) (lives : Bool) (table : Table) (is : IsAttac
           let kept_now = kept_then now.from (committed_at now.from (is_image now.from now.was)) in
           record { from = now.from; was = now.was; by = subst (λ (was : List ℕ). IsKeptIn was now.from) (one kept_now.from bytes kept_now.was at) kept_now.by }
 
-      pub committed_once : b.device_faults ≤ c.device_faults → c.output_faults ≡ b.output_faults → IsMigrated a c true
-      committed_once counts output = record {
+      pub committed_once : b.device_faults ≤ c.device_faults → c.output_faults ≡ b.output_faults → c.device_calls ≤ b.device_calls + (map_count table.committed + 6) → IsMigrated a c true
+      committed_once counts output calls = record {
         moves = switched_moves counts output;
         still = still_held;
         once = λ e. committed_at;
         left = λ e. absurd (cc);
+        calls = committed_few c calls;
       }
 
 -- without pins nothing is committed only where the device failed

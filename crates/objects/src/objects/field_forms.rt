@@ -39,7 +39,7 @@ impl Objects {
         ensures keeps { OnOk result (Keeps self.old self.new) }
         ensures fails { FailsAsReading (V.outside vault.old) (V.outside vault.new) result }
         ensures leaves { LeavesOutside (V.outside vault.old) (V.outside vault.new) }
-        ensures numbers { SameNumbers V.used_words V.directory_at V.most_words vault.old vault.new }
+        ensures numbers { SameNumbers V.used_words V.directory_at V.most_words V.access vault.old vault.new }
         ensures alive { OnOk result (V.alive vault.new) }
     {
         tell_form(&mut self.sw, &mut self.known, vault, code, constant, field)
@@ -65,7 +65,7 @@ fn tell_form<V: Vault>(
     ensures keeps { OnOk result (Keeps sw.old sw.new) }
     ensures fails { FailsAsReading (V.outside vault.old) (V.outside vault.new) result }
     ensures leaves { LeavesOutside (V.outside vault.old) (V.outside vault.new) }
-    ensures numbers { SameNumbers V.used_words V.directory_at V.most_words vault.old vault.new }
+    ensures numbers { SameNumbers V.used_words V.directory_at V.most_words V.access vault.old vault.new }
     ensures alive { OnOk result (V.alive vault.new) }
     ensures right { IsRight sw.new known.new }
 {

@@ -56,7 +56,7 @@ impl Objects {
         ensures keeps { UnlessFault result (Keeps self.old self.new) }
         ensures fails { BreaksAsReading (V.outside vault.old) (V.outside vault.new) result }
         ensures leaves { LeavesOutside (V.outside vault.old) (V.outside vault.new) }
-        ensures numbers { SameNumbers V.used_words V.directory_at V.most_words vault.old vault.new }
+        ensures numbers { SameNumbers V.used_words V.directory_at V.most_words V.access vault.old vault.new }
         ensures alive { UnlessFault result (V.alive vault.new) }
     {
         self.sw.sound();
@@ -102,7 +102,7 @@ impl Objects {
         ensures size { UnlessFault result (self.new.size ≡ self.old.size) }
         ensures fails { BreaksAsReading (V.outside vault.old) (V.outside vault.new) result }
         ensures leaves { LeavesOutside (V.outside vault.old) (V.outside vault.new) }
-        ensures numbers { SameNumbers V.used_words V.directory_at V.most_words vault.old vault.new }
+        ensures numbers { SameNumbers V.used_words V.directory_at V.most_words V.access vault.old vault.new }
         ensures alive { UnlessFault result (V.alive vault.new) }
     {
         self.sw.sound();
@@ -214,7 +214,7 @@ fn read_field<V: Vault>(
     ensures keeps { UnlessFault result (Keeps sw.old sw.new) }
     ensures fails { BreaksAsReading (V.outside vault.old) (V.outside vault.new) result }
     ensures leaves { LeavesOutside (V.outside vault.old) (V.outside vault.new) }
-    ensures numbers { SameNumbers V.used_words V.directory_at V.most_words vault.old vault.new }
+    ensures numbers { SameNumbers V.used_words V.directory_at V.most_words V.access vault.old vault.new }
     ensures alive { UnlessFault result (V.alive vault.new) }
     ensures right { IsRight sw.new known.new }
 {
@@ -346,7 +346,7 @@ fn write_field<V: Vault>(
     ensures size { UnlessFault result (sw.new.size ≡ sw.old.size) }
     ensures fails { BreaksAsReading (V.outside vault.old) (V.outside vault.new) result }
     ensures leaves { LeavesOutside (V.outside vault.old) (V.outside vault.new) }
-    ensures numbers { SameNumbers V.used_words V.directory_at V.most_words vault.old vault.new }
+    ensures numbers { SameNumbers V.used_words V.directory_at V.most_words V.access vault.old vault.new }
     ensures alive { UnlessFault result (V.alive vault.new) }
     ensures right { IsRight sw.new known.new }
 {

@@ -61,7 +61,7 @@ impl Objects {
         ensures keeps { OnOk result (Keeps self.old self.new) }
         ensures fails { FailsAsReading (V.outside vault.old) (V.outside vault.new) result }
         ensures leaves { LeavesOutside (V.outside vault.old) (V.outside vault.new) }
-        ensures numbers { SameNumbers V.used_words V.directory_at V.most_words vault.old vault.new }
+        ensures numbers { SameNumbers V.used_words V.directory_at V.most_words V.access vault.old vault.new }
         ensures alive { OnOk result (V.alive vault.new) }
     {
         let got = procedure::code_of(&mut self.sw, vault, procedure);
@@ -91,7 +91,7 @@ impl Objects {
         ensures keeps { OnOk result (Keeps self.old self.new) }
         ensures fails { FailsAsReading (V.outside vault.old) (V.outside vault.new) result }
         ensures leaves { LeavesOutside (V.outside vault.old) (V.outside vault.new) }
-        ensures numbers { SameNumbers V.used_words V.directory_at V.most_words vault.old vault.new }
+        ensures numbers { SameNumbers V.used_words V.directory_at V.most_words V.access vault.old vault.new }
         ensures alive { OnOk result (V.alive vault.new) }
     {
         let got = procedure::scope_of(&mut self.sw, vault, procedure);
@@ -119,7 +119,7 @@ impl Objects {
         ensures keeps { OnOk result (Keeps self.old self.new) }
         ensures fails { FailsAsReading (V.outside vault.old) (V.outside vault.new) result }
         ensures leaves { LeavesOutside (V.outside vault.old) (V.outside vault.new) }
-        ensures numbers { SameNumbers V.used_words V.directory_at V.most_words vault.old vault.new }
+        ensures numbers { SameNumbers V.used_words V.directory_at V.most_words V.access vault.old vault.new }
         ensures alive { OnOk result (V.alive vault.new) }
     {
         self.sw.sound();
@@ -149,7 +149,7 @@ fn read_body<V: Vault>(
     ensures keeps { OnOk result (Keeps sw.old sw.new) }
     ensures fails { FailsAsReading (V.outside vault.old) (V.outside vault.new) result }
     ensures leaves { LeavesOutside (V.outside vault.old) (V.outside vault.new) }
-    ensures numbers { SameNumbers V.used_words V.directory_at V.most_words vault.old vault.new }
+    ensures numbers { SameNumbers V.used_words V.directory_at V.most_words V.access vault.old vault.new }
     ensures alive { OnOk result (V.alive vault.new) }
 {
     let got = fetch_body(sw, vault, procedure);

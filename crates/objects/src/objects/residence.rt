@@ -41,7 +41,7 @@ impl Objects {
         ensures fault { IfErr result (IsTouchFault self.old (V.outside vault.old) (Pid pid)) }
         ensures fails { FailsAsReading (V.outside vault.old) (V.outside vault.new) result }
         ensures leaves { LeavesOutside (V.outside vault.old) (V.outside vault.new) }
-        ensures numbers { SameNumbers V.used_words V.directory_at V.most_words vault.old vault.new }
+        ensures numbers { SameNumbers V.used_words V.directory_at V.most_words V.access vault.old vault.new }
         ensures alive { OnOk result (V.alive vault.new) }
     {
         fetch_pid(&mut self.sw, &mut self.known, vault, pid)
@@ -67,7 +67,7 @@ fn fetch_pid<V: Vault>(
     ensures fault { IfErr result (IsTouchFault sw.old (V.outside vault.old) (Pid pid)) }
     ensures fails { FailsAsReading (V.outside vault.old) (V.outside vault.new) result }
     ensures leaves { LeavesOutside (V.outside vault.old) (V.outside vault.new) }
-    ensures numbers { SameNumbers V.used_words V.directory_at V.most_words vault.old vault.new }
+    ensures numbers { SameNumbers V.used_words V.directory_at V.most_words V.access vault.old vault.new }
     ensures alive { OnOk result (V.alive vault.new) }
     ensures right { IsRight sw.new known.new }
 {

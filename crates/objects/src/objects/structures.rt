@@ -48,7 +48,7 @@ impl Objects {
         ensures keeps { UnlessFault result (Keeps self.old self.new) }
         ensures fails { BreaksAsReading (V.outside vault.old) (V.outside vault.new) result }
         ensures leaves { LeavesOutside (V.outside vault.old) (V.outside vault.new) }
-        ensures numbers { SameNumbers V.used_words V.directory_at V.most_words vault.old vault.new }
+        ensures numbers { SameNumbers V.used_words V.directory_at V.most_words V.access vault.old vault.new }
         ensures alive { UnlessFault result (V.alive vault.new) }
     {
         make_named(&mut self.sw, &mut self.known, vault, code, constant, fields)
@@ -75,7 +75,7 @@ impl Objects {
         ensures keeps { UnlessFault result (Keeps self.old self.new) }
         ensures fails { BreaksAsReading (V.outside vault.old) (V.outside vault.new) result }
         ensures leaves { LeavesOutside (V.outside vault.old) (V.outside vault.new) }
-        ensures numbers { SameNumbers V.used_words V.directory_at V.most_words vault.old vault.new }
+        ensures numbers { SameNumbers V.used_words V.directory_at V.most_words V.access vault.old vault.new }
         ensures alive { UnlessFault result (V.alive vault.new) }
     {
         tell_class(&mut self.sw, &mut self.known, vault, object, code, constant)
@@ -105,7 +105,7 @@ fn make_named<V: Vault>(
     ensures keeps { UnlessFault result (Keeps sw.old sw.new) }
     ensures fails { BreaksAsReading (V.outside vault.old) (V.outside vault.new) result }
     ensures leaves { LeavesOutside (V.outside vault.old) (V.outside vault.new) }
-    ensures numbers { SameNumbers V.used_words V.directory_at V.most_words vault.old vault.new }
+    ensures numbers { SameNumbers V.used_words V.directory_at V.most_words V.access vault.old vault.new }
     ensures alive { UnlessFault result (V.alive vault.new) }
     ensures right { IsRight sw.new known.new }
 {
@@ -141,7 +141,7 @@ fn tell_class<V: Vault>(
     ensures keeps { UnlessFault result (Keeps sw.old sw.new) }
     ensures fails { BreaksAsReading (V.outside vault.old) (V.outside vault.new) result }
     ensures leaves { LeavesOutside (V.outside vault.old) (V.outside vault.new) }
-    ensures numbers { SameNumbers V.used_words V.directory_at V.most_words vault.old vault.new }
+    ensures numbers { SameNumbers V.used_words V.directory_at V.most_words V.access vault.old vault.new }
     ensures alive { UnlessFault result (V.alive vault.new) }
     ensures right { IsRight sw.new known.new }
 {

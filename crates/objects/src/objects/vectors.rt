@@ -58,7 +58,7 @@ impl Objects {
         ensures keeps { UnlessFault result (Keeps self.old self.new) }
         ensures fails { BreaksAsReading (V.outside vault.old) (V.outside vault.new) result }
         ensures leaves { LeavesOutside (V.outside vault.old) (V.outside vault.new) }
-        ensures numbers { SameNumbers V.used_words V.directory_at V.most_words vault.old vault.new }
+        ensures numbers { SameNumbers V.used_words V.directory_at V.most_words V.access vault.old vault.new }
         ensures alive { UnlessFault result (V.alive vault.new) }
     {
         self.sw.sound();
@@ -118,7 +118,7 @@ impl Objects {
         ensures does { SetsElement self.old self.new (V.outside vault.old) (V.outside vault.new) vector at to result }
         ensures fails { BreaksAsReading (V.outside vault.old) (V.outside vault.new) result }
         ensures leaves { LeavesOutside (V.outside vault.old) (V.outside vault.new) }
-        ensures numbers { SameNumbers V.used_words V.directory_at V.most_words vault.old vault.new }
+        ensures numbers { SameNumbers V.used_words V.directory_at V.most_words V.access vault.old vault.new }
         ensures alive { UnlessFault result (V.alive vault.new) }
         ensures stands { UnlessFault result (AllStand self.old self.new) }
         ensures size { UnlessFault result (self.new.size ≡ self.old.size) }
@@ -145,7 +145,7 @@ impl Objects {
         ensures keeps { UnlessFault result (Keeps self.old self.new) }
         ensures fails { BreaksAsReading (V.outside vault.old) (V.outside vault.new) result }
         ensures leaves { LeavesOutside (V.outside vault.old) (V.outside vault.new) }
-        ensures numbers { SameNumbers V.used_words V.directory_at V.most_words vault.old vault.new }
+        ensures numbers { SameNumbers V.used_words V.directory_at V.most_words V.access vault.old vault.new }
         ensures alive { UnlessFault result (V.alive vault.new) }
     {
         let got = vectors::low(&mut self.sw, vault, vector);
@@ -166,7 +166,7 @@ impl Objects {
         ensures keeps { UnlessFault result (Keeps self.old self.new) }
         ensures fails { BreaksAsReading (V.outside vault.old) (V.outside vault.new) result }
         ensures leaves { LeavesOutside (V.outside vault.old) (V.outside vault.new) }
-        ensures numbers { SameNumbers V.used_words V.directory_at V.most_words vault.old vault.new }
+        ensures numbers { SameNumbers V.used_words V.directory_at V.most_words V.access vault.old vault.new }
         ensures alive { UnlessFault result (V.alive vault.new) }
     {
         let got = vectors::high(&mut self.sw, vault, vector);
@@ -187,7 +187,7 @@ impl Objects {
         ensures keeps { UnlessFault result (Keeps self.old self.new) }
         ensures fails { BreaksAsReading (V.outside vault.old) (V.outside vault.new) result }
         ensures leaves { LeavesOutside (V.outside vault.old) (V.outside vault.new) }
-        ensures numbers { SameNumbers V.used_words V.directory_at V.most_words vault.old vault.new }
+        ensures numbers { SameNumbers V.used_words V.directory_at V.most_words V.access vault.old vault.new }
         ensures alive { UnlessFault result (V.alive vault.new) }
     {
         let got = vectors::form_of(&mut self.sw, vault, vector);
@@ -337,7 +337,7 @@ fn read_element<V: Vault>(
     ensures keeps { UnlessFault result (Keeps sw.old sw.new) }
     ensures fails { BreaksAsReading (V.outside vault.old) (V.outside vault.new) result }
     ensures leaves { LeavesOutside (V.outside vault.old) (V.outside vault.new) }
-    ensures numbers { SameNumbers V.used_words V.directory_at V.most_words vault.old vault.new }
+    ensures numbers { SameNumbers V.used_words V.directory_at V.most_words V.access vault.old vault.new }
     ensures alive { UnlessFault result (V.alive vault.new) }
 {
     let got = vectors::get_element(sw, vault, vector, at);
@@ -418,7 +418,7 @@ fn write_element<V: Vault>(
     ensures does { SetsElement sw.old sw.new (V.outside vault.old) (V.outside vault.new) vector at to result }
     ensures fails { BreaksAsReading (V.outside vault.old) (V.outside vault.new) result }
     ensures leaves { LeavesOutside (V.outside vault.old) (V.outside vault.new) }
-    ensures numbers { SameNumbers V.used_words V.directory_at V.most_words vault.old vault.new }
+    ensures numbers { SameNumbers V.used_words V.directory_at V.most_words V.access vault.old vault.new }
     ensures alive { UnlessFault result (V.alive vault.new) }
     ensures stands { UnlessFault result (AllStand sw.old sw.new) }
     ensures size { UnlessFault result (sw.new.size ≡ sw.old.size) }

@@ -9,6 +9,7 @@ invariant-loop-place g l = record {
   stages : Stages (g.V.Vault.outside l.fn.vault) (g.V.Vault.outside l.vault);
   directory : g.V.Vault.directory_at l.vault ≡ g.V.Vault.directory_at l.fn.vault;
   most : g.V.Vault.most_words l.vault ≡ g.V.Vault.most_words l.fn.vault;
+  access : g.V.Vault.access l.vault ≡ g.V.Vault.access l.fn.vault;
   alive : g.V.Vault.alive l.vault;
   counted : l.stored ≡ length (filter (is_new l.sw l.first) (take l.place l.sw.reached));
   few : l.stored ≤ l.place;

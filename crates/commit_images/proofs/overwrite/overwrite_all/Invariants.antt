@@ -10,6 +10,7 @@ invariant-loop-place g l = record {
   used : g.V.Vault.used_words l.vault ≡ g.V.Vault.used_words l.fn.vault;
   directory : g.V.Vault.directory_at l.vault ≡ g.V.Vault.directory_at l.fn.vault;
   most : g.V.Vault.most_words l.vault ≡ g.V.Vault.most_words l.fn.vault;
+  access : g.V.Vault.access l.vault ≡ g.V.Vault.access l.fn.vault;
   alive : g.V.Vault.alive l.vault;
   counted : l.stored ≡ length (filter (is_changed l.sw l.first) (take l.place l.sw.assigned));
   few : l.stored ≤ l.place;

@@ -38,7 +38,7 @@ loop-place-preserved g c =
       reads = some-then c.args.sw.now c.loop-place.sw c.has_text.new.sw a b d inv.reads e.reads;
       others = others-next c.args.sw.now c.loop-place.sw c.has_text.new.sw c.args.directory c.loop-place.place c.args.name c.in-Ok.same c.requires.directory.held
           c.requires.held c.requires.text inv.reads.reads.keeps e.reads.reads.keeps inv.others c.if-same.false e.compared;
-      numbers = (e.numbers.0 ∙ inv.numbers.0, e.numbers.1 ∙ inv.numbers.1, e.numbers.2 ∙ inv.numbers.2);
+      numbers = (e.numbers.0 ∙ inv.numbers.0, e.numbers.1 ∙ inv.numbers.1, e.numbers.2 ∙ inv.numbers.2, e.numbers.3 ∙ inv.numbers.3);
       alive = e.alive;
     }
 

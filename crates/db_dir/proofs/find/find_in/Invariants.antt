@@ -12,6 +12,6 @@ invariant-loop-place g l =
       reads : ReadsSome l.initial.sw l.sw (vault.outside l.initial.vault) (vault.outside l.vault);
       others : AreOthers l.initial.sw l.sw l.directory l.place (text_at l.initial.sw l.name);
       numbers : (vault.used_words l.vault ≡ vault.used_words l.initial.vault) × (vault.directory_at l.vault ≡ vault.directory_at l.initial.vault)
-          × (vault.most_words l.vault ≡ vault.most_words l.initial.vault);
+          × (vault.most_words l.vault ≡ vault.most_words l.initial.vault) × (vault.access l.vault ≡ vault.access l.initial.vault);
       alive : vault.alive l.vault;
     }

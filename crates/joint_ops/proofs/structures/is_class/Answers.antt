@@ -27,7 +27,7 @@ returns-then-not-is_kind-clause-got g c of names text o world dc d =
     let ne = kinds-differ (header_at c.args.sw.now at).kind Structure (sym c.is_kind.ensures ∙ c.if-not-is_kind.true) in (
       is_class of o text,
       refl,
-      sym (other-value c.args.sw.now outside of names at o text c.sound.ensures mine ne),
+      sym (other-value c.args.sw.now outside of names at o text c.sound.ensures world mine ne),
       nothing-done c.args.sw.now outside of names world,
     )
 

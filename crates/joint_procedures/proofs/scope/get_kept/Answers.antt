@@ -36,7 +36,7 @@ pub returns-clause-numbers : goal.returns-clause-numbers
 returns-clause-numbers g c =
     let first = c.in-Ok.ensures.numbers in
     let second = c.get_kept-got.ensures.numbers in
-    (second.0 ∙ first.0, second.1 ∙ first.1, second.2 ∙ first.2)
+    (second.0 ∙ first.0, second.1 ∙ first.1, second.2 ∙ first.2, second.3 ∙ first.3)
 
 pub returns-clause-keeps : goal.returns-clause-keeps
 returns-clause-keeps g c =

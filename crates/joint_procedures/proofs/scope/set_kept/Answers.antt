@@ -50,7 +50,7 @@ pub returns-clause-numbers : goal.returns-clause-numbers
 returns-clause-numbers g c =
     let first = c.in-Ok.ensures.numbers in
     let second = c.set_kept-set.ensures.numbers in
-    (second.0 ∙ first.0, second.1 ∙ first.1, second.2 ∙ first.2)
+    (second.0 ∙ first.0, second.1 ∙ first.1, second.2 ∙ first.2, second.3 ∙ first.3)
 
 pub returns-clause-does : goal.returns-clause-does
 returns-clause-does g c =

@@ -1,16 +1,16 @@
 use Rattle.std.proofs.Common.{sym, subst}
 use Rattle.machine_core.specs.joint_ops.Operands.{IsOfSort}
-use Rattle.machine_operands.proofs.Popping.{all-sorted, denoting-popped, no-denoting, structure-denoting, vector-denoting, other-denoting}
+use Rattle.machine_operands.proofs.Popping.{all-sorted, denoting-popped, no-denoting, pointer-denoting, vector-denoting, other-denoting}
 use Rattle.machine_operands.proofs.pops.pop_denoting.Goals as goal
 
-pub returns-in-Structure-clause-pops : goal.returns-in-Structure-clause-pops
-returns-in-Structure-clause-pops g c =
+pub returns-in-Pointer-clause-pops : goal.returns-in-Pointer-clause-pops
+returns-in-Pointer-clause-pops g c =
     let mid = c.pop_ref.new.m in
     let w = c.in_ok-word.word in
     λ v.
     let out = g.V.Vault.outside v in
     let sorted = all-sorted mid.objects out c.object.result w c.sort_of.result c.object.ensures (c.sort_of.ensures.value v) in
-    denoting-popped out c.args.m.now mid w c.sort_of.result (c.in_ok-word.ensures.taken v) sorted c.object-in-Structure.result (sym c.object-in-Structure.ensures) (λ value is. structure-denoting value (subst (IsOfSort value) c.in-Structure.is is))
+    denoting-popped out c.args.m.now mid w c.sort_of.result (c.in_ok-word.ensures.taken v) sorted c.object-in-Pointer.result (sym c.object-in-Pointer.ensures) (λ value is. pointer-denoting value (subst (IsOfSort value) c.in-Pointer.is is))
 
 pub returns-in-Vector-clause-pops : goal.returns-in-Vector-clause-pops
 returns-in-Vector-clause-pops g c =
@@ -28,4 +28,4 @@ returns-in_default-clause-pops g c =
     λ v.
     let out = g.V.Vault.outside v in
     let sorted = all-sorted mid.objects out c.object.result w c.sort_of.result c.object.ensures (c.sort_of.ensures.value v) in
-    no-denoting out c.args.m.now mid w c.sort_of.result (c.in_ok-word.ensures.taken v) sorted (other-denoting c.sort_of.result c.in_default.not-Nil c.in_default.not-Structure c.in_default.not-Vector)
+    no-denoting out c.args.m.now mid w c.sort_of.result (c.in_ok-word.ensures.taken v) sorted (other-denoting c.sort_of.result c.in_default.not-Nil c.in_default.not-Pointer c.in_default.not-Vector)

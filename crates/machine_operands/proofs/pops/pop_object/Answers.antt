@@ -1,16 +1,16 @@
 use Rattle.std.proofs.Common.{sym, subst}
 use Rattle.machine_core.specs.joint_ops.Operands.{IsOfSort}
-use Rattle.machine_operands.proofs.Popping.{all-sorted, object-popped, no-object, structure-object, other-object}
+use Rattle.machine_operands.proofs.Popping.{all-sorted, object-popped, no-object, pointer-object, other-object}
 use Rattle.machine_operands.proofs.pops.pop_object.Goals as goal
 
-pub returns-in-Structure-clause-pops : goal.returns-in-Structure-clause-pops
-returns-in-Structure-clause-pops g c =
+pub returns-in-Pointer-clause-pops : goal.returns-in-Pointer-clause-pops
+returns-in-Pointer-clause-pops g c =
     let mid = c.pop_ref.new.m in
     let w = c.in_ok-word.word in
     λ v.
     let out = g.V.Vault.outside v in
     let sorted = all-sorted mid.objects out c.object.result w c.sort_of.result c.object.ensures (c.sort_of.ensures.value v) in
-    object-popped out c.args.m.now mid w c.sort_of.result (c.in_ok-word.ensures.taken v) sorted c.object-in-Structure.result (sym c.object-in-Structure.ensures) (λ value is. structure-object value (subst (IsOfSort value) c.in-Structure.is is))
+    object-popped out c.args.m.now mid w c.sort_of.result (c.in_ok-word.ensures.taken v) sorted c.object-in-Pointer.result (sym c.object-in-Pointer.ensures) (λ value is. pointer-object value (subst (IsOfSort value) c.in-Pointer.is is))
 
 pub returns-in_default : goal.returns-in_default
 returns-in_default g c =
@@ -25,5 +25,5 @@ returns-in_default g c =
           λ v.
           let out = g.V.Vault.outside v in
           let sorted = all-sorted mid.objects out c.object.result w c.sort_of.result c.object.ensures (c.sort_of.ensures.value v) in
-          no-object out c.args.m.now mid w c.sort_of.result (c.in_ok-word.ensures.taken v) sorted (other-object c.sort_of.result c.in_default.not-Nil c.in_default.not-Structure);
+          no-object out c.args.m.now mid w c.sort_of.result (c.in_ok-word.ensures.taken v) sorted (other-object c.sort_of.result c.in_default.not-Nil c.in_default.not-Pointer);
     }

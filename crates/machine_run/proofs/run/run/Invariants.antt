@@ -13,7 +13,7 @@ invariant-loop-steps g l =
       between : IsBetween (vault.outside l.initial.vault) (vault.outside l.vault) l.initial.output l.output l.initial.m l.m l.turns l.steps;
       sound : IsSound l.m;
       names : NamesObjects l.m;
-      numbers : SameNumbers vault.used_words vault.directory_at vault.most_words l.initial.vault l.vault;
+      numbers : SameNumbers vault.used_words vault.directory_at vault.most_words vault.access l.initial.vault l.vault;
       alive : vault.alive l.vault;
       few : 1 ≤ l.steps;
       most : l.steps ≤ 2 ^ 43;

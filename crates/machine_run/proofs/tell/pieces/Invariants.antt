@@ -11,6 +11,6 @@ invariant-loop-part g l =
     let vault = g.V.Vault in
     record {
       sends : Sends {T = Unit {0}} (vault.outside l.initial.vault) (vault.outside l.vault) (l.initial.output ++ joined l.parts) (l.output ++ joined (drop l.part-index l.parts)) (Ok tt);
-      numbers : SameNumbers vault.used_words vault.directory_at vault.most_words l.initial.vault l.vault;
+      numbers : SameNumbers vault.used_words vault.directory_at vault.most_words vault.access l.initial.vault l.vault;
       alive : vault.alive l.vault;
     }

@@ -7,4 +7,4 @@ returns-in-Nil g c = λ v. object-is c.args.m.now.objects (g.V.Vault.outside v) 
 pub returns-in_default : goal.returns-in_default
 returns-in_default g c = λ v.
     other-is c.args.m.now.objects (g.V.Vault.outside v) c.args.object c.sort_of.result (c.sort_of.ensures.value v) c.in_default.not-Nil
-    c.in_default.not-Structure
+    c.in_default.not-Pointer

@@ -1,7 +1,9 @@
-use Rattle.std.proofs.Common.{◌∙◌, ◌+◌, ◌-◌, ◌/◌, ◌^◌, ◌<◌, length, arith, Some}
+use Rattle.std.proofs.Common.{◌∙◌, ◌+◌, ◌-◌, ◌/◌, ◌^◌, ◌<◌, length, sym, subst, arith, Some}
 use Rattle.volume_parts.proofs.Looking.{looks_then}
+use Rattle.paged_volume.specs.declared.table.Table.{Table}
+use Rattle.obj_store.specs.Viewing.{IsSource}
 use Rattle.obj_store.specs.StoreLaws.{words_low}
-use Rattle.obj_store.proofs.ReadLaws.{seen_kept, more_read}
+use Rattle.obj_store.proofs.ReadLaws.{shown_kept, more_read}
 use Rattle.obj_store.proofs.reading.read_words.Goals as goal
 
 pub overflow_cast-first : goal.overflow_cast-first
@@ -29,6 +31,9 @@ overflow_cast-last g c =
     let within = c.requires.within in
     omega (arith, c.logical_pages-last.ensures)
 
+pub read_part-requires-clause-source : goal.read_part-requires-clause-source
+read_part-requires-clause-source g c = subst (λ (t : Table). IsSource t c.args.source) (sym c.loop-page.invariant.same) c.requires.source
+
 pub loop-page-preserved : goal.loop-page-preserved
 loop-page-preserved g c =
     let o = g.H.Host.outside in
@@ -38,7 +43,7 @@ loop-page-preserved g c =
     let is = c.read_part.ensures in
     record {
       read = λ held now. more_read c.loop-page.page c.args.at held c.args.into.now c.loop-page.into c.read_part.new.into inv.size (inv.read held now)
-          (c.in_ok-read_part.ensures.read held (seen_kept v.table w.table (o v.host) (o w.host) inv.same inv.looks.same (Some held) now));
+          (c.in_ok-read_part.ensures.read held (shown_kept c.args.source v.table w.table (o v.host) (o w.host) inv.same inv.looks.same (Some held) now));
       size = is.size ∙ inv.size;
       looks = looks_then (o v.host) (o w.host) (o c.read_part.new.volume.host) (c.loop-page.page - c.args.at / 512) 1 _ inv.looks is.looks (let low = c.loop-page.auto.page in omega arith);
       same = is.same ∙ inv.same;

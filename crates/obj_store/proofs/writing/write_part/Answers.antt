@@ -1,10 +1,14 @@
 use Rattle.std.proofs.Common.{◌*◌, ◌+◌, ◌≤◌, max, min, length, subst, arith, OnOk}
+use Rattle.std.proofs.lemmas.Result.{on_ok_weaker}
 use Rattle.obj_layout.proofs.of_ps_outside.PastMoments.{past_along, past_then}
 use Rattle.paged_volume.specs.Standing.{seen}
 use Rattle.paged_volume.specs.declared.table.Table.{Table}
 use Rattle.obj_store.specs.Staging.{Marks}
-use Rattle.obj_store.proofs.TestLaws.{on_ok_of}
-use Rattle.obj_store.proofs.WriteLaws.{part_turns, part_same, differs_not, leaves_same, on_ok_two, stages_looks, stages_then, marks_put, marks_none}
+use Rattle.obj_store.specs.Staging.{SamePins}
+use Rattle.obj_store.specs.Lacking.{IsVolumeFault}
+use Rattle.obj_store.proofs.LackLaws.{fault_then}
+use Rattle.obj_store.proofs.TestLaws.{on_ok_of, if_err}
+use Rattle.obj_store.proofs.WriteLaws.{pins_same, keeps_looks, keeps_then, part_turns, part_same, differs_not, leaves_same, on_ok_two, stages_looks, stages_then, marks_put, marks_none}
 use Rattle.obj_store.proofs.writing.write_part.Goals as goal
 
 pub returns-clause-turns : goal.returns-clause-turns
@@ -78,3 +82,37 @@ returns-clause-stages g c =
 
 pub returns-clause-past : goal.returns-clause-past
 returns-clause-past g c = past_then (past_along c.read_kept.ensures.looks.images) c.put_kept.ensures.past
+
+pub returns-clause-pins : goal.returns-clause-pins
+returns-clause-pins g c = subst (λ (t : Table). SamePins t c.put_kept.new.volume.table) c.read_kept.ensures.same c.put_kept.ensures.pins
+
+pub returns-then-is_there-clause-pins : goal.returns-then-is_there-clause-pins
+returns-then-is_there-clause-pins g c = pins_same c.args.volume.now.table c.read_kept.new.volume.table c.read_kept.ensures.same
+
+pub returns-in_err-read_kept-clause-pins : goal.returns-in_err-read_kept-clause-pins
+returns-in_err-read_kept-clause-pins g c = pins_same c.args.volume.now.table c.read_kept.new.volume.table c.read_kept.ensures.same
+
+pub returns-clause-fault : goal.returns-clause-fault
+returns-clause-fault g c =
+    let o = g.H.Host.outside in
+    let v = c.args.volume.now in
+    let w = c.read_kept.new.volume in
+    let z = c.put_kept.new.volume in
+    if_err (IsVolumeFault (o w.host) (o z.host) z.table 1) (IsVolumeFault (o v.host) (o z.host) z.table 1) c.put_kept.result
+    (λ fault is. fault_then (o v.host) (o w.host) (o z.host) z.table 1 fault c.read_kept.ensures.looks.counts is) c.put_kept.ensures.fault
+
+pub returns-clause-pinned : goal.returns-clause-pinned
+returns-clause-pinned g c =
+    let o = g.H.Host.outside in
+    let v = c.args.volume.now in
+    let w = c.read_kept.new.volume in
+    let z = c.put_kept.new.volume in
+    on_ok_weaker c.put_kept.result
+    (keeps_then v.table w.table z.table (o v.host) (o w.host) (o z.host) (keeps_looks v.table w.table (o v.host) (o w.host) c.read_kept.ensures.same c.read_kept.ensures.looks.same)) c.put_kept.ensures.pinned
+
+pub returns-then-is_there-clause-pinned : goal.returns-then-is_there-clause-pinned
+returns-then-is_there-clause-pinned g c =
+    let o = g.H.Host.outside in
+    let v = c.args.volume.now in
+    let w = c.read_kept.new.volume in
+    keeps_looks v.table w.table (o v.host) (o w.host) c.read_kept.ensures.same c.read_kept.ensures.looks.same

@@ -3,7 +3,8 @@ use Rattle.obj_layout.proofs.of_ps_outside.PastMoments.{past_then}
 use Rattle.paged_volume.specs.Standing.{seen}
 use Rattle.obj_store.specs.Words.{HoldsPut}
 use Rattle.obj_store.specs.StoreLaws.{words_low}
-use Rattle.obj_store.proofs.WriteLaws.{turns_then, next_put, marks_then, leaves_then, stages_then, calls_fit}
+use Rattle.obj_store.proofs.LackLaws.{fault_then}
+use Rattle.obj_store.proofs.WriteLaws.{pins_then, keeps_then, turns_then, next_put, marks_then, leaves_then, stages_then, calls_fit}
 use Rattle.obj_store.proofs.writing.write_words.Goals as goal
 
 pub overflow_cast-first : goal.overflow_cast-first
@@ -31,8 +32,8 @@ overflow_cast-last g c =
     let within = c.requires.within in
     omega (arith, c.logical_pages-last.ensures)
 
-pub returns-in_err-write_part-clause-stages : goal.returns-in_err-write_part-clause-stages
-returns-in_err-write_part-clause-stages g c =
+pub returns-in-Err-clause-stages : goal.returns-in-Err-clause-stages
+returns-in-Err-clause-stages g c =
     let o = g.H.Host.outside in
     let v = c.args.volume.now in
     let w = c.loop-page.volume in
@@ -62,18 +63,30 @@ loop-page-preserved g c =
     let whole = HoldsPut at (max at (min (at + length put) (512 * (page + 1)))) at put in
     record {
       turns = turns_then (seen v.table (o v.host)) (seen w.table (o w.host)) (seen z.table (o z.host))
-          one two whole inv.turns c.in_ok-write_part.ensures.turns (λ x y z first next. next_put at (length put) page put x y z starts ends first next);
+          one two whole inv.turns c.in-Ok.ensures.turns (λ x y z first next. next_put at (length put) page put x y z starts ends first next);
       stages = stages_then (seen v.table (o v.host)) (seen w.table (o w.host)) (seen z.table (o z.host))
           (2 * (page - at / 512)) 2 _ inv.stages c.write_part.ensures.stages (omega arith);
       past = past_then inv.past c.write_part.ensures.past;
       committed = c.write_part.ensures.committed ∙ inv.committed;
-      unpinned = c.write_part.ensures.unpinned;
-      marks = marks_then (at / 512) page (page + 1) v.table w.table z.table (omega arith) (omega arith) inv.marks c.in_ok-write_part.ensures.marks;
+      pins = pins_then v.table w.table z.table inv.pins c.write_part.ensures.pins;
+      pinned = keeps_then v.table w.table z.table (o v.host) (o w.host) (o z.host) inv.pinned c.in-Ok.ensures.pinned;
+      marks = marks_then (at / 512) page (page + 1) v.table w.table z.table (omega arith) (omega arith) inv.marks c.in-Ok.ensures.marks;
       unchanged = λ few. leaves_then v.table w.table z.table (o v.host) (o w.host) (o z.host) at (at + length put) (max at (512 * page)) (min (at + length put) (512 * page + 512)) at put (omega arith) (omega arith)
-          (inv.unchanged few) (c.in_ok-write_part.ensures.unchanged (omega arith));
-      kept = c.in_ok-write_part.ensures.kept;
-      alive = c.in_ok-write_part.ensures.alive;
+          (inv.unchanged few) (c.in-Ok.ensures.unchanged (omega arith));
+      kept = c.in-Ok.ensures.kept;
+      alive = c.in-Ok.ensures.alive;
     }
 
-pub returns-in_err-write_part-clause-past : goal.returns-in_err-write_part-clause-past
-returns-in_err-write_part-clause-past g c = past_then c.loop-page.invariant.past c.write_part.ensures.past
+pub returns-in-Err-clause-past : goal.returns-in-Err-clause-past
+returns-in-Err-clause-past g c = past_then c.loop-page.invariant.past c.write_part.ensures.past
+
+pub returns-in-Err-clause-pins : goal.returns-in-Err-clause-pins
+returns-in-Err-clause-pins g c = pins_then c.args.volume.now.table c.loop-page.volume.table c.write_part.new.volume.table c.loop-page.invariant.pins c.write_part.ensures.pins
+
+pub returns-in-Err-clause-fault : goal.returns-in-Err-clause-fault
+returns-in-Err-clause-fault g c =
+    let o = g.H.Host.outside in
+    let v = c.args.volume.now in
+    let w = c.loop-page.volume in
+    let z = c.write_part.new.volume in
+    fault_then (o v.host) (o w.host) (o z.host) z.table 1 c.in-Err.fault c.loop-page.invariant.stages.counts c.in-Err.ensures.fault

@@ -8,7 +8,7 @@ returns-in-Ok-attach-clause-ok g c =
     let o = g.H.Host.outside in
     let host = c.in-Ok.host in
     let store = c.in-Ok-attach.store in
-    stored_by (o c.args.host) (o host) (g.met.H.Host.is_image host) o c.in-Ok.field-0-1 store c.in-Ok.ensures.ok c.in-Ok-attach.ensures.ok (g.met.H.Host.is_image store.host)
+    stored_by (o c.args.host) (o host) (g.met.H.Host.is_image host) o c.in-Ok.field-0-1 store c.in-Ok.ensures.ok c.in-Ok-attach.ensures.ok c.in-Ok.ensures.when c.in-Ok.ensures.moved (g.met.H.Host.is_image store.host)
 
 pub returns-in-Err-attach-clause-err : goal.returns-in-Err-attach-clause-err
 returns-in-Err-attach-clause-err g c =

@@ -30,6 +30,6 @@ loop-preserved g c =
       led = led-further c.args.sw.now c.loop.sw c.parent_of.new.sw a b d c.args.scope c.loop.counter c.loop.at c.in-Ok-Some.parent
           c.loop.invariant.led
           (subst (λ (to : Option ℕ). HasParent c.loop.sw c.parent_of.new.sw b d c.loop.at to) c.in-Ok-Some.field-0-is c.in-Ok-Some.ensures.told);
-      numbers = (next.0 ∙ was.0, next.1 ∙ was.1, next.2 ∙ was.2);
+      numbers = (next.0 ∙ was.0, next.1 ∙ was.1, next.2 ∙ was.2, next.3 ∙ was.3);
       alive = c.in-Ok-Some.ensures.alive;
     }

@@ -9,6 +9,6 @@ invariant-loop g l =
     record {
       led : LeadsOut l.initial.sw l.sw (vault.outside l.initial.vault) (vault.outside l.vault) l.scope l.counter l.at;
       numbers : (vault.used_words l.vault ≡ vault.used_words l.initial.vault) × (vault.directory_at l.vault ≡ vault.directory_at l.initial.vault)
-          × (vault.most_words l.vault ≡ vault.most_words l.initial.vault);
+          × (vault.most_words l.vault ≡ vault.most_words l.initial.vault) × (vault.access l.vault ≡ vault.access l.initial.vault);
       alive : vault.alive l.vault;
     }

@@ -21,6 +21,7 @@ returns-in-Ok-clause-sound g c words held = ap far_damage (c.in_default.ensures.
 pub returns-in-Err-clause-fault : goal.returns-in-Err-clause-fault
 returns-in-Err-clause-fault g c = record {
   full = λ used wanted capacity e. c.in-Err.ensures.full used wanted capacity (ap Err e);
+  pages = λ held wanted pages e. c.in-Err.ensures.pages held wanted pages (ap Err e);
   damaged = λ at found wanted e.
       tested_damage (g.V.Vault.outside c.args.vault.now) c.args.pid (Some _) _ c.in-Err.ensures.tested (λ words held. c.requires.fits words held) at found wanted
       (ap Err e);
@@ -29,6 +30,7 @@ returns-in-Err-clause-fault g c = record {
 pub returns-in-Err-far_header-clause-fault : goal.returns-in-Err-far_header-clause-fault
 returns-in-Err-far_header-clause-fault g c = record {
   full = λ used wanted capacity e. cc;
+  pages = λ held wanted pages e. cc;
   damaged = λ at found wanted e. (
     cc,
     inr (record {

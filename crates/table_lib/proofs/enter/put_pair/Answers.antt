@@ -1,9 +1,9 @@
-use Rattle.std.proofs.Common.{arith, ◌+◌, ◌*◌, ◌≡◌, Some, Ok, refl, ap, subst}
+use Rattle.std.proofs.Common.{arith, ◌+◌, ◌*◌, ◌≡◌, Some, None, Ok, refl, ap, subst, inr}
 use Rattle.table_nodes.specs.heap_places.swizzle.Joint.{name_at}
 use Rattle.table_nodes.proofs.of_heap_places.of_swizzle.NameLaws.{name-not_nil}
-use Rattle.table_nodes.specs.avl_trees.Trees.{lookup}
+use Rattle.table_nodes.specs.avl_trees.Trees.{items, lookup}
 use Rattle.table_nodes.specs.avl_trees.Standing.{seek}
-use Rattle.table_nodes.specs.Keys.{order_by}
+use Rattle.table_nodes.specs.node_rows.Keys.{order_by}
 use Rattle.table_nodes.specs.Sought.{kind_of, key_in}
 use Rattle.table_nodes.specs.Steps.{place}
 use Rattle.table_nodes.specs.Entering.{is_missing}
@@ -18,6 +18,9 @@ use Rattle.table_lib.proofs.EnterLaws.{pair_entered}
 use Rattle.table_nodes.specs.avl_trees.Trees.{bits as digits}
 use Rattle.table_nodes.proofs.of_heap_places.of_swizzle.TouchLaws.{keeps-trans}
 use Rattle.table_nodes.proofs.BringLaws.{brings_more, brings_touched, brings_written}
+use Rattle.table_lib.proofs.FaultLaws.{at_change}
+use Rattle.table_nodes.proofs.FaultLaws.{change_fault_back}
+use Rattle.table_nodes.proofs.SpanLaws.{within_all}
 use Rattle.table_lib.proofs.enter.put_pair.Goals as goal
 
 pub returns-in-Err-enter-clause-put : goal.returns-in-Err-enter-clause-put
@@ -28,7 +31,7 @@ returns-in-Err-enter-clause-put g c t p h low =
     let tree = tree_from ks old m c.args.at t c.in-Ok.root c.in-Ok.ensures.grows h (c.in-Ok.ensures.root ks t h) in
     let lower = pairs_low ks old c.args.at t c.num-count.result (2 * c.bits.result + 1) h c.num-count.ensures c.num-count.type_inv (ap (λ b. 2 * b + 1) c.bits.ensures.value) in
     let here = place_touched old m c.in-Ok.ensures.grows p in
-    fault_after old.outside m.outside c.in-Err-enter.fault c.in-Ok.ensures.grows.contents (c.in-Err-enter.ensures.entered t here tree lower)
+    fault_after old.outside m.outside c.in-Err-enter.fault c.in-Ok.ensures.grows.leaves.contents (c.in-Err-enter.ensures.entered t here tree (within_all ks m.heap (items t)) lower)
 
 pub write_table-requires-clause-table : goal.write_table-requires-clause-table
 write_table-requires-clause-table g c =
@@ -49,9 +52,9 @@ returns-clause-put g c t p h low =
     let here = place_touched old m c.in-Ok.ensures.grows p in
     let same_key = key_in_kept old.heap m.heap c.args.key c.in-Ok.ensures.keeps c.requires.key in
     let same_value = (c.in-Ok.ensures.keeps.objects c.args.value c.requires.value).name in
-    let w = entered_as ks m m1 c.in-Ok.root (2 * c.bits.result + 1) (key_in m.heap c.args.key) key (name_at m.heap c.args.value) value (Ok c.in-Ok-enter.entered) same_key same_value c.in-Ok-enter.ensures.entered t here tree lower in
+    let w = entered_as ks m m1 c.in-Ok.root (2 * c.bits.result + 1) (key_in m.heap c.args.key) key (record { low = None; high = None }) (name_at m.heap c.args.value) value (Ok c.in-Ok-enter.entered) same_key same_value c.in-Ok-enter.ensures.entered t here tree (within_all ks m.heap (items t)) lower in
     let is_made : c.in-Ok-enter.entered.made ≡ is_missing (lookup (seek (order_by ks) key) t) =
-    subst (λ k. c.in-Ok-enter.entered.made ≡ is_missing (lookup (seek (order_by ks) k) t)) same_key (c.in-Ok-enter.ensures.counted t tree lower) in
+    subst (λ k. c.in-Ok-enter.entered.made ≡ is_missing (lookup (seek (order_by ks) k) t)) same_key (c.in-Ok-enter.ensures.counted t tree (within_all ks m.heap (items t)) lower) in
     let wrote = subst (λ k. WritesTable k m1.heap m2.heap m1.outside c.args.at (Some c.in-Ok-enter.entered.root) c.count_with-count.result) c.kind_of_key.ensures c.write_table.ensures.written in
     pair_entered ks old m m1 m2 c.args.at (Some c.in-Ok-enter.entered.root) c.count_with-count.result c.requires.table c.in-Ok.ensures.keeps c.in-Ok.ensures.grows c.in-Ok-enter.ensures.spares wrote refl
     key t h value (name-not_nil old.heap c.args.value) c.num-count.result c.in-Ok-enter.entered.made c.in-Ok-enter.entered refl w is_made c.num-count.ensures low c.count_with-count.ensures.more c.count_with-count.ensures.same
@@ -71,3 +74,9 @@ returns-clause-brings g c = brings_written _ _ _ _ 1 (3 * (2 * c.bits.result + 1
 
 pub returns-in-Err-enter-clause-still : goal.returns-in-Err-enter-clause-still
 returns-in-Err-enter-clause-still g c = keeps-trans _ _ _ c.in-Ok.ensures.keeps c.in-Err-enter.ensures.still
+
+pub returns-in-Err-clause-fault : goal.returns-in-Err-clause-fault
+returns-in-Err-clause-fault g c = at_change _ _ _ c.args.at c.in-Err.fault c.in-Err.ensures.fault
+
+pub returns-in-Err-enter-clause-fault : goal.returns-in-Err-enter-clause-fault
+returns-in-Err-enter-clause-fault g c = inr (change_fault_back (g.V.Vault.outside c.args.vault.now) (g.V.Vault.outside c.counted_root.new.vault) _ _ c.in-Err-enter.fault c.in-Ok.ensures.grows.leaves c.in-Err-enter.ensures.fault)

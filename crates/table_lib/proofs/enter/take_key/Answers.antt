@@ -1,7 +1,7 @@
-use Rattle.std.proofs.Common.{arith, ◌+◌, ◌*◌, ◌≢◌, Ok, refl, ap, subst}
-use Rattle.table_nodes.specs.avl_trees.Trees.{lookup}
+use Rattle.std.proofs.Common.{arith, ◌+◌, ◌*◌, ◌≢◌, None, Ok, refl, ap, subst, inr}
+use Rattle.table_nodes.specs.avl_trees.Trees.{items, lookup}
 use Rattle.table_nodes.specs.avl_trees.Standing.{seek}
-use Rattle.table_nodes.specs.Keys.{order_by}
+use Rattle.table_nodes.specs.node_rows.Keys.{order_by}
 use Rattle.table_nodes.specs.Sought.{kind_of, key_in}
 use Rattle.table_nodes.specs.Steps.{place}
 use Rattle.table_nodes.specs.Entering.{is_missing}
@@ -17,6 +17,8 @@ use Rattle.table_lib.proofs.EnterLaws.{key_taken}
 use Rattle.table_nodes.specs.avl_trees.Trees.{bits as digits}
 use Rattle.table_nodes.proofs.of_heap_places.of_swizzle.TouchLaws.{keeps-trans}
 use Rattle.table_nodes.proofs.BringLaws.{brings_more, brings_touched, brings_written}
+use Rattle.table_nodes.proofs.FaultLaws.{node_fault_back}
+use Rattle.table_nodes.proofs.SpanLaws.{within_all}
 use Rattle.table_lib.proofs.enter.take_key.Goals as goal
 
 pub returns-in-Err-remove-clause-taken : goal.returns-in-Err-remove-clause-taken
@@ -27,7 +29,7 @@ returns-in-Err-remove-clause-taken g c t p h =
     let tree = tree_from ks old m c.args.at t c.in-Ok.root c.in-Ok.ensures.grows h (c.in-Ok.ensures.root ks t h) in
     let lower = pairs_low ks old c.args.at t c.num-count.result (2 * c.bits.result + 1) h c.num-count.ensures c.num-count.type_inv (ap (λ b. 2 * b + 1) c.bits.ensures.value) in
     let here = place_touched old m c.in-Ok.ensures.grows p in
-    fetch_back old.outside m.outside c.in-Err-remove.fault c.in-Ok.ensures.grows.contents (c.in-Err-remove.ensures.removed t here tree lower)
+    fetch_back old.outside m.outside c.in-Err-remove.fault c.in-Ok.ensures.grows.leaves.contents (c.in-Err-remove.ensures.removed t here tree (within_all ks m.heap (items t)) lower)
 
 pub returns-clause-taken : goal.returns-clause-taken
 returns-clause-taken g c t p h =
@@ -41,9 +43,9 @@ returns-clause-taken g c t p h =
     let lower = pairs_low ks old c.args.at t c.num-count.result (2 * c.bits.result + 1) h c.num-count.ensures c.num-count.type_inv (ap (λ b. 2 * b + 1) c.bits.ensures.value) in
     let here = place_touched old m c.in-Ok.ensures.grows p in
     let same_key = key_in_kept old.heap m.heap c.args.key c.in-Ok.ensures.keeps c.requires.key in
-    let w = removed_as ks m m1 c.in-Ok.root (2 * c.bits.result + 1) (key_in m.heap c.args.key) key (Ok c.in-Ok-remove.removed) same_key c.in-Ok-remove.ensures.removed t here tree lower in
+    let w = removed_as ks m m1 c.in-Ok.root (2 * c.bits.result + 1) (key_in m.heap c.args.key) key (record { low = None; high = None }) (Ok c.in-Ok-remove.removed) same_key c.in-Ok-remove.ensures.removed t here tree (within_all ks m.heap (items t)) lower in
     let is_gone : c.in-Ok-remove.removed.gone ≢ is_missing (lookup (seek (order_by ks) key) t) =
-    subst (λ k. c.in-Ok-remove.removed.gone ≢ is_missing (lookup (seek (order_by ks) k) t)) same_key (c.in-Ok-remove.ensures.counted t tree lower) in
+    subst (λ k. c.in-Ok-remove.removed.gone ≢ is_missing (lookup (seek (order_by ks) k) t)) same_key (c.in-Ok-remove.ensures.counted t tree (within_all ks m.heap (items t)) lower) in
     let wrote = subst (λ k. WritesTable k m1.heap m2.heap m1.outside c.args.at c.in-Ok-remove.removed.root c.count_without-count.result) c.kind_of_key.ensures c.write_table.ensures.written in
     key_taken ks old m m1 m2 c.args.at c.in-Ok-remove.removed.root c.count_without-count.result c.requires.table c.in-Ok.ensures.keeps c.in-Ok.ensures.grows c.in-Ok-remove.ensures.spares wrote refl
     key t h c.num-count.result c.in-Ok-remove.removed.gone w is_gone c.num-count.ensures c.count_without-count.ensures.fewer c.count_without-count.ensures.same
@@ -63,3 +65,6 @@ returns-clause-brings g c = brings_written _ _ _ _ 1 (3 * (2 * c.bits.result + 1
 
 pub returns-in-Err-remove-clause-still : goal.returns-in-Err-remove-clause-still
 returns-in-Err-remove-clause-still g c = keeps-trans _ _ _ c.in-Ok.ensures.keeps c.in-Err-remove.ensures.still
+
+pub returns-in-Err-remove-clause-fault : goal.returns-in-Err-remove-clause-fault
+returns-in-Err-remove-clause-fault g c = inr (node_fault_back (g.V.Vault.outside c.args.vault.now) (g.V.Vault.outside c.counted_root.new.vault) _ _ c.in-Err-remove.fault c.in-Ok.ensures.grows.leaves c.in-Err-remove.ensures.fault)

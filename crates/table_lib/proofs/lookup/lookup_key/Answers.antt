@@ -1,8 +1,8 @@
-use Rattle.std.proofs.Common.{◌∙◌, ◌-◌, ◌≡◌, ◌+◌, ◌*◌, true, false, Ok, Err, refl, ap, subst, arith}
+use Rattle.std.proofs.Common.{◌∙◌, ◌-◌, ◌≡◌, ◌+◌, ◌*◌, true, false, Ok, Err, refl, ap, subst, arith, inr}
 use Rattle.table_nodes.specs.heap_places.heap_texts.declared.fault.OpFault.TheVariants.{Swizzle}
 use Rattle.table_nodes.specs.avl_trees.Trees.{lookup}
 use Rattle.table_nodes.specs.avl_trees.Standing.{seek}
-use Rattle.table_nodes.specs.Keys.{order_by}
+use Rattle.table_nodes.specs.node_rows.Keys.{order_by}
 use Rattle.table_nodes.specs.Sought.{kind_of, key_in}
 use Rattle.table_nodes.specs.Steps.{place}
 use Rattle.table_nodes.specs.Searching.{IsObject, value_of}
@@ -17,20 +17,23 @@ use Rattle.table_nodes.specs.avl_trees.Trees.{bits as digits}
 use Rattle.table_nodes.proofs.of_heap_places.of_swizzle.TouchLaws.{keeps-refl, keeps-trans}
 use Rattle.table_nodes.proofs.BringLaws.{brings_more, brings_none, brings_touched}
 use Rattle.table_lib.proofs.RootLaws.{one_table}
+use Rattle.table_lib.proofs.FaultLaws.{not_opened, opened_failed}
+use Rattle.table_nodes.proofs.FaultLaws.{node_fault_back}
+use Rattle.table_nodes.specs.Faults.{IsNodeFault}
 use Rattle.table_lib.proofs.lookup.lookup_key.Goals as goal
 
 pub returns-in-Err-clause-looked : goal.returns-in-Err-clause-looked
-returns-in-Err-clause-looked g c = uses_refused (kind_of c.args.key) (place c.args.sw.now (g.V.Vault.outside c.args.vault.now)) c.args.table _ _ c.in-Err.fault (subst (λ ks. Opens ks c.args.sw.now c.args.table (Err c.in-Err.fault)) c.kind_of_key.ensures c.in-Err.ensures)
+returns-in-Err-clause-looked g c = uses_refused (kind_of c.args.key) (place c.args.sw.now (g.V.Vault.outside c.args.vault.now)) c.args.table _ _ c.in-Err.fault (subst (λ ks. Opens ks c.args.sw.now c.args.table (Err c.in-Err.fault)) c.kind_of_key.ensures c.in-Err.ensures.opens)
 
 pub returns-then-not-opened-clause-looked : goal.returns-then-not-opened-clause-looked
 returns-then-not-opened-clause-looked g c =
     let never : c.in-Ok.opened.used ≡ false = grind (arith, c.if-not-opened.true) in
-    uses_unused (kind_of c.args.key) (place c.args.sw.now (g.V.Vault.outside c.args.vault.now)) c.args.table _ _ c.in-Ok.opened never (subst (λ ks. Opens ks c.args.sw.now c.args.table (Ok c.in-Ok.opened)) c.kind_of_key.ensures c.in-Ok.ensures) _ refl
+    uses_unused (kind_of c.args.key) (place c.args.sw.now (g.V.Vault.outside c.args.vault.now)) c.args.table _ _ c.in-Ok.opened never (subst (λ ks. Opens ks c.args.sw.now c.args.table (Ok c.in-Ok.opened)) c.kind_of_key.ensures c.in-Ok.ensures.opens) _ refl
 
 pub returns-in-Err-counted_root-clause-looked : goal.returns-in-Err-counted_root-clause-looked
 returns-in-Err-counted_root-clause-looked g c =
     let has : c.in-Ok.opened.used ≡ true = grind (arith, c.if-not-opened.false) in
-    uses_used (kind_of c.args.key) (place c.args.sw.now (g.V.Vault.outside c.args.vault.now)) c.args.table _ _ c.in-Ok.opened has (subst (λ ks. Opens ks c.args.sw.now c.args.table (Ok c.in-Ok.opened)) c.kind_of_key.ensures c.in-Ok.ensures) (Err (Swizzle c.in-Err-counted_root.fault))
+    uses_used (kind_of c.args.key) (place c.args.sw.now (g.V.Vault.outside c.args.vault.now)) c.args.table _ _ c.in-Ok.opened has (subst (λ ks. Opens ks c.args.sw.now c.args.table (Ok c.in-Ok.opened)) c.kind_of_key.ensures c.in-Ok.ensures.opens) (Err (Swizzle c.in-Err-counted_root.fault))
     (λ t h. c.in-Err-counted_root.ensures.root (kind_of c.args.key) t (pairs_of (kind_of c.args.key) (place c.args.sw.now (g.V.Vault.outside c.args.vault.now)) c.in-Ok.opened.at t h))
 
 pub returns-in-Ok-lookup-clause-looked : goal.returns-in-Ok-lookup-clause-looked
@@ -40,7 +43,7 @@ returns-in-Ok-lookup-clause-looked g c =
     let m = place c.counted_root.new.sw (g.V.Vault.outside c.counted_root.new.vault) in
     let key = key_in old.heap c.args.key in
     let has : c.in-Ok.opened.used ≡ true = grind (arith, c.if-not-opened.false) in
-    uses_used ks old c.args.table _ _ c.in-Ok.opened has (subst (λ ks. Opens ks c.args.sw.now c.args.table (Ok c.in-Ok.opened)) c.kind_of_key.ensures c.in-Ok.ensures) (Ok c.in-Ok-lookup.found) (λ t h.
+    uses_used ks old c.args.table _ _ c.in-Ok.opened has (subst (λ ks. Opens ks c.args.sw.now c.args.table (Ok c.in-Ok.opened)) c.kind_of_key.ensures c.in-Ok.ensures.opens) (Ok c.in-Ok-lookup.found) (λ t h.
     let tree = tree_of ks old m c.in-Ok.opened.at t c.in-Ok-counted_root.root c.in-Ok-counted_root.ensures.grows h (c.in-Ok-counted_root.ensures.root ks t (pairs_of ks old c.in-Ok.opened.at t h)) in
     let low = tree_low ks old c.in-Ok.opened.at t c.num.result (2 * c.bits.result + 1) h c.num.ensures c.num.type_inv (ap (λ b. 2 * b + 1) c.bits.ensures.value) in
     let same = key_in_kept old.heap m.heap c.args.key c.in-Ok-counted_root.ensures.keeps c.requires.key in
@@ -53,10 +56,10 @@ returns-in-Err-lookup-clause-looked g c =
     let old = place c.args.sw.now (g.V.Vault.outside c.args.vault.now) in
     let m = place c.counted_root.new.sw (g.V.Vault.outside c.counted_root.new.vault) in
     let has : c.in-Ok.opened.used ≡ true = grind (arith, c.if-not-opened.false) in
-    uses_used ks old c.args.table _ _ c.in-Ok.opened has (subst (λ ks. Opens ks c.args.sw.now c.args.table (Ok c.in-Ok.opened)) c.kind_of_key.ensures c.in-Ok.ensures) (Err (Swizzle c.in-Err-lookup.fault)) (λ t h.
+    uses_used ks old c.args.table _ _ c.in-Ok.opened has (subst (λ ks. Opens ks c.args.sw.now c.args.table (Ok c.in-Ok.opened)) c.kind_of_key.ensures c.in-Ok.ensures.opens) (Err (Swizzle c.in-Err-lookup.fault)) (λ t h.
     let tree = tree_of ks old m c.in-Ok.opened.at t c.in-Ok-counted_root.root c.in-Ok-counted_root.ensures.grows h (c.in-Ok-counted_root.ensures.root ks t (pairs_of ks old c.in-Ok.opened.at t h)) in
     let low = tree_low ks old c.in-Ok.opened.at t c.num.result (2 * c.bits.result + 1) h c.num.ensures c.num.type_inv (ap (λ b. 2 * b + 1) c.bits.ensures.value) in
-    fetch_back old.outside m.outside c.in-Err-lookup.fault c.in-Ok-counted_root.ensures.grows.contents (c.in-Err-lookup.ensures.found t tree low))
+    fetch_back old.outside m.outside c.in-Err-lookup.fault c.in-Ok-counted_root.ensures.grows.leaves.contents (c.in-Err-lookup.ensures.found t tree low))
 
 pub returns-in-Ok-lookup-clause-grows : goal.returns-in-Ok-lookup-clause-grows
 returns-in-Ok-lookup-clause-grows g c = touches_then (place c.args.sw.now (g.V.Vault.outside c.args.vault.now)) (place c.counted_root.new.sw (g.V.Vault.outside c.counted_root.new.vault)) (place c.lookup.new.sw (g.V.Vault.outside c.lookup.new.vault)) c.in-Ok-counted_root.ensures.grows c.in-Ok-lookup.ensures.grows
@@ -72,12 +75,12 @@ returns-in-Err-counted_root-clause-brings g c at e = brings_more _ _ 1 _ (omega 
 
 pub returns-in-Ok-lookup-clause-brings : goal.returns-in-Ok-lookup-clause-brings
 returns-in-Ok-lookup-clause-brings g c at e =
-    let here : c.in-Ok.opened.at ≡ at = one_table c.args.table c.in-Ok.opened.at at c.in-Ok.ensures.at_is e in
+    let here : c.in-Ok.opened.at ≡ at = one_table c.args.table c.in-Ok.opened.at at c.in-Ok.ensures.opens.at_is e in
     brings_touched _ _ _ 1 (c.lookup.new.steps - c.args.steps.now) _ c.in-Ok-lookup.ensures.keeps (omega (arith, c.lookup.ensures.cost, c.bits.ensures.value, ap digits (c.num.ensures ∙ ap (λ i. num_at c.args.sw.now i 2) here))) c.counted_root.ensures.brings c.lookup.ensures.brings
 
 pub returns-in-Err-lookup-clause-brings : goal.returns-in-Err-lookup-clause-brings
 returns-in-Err-lookup-clause-brings g c at e =
-    let here : c.in-Ok.opened.at ≡ at = one_table c.args.table c.in-Ok.opened.at at c.in-Ok.ensures.at_is e in
+    let here : c.in-Ok.opened.at ≡ at = one_table c.args.table c.in-Ok.opened.at at c.in-Ok.ensures.opens.at_is e in
     brings_touched _ _ _ 1 (c.lookup.new.steps - c.args.steps.now) _ c.in-Err-lookup.ensures.still (omega (arith, c.lookup.ensures.cost, c.bits.ensures.value, ap digits (c.num.ensures ∙ ap (λ i. num_at c.args.sw.now i 2) here))) c.counted_root.ensures.brings c.lookup.ensures.brings
 
 pub returns-in-Err-clause-still : goal.returns-in-Err-clause-still
@@ -85,3 +88,15 @@ returns-in-Err-clause-still g c = keeps-refl c.args.sw.now
 
 pub returns-in-Err-lookup-clause-still : goal.returns-in-Err-lookup-clause-still
 returns-in-Err-lookup-clause-still g c = keeps-trans _ _ _ c.in-Ok-counted_root.ensures.keeps c.in-Err-lookup.ensures.still
+
+pub returns-in-Err-clause-fault : goal.returns-in-Err-clause-fault
+returns-in-Err-clause-fault g c = not_opened _ _ c.args.table c.in-Err.fault c.in-Err.ensures.fault
+
+pub returns-in-Err-counted_root-clause-fault : goal.returns-in-Err-counted_root-clause-fault
+returns-in-Err-counted_root-clause-fault g c = opened_failed (IsNodeFault (g.V.Vault.outside c.args.vault.now) (g.V.Vault.outside c.counted_root.new.vault) c.counted_root.new.sw) _ c.args.table c.in-Ok.opened.at c.in-Err-counted_root.fault c.in-Ok.ensures.opens.at_is c.in-Err-counted_root.ensures.fault
+
+pub returns-in-Err-lookup-clause-fault : goal.returns-in-Err-lookup-clause-fault
+returns-in-Err-lookup-clause-fault g c = inr (node_fault_back (g.V.Vault.outside c.args.vault.now) (g.V.Vault.outside c.counted_root.new.vault) _ _ c.in-Err-lookup.fault c.in-Ok-counted_root.ensures.grows.leaves c.in-Err-lookup.ensures.fault)
+
+pub returns-in-Ok-lookup-clause-keeps : goal.returns-in-Ok-lookup-clause-keeps
+returns-in-Ok-lookup-clause-keeps g c = keeps-trans _ _ _ c.in-Ok-counted_root.ensures.keeps c.in-Ok-lookup.ensures.keeps

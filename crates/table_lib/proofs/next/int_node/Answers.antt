@@ -1,6 +1,6 @@
 use Rattle.std.proofs.Common.{◌≡◌, true, Option, Some, IfSome, ℤ, sym, subst}
 use Rattle.table_nodes.specs.heap_places.ps_heap.Operators.{is_int}
-use Rattle.table_nodes.specs.Keys.{by_ints}
+use Rattle.table_nodes.specs.node_rows.Keys.{by_ints}
 use Rattle.table_nodes.specs.Steps.{place}
 use Rattle.table_nodes.proofs.SoughtLaws.{int_same}
 use Rattle.table_lib.specs.Nexts.{FindsNode, after_key}

@@ -1,17 +1,17 @@
 use Rattle.std.proofs.Common.{Ok, refl, ap, sym, ◌∙◌}
-use Rattle.table_nodes.specs.Keys.{by_ints}
+use Rattle.table_nodes.specs.node_rows.Keys.{by_ints}
 use Rattle.table_nodes.proofs.SoughtLaws.{same_ok, int_key_same}
 use Rattle.table_nodes.proofs.of_heap_places.of_swizzle.TouchLaws.{keeps-refl}
 use Rattle.table_nodes.proofs.BringLaws.{brings_none}
 use Rattle.table_lib.proofs.next.int_pair.Goals as goal
 
 pub returns-in-Err-clause-read : goal.returns-in-Err-clause-read
-returns-in-Err-clause-read g c a named has some = let e = c.in-Err.ensures a.name has.row named has.there in absurd (cc)
+returns-in-Err-clause-read g c a named has some = let e = c.in-Err.ensures.read a.name has.row named has.there in absurd (cc)
 
 pub returns-in-Ok-value-clause-read : goal.returns-in-Ok-value-clause-read
 returns-in-Ok-value-clause-read g c a named has some =
     let read = c.in-Ok-value.ensures.read by_ints a.name has.row named has.there (λ e. some (ap (λ x. x.value) (sym has.entry) ∙ e)) in
-    let same = same_ok c.in-Ok.key has.row.entry.key (Ok c.in-Ok.key) refl (c.in-Ok.ensures a.name has.row named has.there) in
+    let same = same_ok c.in-Ok.key has.row.entry.key (Ok c.in-Ok.key) refl (c.in-Ok.ensures.read a.name has.row named has.there) in
     let key = int_key_same c.args.sw.now (g.V.Vault.outside c.args.vault.now) c.args.node a.name has.row c.in-Ok.key c.sound.ensures named has.there same in
     (key ∙ ap (λ x. x.key) has.entry, c.in-Ok-value.ensures.held, read ∙ ap (λ x. x.value) has.entry)
 

@@ -1,6 +1,6 @@
-use Rattle.std.proofs.Common.{◌*◌, ◌+◌, arith, Option, Ok, subst}
+use Rattle.std.proofs.Common.{◌*◌, ◌+◌, arith, Option, Ok, subst, inr}
 use Rattle.std.specs.Prelude.{ℕ}
-use Rattle.table_nodes.specs.Keys.{by_ints}
+use Rattle.table_nodes.specs.node_rows.Keys.{by_ints}
 use Rattle.table_nodes.specs.Steps.{place}
 use Rattle.table_lib.specs.Nexts.{IsIntPair, FindsNode, after_key}
 use Rattle.table_lib.proofs.NextLaws.{pairs_refused, pairs_none, pairs_some, pairs_fault}
@@ -9,6 +9,7 @@ use Rattle.table_nodes.proofs.of_heap_places.of_swizzle.TouchLaws.{keeps-trans}
 use Rattle.table_nodes.specs.heap_places.swizzle.Heap.{num_at}
 use Rattle.table_nodes.specs.avl_trees.Trees.{bits as digits}
 use Rattle.table_nodes.proofs.BringLaws.{brings_more, brings_touched}
+use Rattle.table_nodes.proofs.FaultLaws.{node_fault_back}
 use Rattle.table_lib.proofs.next.next_int.Goals as goal
 
 pub returns-in-Err-clause-next : goal.returns-in-Err-clause-next
@@ -59,3 +60,6 @@ returns-in-Err-int_pair-clause-brings g c at e = brings_touched _ _ _ (2 * digit
 
 pub returns-in-Err-int_pair-clause-still : goal.returns-in-Err-int_pair-clause-still
 returns-in-Err-int_pair-clause-still g c = keeps-trans _ _ _ c.in-Ok.ensures.keeps c.in-Err-int_pair.ensures.still
+
+pub returns-in-Err-int_pair-clause-fault : goal.returns-in-Err-int_pair-clause-fault
+returns-in-Err-int_pair-clause-fault g c = inr (node_fault_back (g.V.Vault.outside c.args.vault.now) (g.V.Vault.outside c.int_node.new.vault) _ _ c.in-Err-int_pair.fault c.in-Ok.ensures.grows.leaves c.in-Err-int_pair.ensures.fault)

@@ -1,5 +1,5 @@
 use Rattle.std.proofs.Common.{Option, ℕ, sym, subst}
-use Rattle.table_nodes.specs.Keys.{by_texts}
+use Rattle.table_nodes.specs.node_rows.Keys.{by_texts}
 use Rattle.table_nodes.specs.Steps.{place}
 use Rattle.table_lib.specs.Nexts.{FindsNode, after_key, string_of}
 use Rattle.table_lib.proofs.next.text_node.Goals as goal

@@ -1,12 +1,13 @@
 use Rattle.std.proofs.Common.{arith, ap, sym, ◌∙◌}
 use Rattle.table_nodes.specs.declared.keys.Key.TheVariants.{Text}
-use Rattle.table_nodes.specs.Keys.{by_texts}
+use Rattle.table_nodes.specs.node_rows.Keys.{by_texts}
 use Rattle.table_nodes.specs.Steps.{place}
 use Rattle.table_nodes.proofs.NodeLaws.{fetch_back}
 use Rattle.table_nodes.proofs.SoughtLaws.{key_held_kept, key_in_kept}
 use Rattle.table_nodes.proofs.StepLaws.{touches_then}
 use Rattle.table_nodes.proofs.of_heap_places.of_swizzle.TouchLaws.{keeps-trans}
 use Rattle.table_nodes.proofs.BringLaws.{brings_touched}
+use Rattle.table_nodes.proofs.FaultLaws.{node_fault_back}
 use Rattle.table_lib.proofs.next.text_pair.Goals as goal
 
 pub returns-in-Err-clause-read : goal.returns-in-Err-clause-read
@@ -25,7 +26,7 @@ returns-in-Ok-value-clause-read g c a named has some =
 
 pub returns-in-Err-value-clause-read : goal.returns-in-Err-value-clause-read
 returns-in-Err-value-clause-read g c a named has some =
-    fetch_back (g.V.Vault.outside c.args.vault.now) (g.V.Vault.outside c.text_key.new.vault) c.in-Err-value.fault c.in-Ok.ensures.grows.contents
+    fetch_back (g.V.Vault.outside c.args.vault.now) (g.V.Vault.outside c.text_key.new.vault) c.in-Err-value.fault c.in-Ok.ensures.grows.leaves.contents
     (c.in-Err-value.ensures.read by_texts a.name has.row (c.in-Ok.ensures.grows.named c.args.node a.name named) (c.in-Ok.ensures.grows.rows by_texts a.name has.row has.there) (λ e. some (ap (λ x. x.value) (sym has.entry) ∙ e)))
 
 pub returns-in-Ok-value-clause-grows : goal.returns-in-Ok-value-clause-grows
@@ -43,6 +44,9 @@ returns-in-Ok-value-clause-brings g c = brings_touched _ _ _ 0 1 1 c.in-Ok-value
 
 pub returns-in-Err-value-clause-still : goal.returns-in-Err-value-clause-still
 returns-in-Err-value-clause-still g c = keeps-trans _ _ _ c.in-Ok.ensures.keeps c.in-Err-value.ensures.still
+
+pub returns-in-Err-value-clause-fault : goal.returns-in-Err-value-clause-fault
+returns-in-Err-value-clause-fault g c = node_fault_back (g.V.Vault.outside c.args.vault.now) (g.V.Vault.outside c.text_key.new.vault) _ _ c.in-Err-value.fault c.in-Ok.ensures.grows.leaves c.in-Err-value.ensures.fault
 
 pub returns-in-Ok-value-clause-keeps : goal.returns-in-Ok-value-clause-keeps
 returns-in-Ok-value-clause-keeps g c = keeps-trans _ _ _ c.in-Ok.ensures.keeps c.in-Ok-value.ensures.keeps

@@ -1,4 +1,4 @@
-use Rattle.std.proofs.Common.{arith}
+use Rattle.std.proofs.Common.{arith, ℕ, Option, refl, subst}
 use Rattle.table_nodes.specs.heap_places.swizzle.Heap.{ref_at}
 use Rattle.table_nodes.specs.heap_places.swizzle.Joint.{name_of}
 use Rattle.table_nodes.specs.avl_trees.Standing.{root_of}
@@ -6,23 +6,26 @@ use Rattle.table_nodes.specs.Steps.{place}
 use Rattle.table_nodes.proofs.NodeLaws.{grows_touch, side_kind, side_row}
 use Rattle.table_nodes.proofs.StepLaws.{is_side}
 use Rattle.table_nodes.proofs.BringLaws.{brings_only, brings_same, keeps_same}
+use Rattle.table_nodes.specs.heap_places.swizzle.Touch.{Denotes}
+use Rattle.table_nodes.specs.Faults.{misfit, no_node}
+use Rattle.table_nodes.proofs.FaultLaws.{touch_failed}
 use Rattle.table_lib.proofs.words.root_node.Goals as goal
 
 pub returns-then-is_node-clause-grows : goal.returns-then-is_node-clause-grows
-returns-then-is_node-clause-grows g c = grows_touch c.args.sw.now c.touch_slot.new.self (g.V.Vault.outside c.args.vault.now) (g.V.Vault.outside c.touch_slot.new.vault) _ c.sound.ensures c.sound-in-Ok-Some.ensures c.in-Ok-Some.ensures.call.contents c.in-Ok-Some.ensures.keeps c.in-Ok-Some.ensures.joint
+returns-then-is_node-clause-grows g c = grows_touch c.args.sw.now c.touch_slot.new.self (g.V.Vault.outside c.args.vault.now) (g.V.Vault.outside c.touch_slot.new.vault) _ c.sound.ensures c.sound-in-Ok-Some.ensures c.in-Ok-Some.ensures.call c.in-Ok-Some.ensures.keeps c.in-Ok-Some.ensures.joint
 
 pub returns-else-is_node-clause-root : goal.returns-else-is_node-clause-root
 returns-else-is_node-clause-root g c ks t h =
     let a = g.V.Vault.outside c.args.vault.now in
     let b = g.V.Vault.outside c.touch_slot.new.vault in
-    let grows = grows_touch c.args.sw.now c.touch_slot.new.self a b _ c.sound.ensures c.sound-in-Ok-Some.ensures c.in-Ok-Some.ensures.call.contents c.in-Ok-Some.ensures.keeps c.in-Ok-Some.ensures.joint in
+    let grows = grows_touch c.args.sw.now c.touch_slot.new.self a b _ c.sound.ensures c.sound-in-Ok-Some.ensures c.in-Ok-Some.ensures.call c.in-Ok-Some.ensures.keeps c.in-Ok-Some.ensures.joint in
     let node = side_kind ks c.args.sw.now c.touch_slot.new.self a b c.in-Ok-Some.root (name_of c.args.sw.now (ref_at c.args.sw.now c.args.at 0)) (root_of t) c.sound-in-Ok-Some.ensures grows
     (side_row ks c.args.sw.now a (root_of t) (is_side ks (place c.args.sw.now a) t h.stands)) (rw c.in-Ok-Some.field-0-is at c.in-Ok-Some.ensures.target) h.root in
     let yes = c.is_node.ensures.no node in
     absurd (cc (yes, c.if-is_node.false))
 
 pub returns-in-Ok-None-clause-grows : goal.returns-in-Ok-None-clause-grows
-returns-in-Ok-None-clause-grows g c = grows_touch c.args.sw.now c.touch_slot.new.self (g.V.Vault.outside c.args.vault.now) (g.V.Vault.outside c.touch_slot.new.vault) _ c.sound.ensures c.sound-in-Ok-None.ensures c.in-Ok-None.ensures.call.contents c.in-Ok-None.ensures.keeps c.in-Ok-None.ensures.joint
+returns-in-Ok-None-clause-grows g c = grows_touch c.args.sw.now c.touch_slot.new.self (g.V.Vault.outside c.args.vault.now) (g.V.Vault.outside c.touch_slot.new.vault) _ c.sound.ensures c.sound-in-Ok-None.ensures c.in-Ok-None.ensures.call c.in-Ok-None.ensures.keeps c.in-Ok-None.ensures.joint
 
 pub returns-then-is_node-clause-brings : goal.returns-then-is_node-clause-brings
 returns-then-is_node-clause-brings g c = brings_only _ _ _ 1 (omega arith) c.in-Ok-Some.ensures.only
@@ -38,3 +41,9 @@ returns-in-Err-clause-brings g c = brings_same _ _ 1 c.in-Err.ensures.refused
 
 pub returns-in-Err-clause-still : goal.returns-in-Err-clause-still
 returns-in-Err-clause-still g c = keeps_same _ _ c.in-Err.ensures.refused
+
+pub returns-else-is_node-clause-fault : goal.returns-else-is_node-clause-fault
+returns-else-is_node-clause-fault g c = misfit c.in-Ok-Some.root _ _ (subst (λ (t : Option ℕ). Denotes c.touch_slot.new.self t (name_of c.args.sw.now (ref_at c.args.sw.now c.args.at 0))) c.in-Ok-Some.field-0-is c.in-Ok-Some.ensures.target).0 (no_node (λ n. absurd (cc (c.is_node.ensures.no n, c.if-is_node.false))) refl refl) c.damaged.ensures
+
+pub returns-in-Err-clause-fault : goal.returns-in-Err-clause-fault
+returns-in-Err-clause-fault g c = touch_failed (g.V.Vault.outside c.args.vault.now) (g.V.Vault.outside c.touch_slot.new.vault) c.args.sw.now c.touch_slot.new.self c.args.at 0 c.in-Err.fault c.requires.table.held (omega (arith, c.requires.table.refs)) c.in-Err.ensures.refused c.in-Err.ensures.fault c.in-Err.ensures.call

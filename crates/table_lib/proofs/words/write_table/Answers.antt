@@ -1,4 +1,4 @@
-use Rattle.table_lib.specs.Operations.{keys_of}
+use Rattle.table_nodes.specs.Sought.{keys_of}
 use Rattle.table_lib.proofs.WriteLaws.{but_written, table_written, wrote_one}
 use Rattle.table_nodes.proofs.BringLaws.{none_mark, none_num, none_ref}
 use Rattle.table_lib.proofs.words.write_table.Goals as goal

@@ -1,52 +1,57 @@
 use Rattle.std.proofs.Common.{◌-◌, arith, Option, Some, ℕ, refl, subst, inl}
 use Rattle.std.specs.declared.cmp.Ordering.TheVariants.{Less}
-use Rattle.heap_places.proofs.of_swizzle.TouchLaws.{keeps-trans}
-use Rattle.avl_trees.specs.Standing.{row_of}
+use Rattle.heap_places.proofs.of_swizzle.TouchLaws.{keeps-refl, keeps-trans}
+use Rattle.table_nodes.specs.Sought.{keys_of}
 use Rattle.table_nodes.specs.Steps.{place}
-use Rattle.table_nodes.proofs.BringLaws.{brings_more, brings_touched}
+use Rattle.table_nodes.proofs.BringLaws.{brings_more, brings_none, brings_touched}
 use Rattle.table_nodes.proofs.NodeLaws.{fetch_back}
-use Rattle.table_nodes.proofs.StepLaws.{is_side, touches_then}
-use Rattle.table_nodes.proofs.FollowLaws.{Following, at_turn, following_none, height_at, following_on}
+use Rattle.table_nodes.proofs.StepLaws.{touches_none, touches_then}
+use Rattle.table_nodes.proofs.FollowLaws.{Following, following_whole, at_turn, following_none, height_at, following_on}
+use Rattle.table_nodes.proofs.FaultLaws.{node_fault_back, height_tested, the_node}
 use Rattle.table_nodes.proofs.follow.first.Goals as goal
 
 pub returns-in-Err-clause-begins : goal.returns-in-Err-clause-begins
-returns-in-Err-clause-begins g c ks t h low =
+returns-in-Err-clause-begins g c t h low =
+    let ks = keys_of c.args.keys in
     let now = place c.loop-at.sw (g.V.Vault.outside c.loop-at.vault) in
-    let s = at_turn ks (λ a. Less) now c.in-Some.node c.loop-at.last c.loop-at.bound t (subst (λ (i : Option ℕ). Following ks (λ a. Less) now i c.loop-at.last c.loop-at.bound t) c.in-Some.is (c.loop-at.invariant.begins ks t h low)) in
-    fetch_back (g.V.Vault.outside c.args.vault.now) now.outside c.in-Err.fault c.loop-at.invariant.grows.contents
-    (c.in-Err.ensures.sound ks s.b.name (row_of s.x s.b s.y) s.name s.stands.0 (is_side ks now s.x s.stands.1))
+    let s = at_turn ks (λ a. Less) now c.in-Some.node c.loop-at.last c.loop-at.span c.loop-at.bound t (subst (λ (i : Option ℕ). Following ks (λ a. Less) now i c.loop-at.last c.loop-at.span c.loop-at.bound t) c.in-Some.is (c.loop-at.invariant.begins t h low)) in
+    fetch_back (g.V.Vault.outside c.args.vault.now) now.outside c.in-Err.fault c.loop-at.invariant.grows.leaves.contents (c.in-Err.ensures.begins s.x s.b s.y s.stands s.name s.rising s.within)
 
 pub loop-at-preserved : goal.loop-at-preserved
 loop-at-preserved g c =
+    let ks = keys_of c.args.keys in
     let old = place c.args.sw.now (g.V.Vault.outside c.args.vault.now) in
     let now = place c.loop-at.sw (g.V.Vault.outside c.loop-at.vault) in
-    let m = place c.side.new.sw (g.V.Vault.outside c.side.new.vault) in
+    let m = place c.go_first.new.sw (g.V.Vault.outside c.go_first.new.vault) in
     record {
-      node = c.in-Ok.ensures.held;
+      node = c.in-Ok.ensures.side;
+      span = c.in-Ok.ensures.span;
       last = c.in-Ok.ensures.grows.nodes c.in-Some.node (subst (λ (i : Option ℕ). Rattle.std.specs.Prelude.IfSome i (Rattle.table_nodes.specs.Nodes.IsNode now.heap)) c.in-Some.is c.loop-at.invariant.node);
       keeps = keeps-trans old.heap now.heap m.heap c.loop-at.invariant.keeps c.in-Ok.ensures.keeps;
       grows = touches_then old now m c.loop-at.invariant.grows c.in-Ok.ensures.grows;
       some = omega (arith, c.if-height-eq0.false);
       within = omega (arith, c.if-height-bound.false, c.loop-at.invariant.within);
-      brings = brings_touched old.heap now.heap m.heap (c.args.bound - c.loop-at.bound) 1 _ c.in-Ok.ensures.keeps (omega (arith, c.if-height-bound.false, c.loop-at.invariant.within)) c.loop-at.invariant.brings c.side.ensures.brings;
+      brings = brings_touched old.heap now.heap m.heap (c.args.bound - c.loop-at.bound) 1 _ c.in-Ok.ensures.keeps (omega (arith, c.if-height-bound.false, c.loop-at.invariant.within)) c.loop-at.invariant.brings c.go_first.ensures.brings;
       alive = c.in-Ok.ensures.alive;
-      begins = λ ks t h low.
-          let s = at_turn ks (λ a. Less) now c.in-Some.node c.loop-at.last c.loop-at.bound t (subst (λ (i : Option ℕ). Following ks (λ a. Less) now i c.loop-at.last c.loop-at.bound t) c.in-Some.is (c.loop-at.invariant.begins ks t h low)) in
-          let e = height_at ks (λ a. Less) now c.in-Some.node c.loop-at.last c.loop-at.bound t s c.height-height.result (c.height-height.ensures.some ks) in
-          following_on ks (λ a. Less) now m c.in-Some.node c.loop-at.last c.loop-at.bound t s c.in-Ok.ensures.grows c.height-height.result (record { last = Some c.in-Some.node; side = c.in-Ok.side })
-          (inl (refl, refl, c.in-Ok.ensures.side ks s.b.name (row_of s.x s.b s.y) s.name s.stands.0)) e;
+      begins = λ t h low.
+          let s = at_turn ks (λ a. Less) now c.in-Some.node c.loop-at.last c.loop-at.span c.loop-at.bound t (subst (λ (i : Option ℕ). Following ks (λ a. Less) now i c.loop-at.last c.loop-at.span c.loop-at.bound t) c.in-Some.is (c.loop-at.invariant.begins t h low)) in
+          let e = height_at ks (λ a. Less) now c.in-Some.node c.loop-at.last c.loop-at.span c.loop-at.bound t s c.height-height.result (c.height-height.ensures.some ks) in
+          following_on ks (λ a. Less) now m c.in-Some.node c.loop-at.last c.loop-at.span c.loop-at.bound t s c.in-Ok.ensures.grows c.height-height.result (record { last = Some c.in-Some.node; side = c.in-Ok.way.side; span = c.in-Ok.way.span })
+          (let way = c.in-Ok.ensures.begins s.x s.b s.y s.stands s.name s.rising s.within in inl (refl, refl, way.0, way.1)) e;
     }
 
 pub returns-clause-begins : goal.returns-clause-begins
-returns-clause-begins g c ks t h low =
+returns-clause-begins g c t h low =
+    let ks = keys_of c.args.keys in
     let now = place c.loop-at.sw (g.V.Vault.outside c.loop-at.vault) in
-    following_none ks (λ a. Less) now c.loop-at.last c.loop-at.bound t (subst (λ (i : Option ℕ). Following ks (λ a. Less) now i c.loop-at.last c.loop-at.bound t) c.in_default.is (c.loop-at.invariant.begins ks t h low))
+    following_none ks (λ a. Less) now c.loop-at.last c.loop-at.span c.loop-at.bound t (subst (λ (i : Option ℕ). Following ks (λ a. Less) now i c.loop-at.last c.loop-at.span c.loop-at.bound t) c.in_default.is (c.loop-at.invariant.begins t h low))
 
 pub returns-then-height-eq0-clause-begins : goal.returns-then-height-eq0-clause-begins
-returns-then-height-eq0-clause-begins g c ks t h low =
+returns-then-height-eq0-clause-begins g c t h low =
+    let ks = keys_of c.args.keys in
     let now = place c.loop-at.sw (g.V.Vault.outside c.loop-at.vault) in
-    let s = at_turn ks (λ a. Less) now c.in-Some.node c.loop-at.last c.loop-at.bound t (subst (λ (i : Option ℕ). Following ks (λ a. Less) now i c.loop-at.last c.loop-at.bound t) c.in-Some.is (c.loop-at.invariant.begins ks t h low)) in
-    let e = height_at ks (λ a. Less) now c.in-Some.node c.loop-at.last c.loop-at.bound t s c.height-height.result (c.height-height.ensures.some ks) in
+    let s = at_turn ks (λ a. Less) now c.in-Some.node c.loop-at.last c.loop-at.span c.loop-at.bound t (subst (λ (i : Option ℕ). Following ks (λ a. Less) now i c.loop-at.last c.loop-at.span c.loop-at.bound t) c.in-Some.is (c.loop-at.invariant.begins t h low)) in
+    let e = height_at ks (λ a. Less) now c.in-Some.node c.loop-at.last c.loop-at.span c.loop-at.bound t s c.height-height.result (c.height-height.ensures.some ks) in
     let lower = s.lower in
     absurd (grind (arith, e, lower, c.then-height-eq0.either))
 
@@ -54,10 +59,33 @@ pub returns-then-height-eq0-clause-brings : goal.returns-then-height-eq0-clause-
 returns-then-height-eq0-clause-brings g c = brings_more _ _ _ _ (omega (arith, c.loop-at.invariant.some, c.loop-at.invariant.within)) c.loop-at.invariant.brings
 
 pub returns-in-Err-clause-brings : goal.returns-in-Err-clause-brings
-returns-in-Err-clause-brings g c = brings_touched _ _ _ (c.args.bound - c.loop-at.bound) 1 _ c.in-Err.ensures.still (omega (arith, c.if-height-eq0.false, c.if-height-bound.false, c.loop-at.invariant.within)) c.loop-at.invariant.brings c.side.ensures.brings
+returns-in-Err-clause-brings g c = brings_touched _ _ _ (c.args.bound - c.loop-at.bound) 1 _ c.in-Err.ensures.still (omega (arith, c.if-height-eq0.false, c.if-height-bound.false, c.loop-at.invariant.within)) c.loop-at.invariant.brings c.go_first.ensures.brings
 
 pub returns-in-Err-clause-still : goal.returns-in-Err-clause-still
 returns-in-Err-clause-still g c = keeps-trans _ _ _ c.loop-at.invariant.keeps c.in-Err.ensures.still
 
 pub returns-clause-brings : goal.returns-clause-brings
 returns-clause-brings g c = brings_more _ _ _ _ (omega (arith, c.loop-at.invariant.some, c.loop-at.invariant.within)) c.loop-at.invariant.brings
+
+pub returns-then-height-eq0-clause-fault : goal.returns-then-height-eq0-clause-fault
+returns-then-height-eq0-clause-fault g c =
+    height_tested (g.V.Vault.outside c.args.vault.now) _ c.loop-at.sw c.in-Some.node _ _ _ (the_node c.loop-at.sw c.loop-at.at c.in-Some.node c.in-Some.is c.loop-at.invariant.node) (c.height-height.ensures.word c.in-Some.node refl) c.then-height-eq0.either c.damaged.ensures
+
+pub returns-in-Err-clause-fault : goal.returns-in-Err-clause-fault
+returns-in-Err-clause-fault g c = node_fault_back (g.V.Vault.outside c.args.vault.now) (g.V.Vault.outside c.loop-at.vault) _ _ c.in-Err.fault c.loop-at.invariant.grows.leaves c.in-Err.ensures.fault
+
+pub loop-at-init : goal.loop-at-init
+loop-at-init g c =
+    let old = place c.args.sw.now (g.V.Vault.outside c.args.vault.now) in
+    record {
+      node = c.requires.root;
+      last = tt;
+      span = record { low_is = tt; high_is = tt };
+      keeps = keeps-refl c.args.sw.now;
+      grows = touches_none old c.sound.ensures;
+      some = c.requires.bound;
+      within = omega arith;
+      brings = brings_none c.args.sw.now _;
+      alive = c.requires.alive;
+      begins = λ t h low. following_whole (keys_of c.args.keys) (λ a. Less) old c.args.root c.args.bound t h low;
+    }

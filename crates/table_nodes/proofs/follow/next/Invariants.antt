@@ -3,12 +3,14 @@ use Rattle.std.proofs.Common.{◌≡◌, ◌-◌, ◌≤◌, ◌<◌, IfSome}
 use Rattle.heap_places.specs.swizzle.Touch.{Keeps}
 use Rattle.avl_trees.specs.Trees.{Tree, height}
 use Rattle.avl_trees.specs.Standing.{seek}
-use Rattle.table_nodes.specs.Keys.{order_by}
+use Rattle.node_rows.specs.Keys.{order_by}
 use Rattle.table_nodes.specs.Bringing.{Brings}
 use Rattle.table_nodes.specs.Nodes.{IsNode, Grows}
 use Rattle.table_nodes.specs.Sought.{IsKeyHeld, kind_of, key_in}
 use Rattle.table_nodes.specs.Searching.{IsTree}
-use Rattle.table_nodes.specs.Steps.{I, place}
+use Rattle.table_nodes.specs.Spans.{IsSpan}
+use Rattle.node_rows.specs.Nodes.{I}
+use Rattle.table_nodes.specs.Steps.{place}
 use Rattle.table_nodes.proofs.FollowLaws.{Following}
 use Rattle.table_nodes.proofs.follow.next.Given as goal
 
@@ -21,6 +23,7 @@ invariant-loop-at g l =
     record {
       node : IfSome l.at (IsNode l.sw);
       last : IfSome l.last (IsNode l.sw);
+      span : IsSpan l.sw l.span;
       key : IsKeyHeld l.sw l.key;
       same : key_in l.sw l.key ≡ wanted;
       keeps : Keeps l.initial.sw l.sw;
@@ -29,7 +32,7 @@ invariant-loop-at g l =
       within : l.bound ≤ l.initial.bound;
       brings : Brings l.initial.sw l.sw (l.initial.bound - l.bound);
       alive : g.V.Vault.alive l.vault;
-      follows : (t : Tree (I ks)) → IsTree ks old l.fn.root t → height t < l.initial.bound → Following ks (seek (order_by ks) wanted) now l.at l.last l.bound t;
+      follows : (t : Tree (I ks)) → IsTree ks old l.fn.root t → height t < l.initial.bound → Following ks (seek (order_by ks) wanted) now l.at l.last l.span l.bound t;
     }
 
 abbrev pub decreases-loop-at : goal.decreases-loop-at

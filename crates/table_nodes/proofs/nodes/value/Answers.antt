@@ -1,10 +1,13 @@
-use Rattle.std.proofs.Common.{arith, ℕ, Option, sym, ◌∙◌, subst}
-use Rattle.heap_places.specs.swizzle.Heap.{ref_at}
+use Rattle.std.proofs.Common.{arith, ℕ, Option, sym, ◌∙◌, subst, ◌≡◌, refl}
+use Rattle.heap_places.specs.swizzle.Heap.{ref_at, reference_to}
 use Rattle.heap_places.specs.swizzle.Joint.{name_of}
 use Rattle.heap_places.specs.swizzle.Touch.{Denotes}
 use Rattle.heap_places.proofs.PlaceLaws.{slot-name}
 use Rattle.table_nodes.proofs.NodeLaws.{seat_at, grows_touch}
 use Rattle.table_nodes.proofs.BringLaws.{brings_only, brings_same, keeps_same}
+use Rattle.table_nodes.specs.Faults.{misfit, no_value}
+use Rattle.table_nodes.proofs.FaultLaws.{touch_failed}
+use Rattle.table_nodes.proofs.SpanLaws.{slot_shown}
 use Rattle.table_nodes.proofs.nodes.value.Goals as goal
 
 pub returns-in-Ok-Some-clause-read : goal.returns-in-Ok-Some-clause-read
@@ -14,7 +17,7 @@ returns-in-Ok-Some-clause-read g c ks n row named r some =
     d.1 ∙ (sym (slot-name c.args.sw.now c.args.at 3) ∙ s.value)
 
 pub returns-in-Ok-Some-clause-grows : goal.returns-in-Ok-Some-clause-grows
-returns-in-Ok-Some-clause-grows g c = grows_touch c.args.sw.now c.touch_slot.new.self (g.V.Vault.outside c.args.vault.now) (g.V.Vault.outside c.touch_slot.new.vault) _ c.sound.ensures c.sound-in-Ok-Some.ensures c.in-Ok-Some.ensures.call.contents c.in-Ok-Some.ensures.keeps c.in-Ok-Some.ensures.joint
+returns-in-Ok-Some-clause-grows g c = grows_touch c.args.sw.now c.touch_slot.new.self (g.V.Vault.outside c.args.vault.now) (g.V.Vault.outside c.touch_slot.new.vault) _ c.sound.ensures c.sound-in-Ok-Some.ensures c.in-Ok-Some.ensures.call c.in-Ok-Some.ensures.keeps c.in-Ok-Some.ensures.joint
 
 pub returns-in-Ok-None-clause-read : goal.returns-in-Ok-None-clause-read
 returns-in-Ok-None-clause-read g c ks n row named r some =
@@ -33,3 +36,15 @@ returns-in-Err-clause-brings g c = brings_same _ _ 1 c.in-Err.ensures.refused
 
 pub returns-in-Err-clause-still : goal.returns-in-Err-clause-still
 returns-in-Err-clause-still g c = keeps_same _ _ c.in-Err.ensures.refused
+
+pub returns-in-Ok-None-clause-fault : goal.returns-in-Ok-None-clause-fault
+returns-in-Ok-None-clause-fault g c =
+    let node = (grows_touch c.args.sw.now c.touch_slot.new.self (g.V.Vault.outside c.args.vault.now) (g.V.Vault.outside c.touch_slot.new.vault) _ c.sound.ensures c.sound-in-Ok-None.ensures c.in-Ok-None.ensures.call c.in-Ok-None.ensures.keeps c.in-Ok-None.ensures.joint).nodes c.args.at c.requires.node in
+    misfit c.args.at _ _ node.held (no_value node (subst (λ (t : Option ℕ). ref_at c.touch_slot.new.self c.args.at 3 ≡ reference_to t) c.in-Ok-None.field-0-is c.in-Ok-None.ensures.local) refl refl) c.damaged.ensures
+
+pub returns-in-Err-clause-fault : goal.returns-in-Err-clause-fault
+returns-in-Err-clause-fault g c = touch_failed (g.V.Vault.outside c.args.vault.now) (g.V.Vault.outside c.touch_slot.new.vault) c.args.sw.now c.touch_slot.new.self c.args.at 3 c.in-Err.fault c.requires.node.held (omega (arith, c.requires.node.refs)) c.in-Err.ensures.refused c.in-Err.ensures.fault c.in-Err.ensures.call
+
+pub returns-in-Ok-Some-clause-slot : goal.returns-in-Ok-Some-clause-slot
+returns-in-Ok-Some-clause-slot g c = slot_shown c.args.sw.now c.touch_slot.new.self c.args.at 3 c.in-Ok-Some.value c.in-Ok-Some.ensures.keeps c.requires.node.held
+    (subst (λ (t : Option ℕ). Denotes c.touch_slot.new.self t (name_of c.args.sw.now (ref_at c.args.sw.now c.args.at 3))) c.in-Ok-Some.field-0-is c.in-Ok-Some.ensures.target)

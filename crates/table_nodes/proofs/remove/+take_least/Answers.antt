@@ -12,6 +12,7 @@ use Rattle.table_nodes.proofs.Putting.{no_root, tree_left}
 use Rattle.table_nodes.proofs.Removal.{least_here, least_sides, least_known, least_above}
 use Rattle.table_nodes.proofs.Sparing.{spares_then, spares_touched}
 use Rattle.table_nodes.proofs.WingLaws.{wing_held_kept}
+use Rattle.table_nodes.proofs.FaultLaws.{node_fault_back, height_tested}
 use Rattle.table_nodes.proofs.remove.+take_least.Goals as goal
 
 pub returns-then-height-eq0-clause-taken : goal.returns-then-height-eq0-clause-taken
@@ -41,7 +42,7 @@ returns-in-Err-open_right-clause-taken g t c ks (node u d v) b y p h lower =
     let ends = c.in-Ok.ensures.ends ks x b y h.stands h.root_is in
     let hh = c.height-height.ensures.some ks c.args.at b.name (row_of x b y) refl h.root_is h.stands.0 in
     let s = stands_grown (rows_of ks old) (rows_of ks m0) (c.in-Ok.ensures.grows.rows ks) (node x b y) h.stands in
-    fetch_back old.outside m0.outside c.in-Err-open_right.fault c.in-Ok.ensures.grows.contents (c.in-Err-open_right.ensures.wing ks x y s.1 s.2 ends.0 ends.1 (omega (arith, hh)) (omega (arith, hh)))
+    fetch_back old.outside m0.outside c.in-Err-open_right.fault c.in-Ok.ensures.grows.leaves.contents (c.in-Err-open_right.ensures.wing ks x y s.1 s.2 ends.0 ends.1 (omega (arith, hh)) (omega (arith, hh)))
 
 pub returns-in-Err-take_least-clause-taken : goal.returns-in-Err-take_least-clause-taken
 returns-in-Err-take_least-clause-taken g t c ks leaf b y p h lower =
@@ -60,7 +61,7 @@ returns-in-Err-take_least-clause-taken g t c ks (node u d v) b y p h lower =
     let left_now = linked_kept m0.heap m.heap c.in-Ok-open_right.ensures.grows.named c.in-Ok.sides.left (root_of x) ends.0 in
     let right_is = linked_kept m0.heap m.heap c.in-Ok-open_right.ensures.grows.named c.in-Ok.sides.right (root_of y) ends.1 in
     let below = tree_left ks old m (Some c.args.at) (Some c.in-Some.below) grows x b y h (subst (λ s. IsLinked m.heap s (Some d.name)) c.in-Some.is left_now) in
-    fetch_back old.outside m.outside c.in-Err-take_least.fault grows.contents (c.in-Err-take_least.ensures.taken ks u d v (place_touched old m grows p) below ready.1)
+    fetch_back old.outside m.outside c.in-Err-take_least.fault grows.leaves.contents (c.in-Err-take_least.ensures.taken ks u d v (place_touched old m grows p) below ready.1)
 
 pub returns-clause-taken : goal.returns-clause-taken
 returns-clause-taken g t c ks leaf b y p h lower =
@@ -141,3 +142,13 @@ balance-root-requires-clause-right g t c = side_map (IsNode c.open_sides.new.sw)
 
 pub balance-root-requires-clause-wing : goal.balance-root-requires-clause-wing
 balance-root-requires-clause-wing g t c = wing_held_kept c.open_right.new.sw c.take_least.new.sw c.in-Ok-take_least.ensures.held.nodes c.in-Ok-open_right.ready.wing c.in-Ok-open_right.ensures.held
+
+pub returns-then-height-eq0-clause-fault : goal.returns-then-height-eq0-clause-fault
+returns-then-height-eq0-clause-fault g t c = height_tested (g.V.Vault.outside c.args.vault.now) _ c.args.sw.now c.args.at _ _ _ c.requires.node (c.height-height.ensures.word c.args.at refl) c.then-height-eq0.either c.damaged.ensures
+
+pub returns-in-Err-open_right-clause-fault : goal.returns-in-Err-open_right-clause-fault
+returns-in-Err-open_right-clause-fault g t c = node_fault_back (g.V.Vault.outside c.args.vault.now) (g.V.Vault.outside c.open_sides.new.vault) _ _ c.in-Err-open_right.fault c.in-Ok.ensures.grows.leaves c.in-Err-open_right.ensures.fault
+
+pub returns-in-Err-take_least-clause-fault : goal.returns-in-Err-take_least-clause-fault
+returns-in-Err-take_least-clause-fault g t c =
+    node_fault_back (g.V.Vault.outside c.args.vault.now) (g.V.Vault.outside c.open_sides.new.vault) _ _ c.in-Err-take_least.fault c.in-Ok.ensures.grows.leaves (node_fault_back (g.V.Vault.outside c.open_sides.new.vault) (g.V.Vault.outside c.open_right.new.vault) _ _ c.in-Err-take_least.fault c.in-Ok-open_right.ensures.grows.leaves c.in-Err-take_least.ensures.fault)

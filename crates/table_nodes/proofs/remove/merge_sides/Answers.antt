@@ -10,6 +10,7 @@ use Rattle.table_nodes.proofs.Putting.{no_root, root_named, tree_right}
 use Rattle.table_nodes.proofs.Removal.{leaves_touched, tree_grown, merge_left, merge_right, merge_sides_of, merge_known, merge_done}
 use Rattle.table_nodes.proofs.Sparing.{spares_none, spares_then, spares_touched}
 use Rattle.table_nodes.proofs.WingLaws.{wing_held_kept}
+use Rattle.table_nodes.proofs.FaultLaws.{node_fault_back}
 use Rattle.table_nodes.proofs.remove.merge_sides.Goals as goal
 
 pub returns-in_default-clause-merged : goal.returns-in_default-clause-merged
@@ -48,7 +49,7 @@ returns-in-Err-take_least-clause-merged g c ks at (node u d v) a (node x b y) p 
     let grows = c.in-Ok.ensures.grows in
     let t = tree_grown ks old m at (Some at) grows l a r h.root_is h in
     let side = tree_right ks old m (Some at) (Some c.in-Some.above) grows l a r h (grows.named c.in-Some.above b.name above) in
-    fetch_back old.outside m.outside c.in-Err-take_least.fault grows.contents (c.in-Err-take_least.ensures.taken ks x b y (place_touched old m grows p) side ready.1)
+    fetch_back old.outside m.outside c.in-Err-take_least.fault grows.leaves.contents (c.in-Err-take_least.ensures.taken ks x b y (place_touched old m grows p) side ready.1)
 
 pub returns-clause-merged : goal.returns-clause-merged
 returns-clause-merged g c ks at l a leaf p h e f lower = absurd (no_root c.args.sw.now c.args.right c.in-Some.above c.in-Some.is f)
@@ -108,3 +109,6 @@ returns-in-Err-take_least-clause-still g c = keeps-trans _ _ _ c.in-Ok.ensures.k
 
 pub balance-root-requires-clause-wing : goal.balance-root-requires-clause-wing
 balance-root-requires-clause-wing g c = wing_held_kept c.open_left.new.sw c.take_least.new.sw c.in-Ok-take_least.ensures.held.nodes c.in-Ok.ready.wing c.in-Ok.ensures.held
+
+pub returns-in-Err-take_least-clause-fault : goal.returns-in-Err-take_least-clause-fault
+returns-in-Err-take_least-clause-fault g c = node_fault_back (g.V.Vault.outside c.args.vault.now) (g.V.Vault.outside c.open_left.new.vault) _ _ c.in-Err-take_least.fault c.in-Ok.ensures.grows.leaves c.in-Err-take_least.ensures.fault

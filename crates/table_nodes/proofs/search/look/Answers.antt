@@ -1,51 +1,55 @@
 use Rattle.std.proofs.Common.{sym, ◌∙◌, arith, inl, inr}
-use Rattle.avl_trees.specs.Trees.{node}
+use Rattle.avl_trees.specs.Trees.{items, node}
 use Rattle.avl_trees.specs.Standing.{row_of}
 use Rattle.avl_trees.proofs.Standing.{stands_grown}
 use Rattle.table_nodes.specs.Sought.{kind_of}
 use Rattle.table_nodes.specs.Steps.{place, rows_of}
 use Rattle.table_nodes.proofs.NodeLaws.{fetch_back}
-use Rattle.table_nodes.proofs.StepLaws.{is_side}
+use Rattle.table_nodes.proofs.StepLaws.{is_side, touches_then}
 use Rattle.heap_places.proofs.of_swizzle.TouchLaws.{keeps-trans}
 use Rattle.table_nodes.proofs.BringLaws.{brings_touched}
+use Rattle.table_nodes.proofs.FaultLaws.{node_fault_back}
+use Rattle.table_nodes.proofs.SpanLaws.{span_kept, within_kept}
 use Rattle.table_nodes.proofs.search.look.Goals as goal
 
 pub returns-in-Err-clause-steps : goal.returns-in-Err-clause-steps
-returns-in-Err-clause-steps g c x b y s named = c.in-Err.ensures.ordered b.name (row_of x b y) named s.0
+returns-in-Err-clause-steps g c x b y s named rising within = c.in-Err.ensures.placed x b y s named rising within
 
 pub returns-in-Equal-clause-steps : goal.returns-in-Equal-clause-steps
-returns-in-Equal-clause-steps g c x b y s named = sym (c.in-Ok.ensures.ordered b.name (row_of x b y) named s.0) ∙ c.in-Equal.is
+returns-in-Equal-clause-steps g c x b y s named rising within = sym (c.in-Ok.ensures.placed x b y s named rising within).order ∙ c.in-Equal.is
 
 pub returns-in-Ok-side-clause-steps : goal.returns-in-Ok-side-clause-steps
-returns-in-Ok-side-clause-steps g c x b y s named =
+returns-in-Ok-side-clause-steps g c x b y s named rising within =
     inl (
-      sym (c.in-Ok.ensures.ordered b.name (row_of x b y) named s.0) ∙ c.in-Less.is,
+      sym (c.in-Ok.ensures.placed x b y s named rising within).order ∙ c.in-Less.is,
       c.in-Ok-side.ensures.side (kind_of c.args.key) b.name (row_of x b y) (c.in-Ok.ensures.grows.named c.args.at b.name named) (c.in-Ok.ensures.grows.rows (kind_of c.args.key) b.name (row_of x b y) s.0),
+      within_kept (kind_of c.args.key) c.place_key.new.sw c.side.new.sw c.in-Ok.placed.span (items x) c.in-Ok-side.ensures.keeps c.in-Ok.ensures.span ((c.in-Ok.ensures.placed x b y s named rising within).left c.in-Less.is),
     )
 
 pub returns-in-Err-side-clause-steps : goal.returns-in-Err-side-clause-steps
-returns-in-Err-side-clause-steps g c x b y s named =
+returns-in-Err-side-clause-steps g c x b y s named rising within =
     let ks = kind_of c.args.key in
     let p = place c.args.sw.now (g.V.Vault.outside c.args.vault.now) in
-    let m = place c.order.new.sw (g.V.Vault.outside c.order.new.vault) in
+    let m = place c.place_key.new.sw (g.V.Vault.outside c.place_key.new.vault) in
     let t = stands_grown (rows_of ks p) (rows_of ks m) (c.in-Ok.ensures.grows.rows ks) (node x b y) s in
-    fetch_back p.outside m.outside c.in-Err-side.fault c.in-Ok.ensures.grows.contents
+    fetch_back p.outside m.outside c.in-Err-side.fault c.in-Ok.ensures.grows.leaves.contents
     (c.in-Err-side.ensures.sound ks b.name (row_of x b y) (c.in-Ok.ensures.grows.named c.args.at b.name named) t.0 (is_side ks m x t.1))
 
 pub returns-in-Ok-side-2-clause-steps : goal.returns-in-Ok-side-2-clause-steps
-returns-in-Ok-side-2-clause-steps g c x b y s named =
+returns-in-Ok-side-2-clause-steps g c x b y s named rising within =
     inr (
-      sym (c.in-Ok.ensures.ordered b.name (row_of x b y) named s.0) ∙ c.in-Greater.is,
+      sym (c.in-Ok.ensures.placed x b y s named rising within).order ∙ c.in-Greater.is,
       c.in-Ok-side-2.ensures.side (kind_of c.args.key) b.name (row_of x b y) (c.in-Ok.ensures.grows.named c.args.at b.name named) (c.in-Ok.ensures.grows.rows (kind_of c.args.key) b.name (row_of x b y) s.0),
+      within_kept (kind_of c.args.key) c.place_key.new.sw c.side-in-Greater.new.sw c.in-Ok.placed.span (items y) c.in-Ok-side-2.ensures.keeps c.in-Ok.ensures.span ((c.in-Ok.ensures.placed x b y s named rising within).right (λ e. (let f = sym c.in-Greater.is ∙ e in absurd (cc)))),
     )
 
 pub returns-in-Err-side-2-clause-steps : goal.returns-in-Err-side-2-clause-steps
-returns-in-Err-side-2-clause-steps g c x b y s named =
+returns-in-Err-side-2-clause-steps g c x b y s named rising within =
     let ks = kind_of c.args.key in
     let p = place c.args.sw.now (g.V.Vault.outside c.args.vault.now) in
-    let m = place c.order.new.sw (g.V.Vault.outside c.order.new.vault) in
+    let m = place c.place_key.new.sw (g.V.Vault.outside c.place_key.new.vault) in
     let t = stands_grown (rows_of ks p) (rows_of ks m) (c.in-Ok.ensures.grows.rows ks) (node x b y) s in
-    fetch_back p.outside m.outside c.in-Err-side-2.fault c.in-Ok.ensures.grows.contents
+    fetch_back p.outside m.outside c.in-Err-side-2.fault c.in-Ok.ensures.grows.leaves.contents
     (c.in-Err-side-2.ensures.sound ks b.name (row_of x b y) (c.in-Ok.ensures.grows.named c.args.at b.name named) t.0 (is_side ks m y t.2))
 
 pub returns-in-Ok-side-clause-brings : goal.returns-in-Ok-side-clause-brings
@@ -65,3 +69,25 @@ returns-in-Err-side-2-clause-brings g c = brings_touched _ _ _ 0 1 1 c.in-Err-si
 
 pub returns-in-Err-side-2-clause-still : goal.returns-in-Err-side-2-clause-still
 returns-in-Err-side-2-clause-still g c = keeps-trans _ _ _ c.in-Ok.ensures.keeps c.in-Err-side-2.ensures.still
+
+pub returns-in-Err-side-clause-fault : goal.returns-in-Err-side-clause-fault
+returns-in-Err-side-clause-fault g c = node_fault_back (g.V.Vault.outside c.args.vault.now) (g.V.Vault.outside c.place_key.new.vault) _ _ c.in-Err-side.fault c.in-Ok.ensures.grows.leaves c.in-Err-side.ensures.fault
+
+pub returns-in-Err-side-2-clause-fault : goal.returns-in-Err-side-2-clause-fault
+returns-in-Err-side-2-clause-fault g c = node_fault_back (g.V.Vault.outside c.args.vault.now) (g.V.Vault.outside c.place_key.new.vault) _ _ c.in-Err-side-2.fault c.in-Ok.ensures.grows.leaves c.in-Err-side-2.ensures.fault
+
+pub returns-in-Equal-clause-down : goal.returns-in-Equal-clause-down
+returns-in-Equal-clause-down g c = c.in-Ok.ensures.equal c.in-Equal.is
+
+pub returns-in-Ok-side-clause-down : goal.returns-in-Ok-side-clause-down
+returns-in-Ok-side-clause-down g c = (c.in-Ok-side.ensures.held, span_kept c.place_key.new.sw c.side.new.sw c.in-Ok.placed.span c.in-Ok-side.ensures.keeps c.in-Ok.ensures.span)
+
+pub returns-in-Ok-side-2-clause-down : goal.returns-in-Ok-side-2-clause-down
+returns-in-Ok-side-2-clause-down g c = (c.in-Ok-side-2.ensures.held, span_kept c.place_key.new.sw c.side-in-Greater.new.sw c.in-Ok.placed.span c.in-Ok-side-2.ensures.keeps c.in-Ok.ensures.span)
+
+pub returns-in-Ok-side-clause-grows : goal.returns-in-Ok-side-clause-grows
+returns-in-Ok-side-clause-grows g c = touches_then (place c.args.sw.now (g.V.Vault.outside c.args.vault.now)) (place c.place_key.new.sw (g.V.Vault.outside c.place_key.new.vault)) (place c.side.new.sw (g.V.Vault.outside c.side.new.vault)) c.in-Ok.ensures.grows c.in-Ok-side.ensures.grows
+
+pub returns-in-Ok-side-2-clause-grows : goal.returns-in-Ok-side-2-clause-grows
+returns-in-Ok-side-2-clause-grows g c =
+    touches_then (place c.args.sw.now (g.V.Vault.outside c.args.vault.now)) (place c.place_key.new.sw (g.V.Vault.outside c.place_key.new.vault)) (place c.side-in-Greater.new.sw (g.V.Vault.outside c.side-in-Greater.new.vault)) c.in-Ok.ensures.grows c.in-Ok-side-2.ensures.grows

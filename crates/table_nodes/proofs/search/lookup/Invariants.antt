@@ -6,7 +6,9 @@ use Rattle.table_nodes.specs.Bringing.{Brings}
 use Rattle.table_nodes.specs.Nodes.{IsNode, Grows}
 use Rattle.table_nodes.specs.Sought.{IsKeyHeld, kind_of, key_in}
 use Rattle.table_nodes.specs.Searching.{IsTree}
-use Rattle.table_nodes.specs.Steps.{I, place}
+use Rattle.table_nodes.specs.Spans.{IsSpan}
+use Rattle.node_rows.specs.Nodes.{I}
+use Rattle.table_nodes.specs.Steps.{place}
 use Rattle.table_nodes.proofs.Seeking.{Sought}
 use Rattle.table_nodes.proofs.search.lookup.Given as goal
 
@@ -18,6 +20,7 @@ invariant-loop-at g l =
     let now = place l.sw (g.V.Vault.outside l.vault) in
     record {
       node : IfSome l.at (IsNode l.sw);
+      span : IsSpan l.sw l.span;
       some : 1 ≤ l.bound;
       cost : l.steps + l.bound ≤ l.initial.steps + l.initial.bound;
       key : IsKeyHeld l.sw l.key;
@@ -27,7 +30,7 @@ invariant-loop-at g l =
       more : l.initial.steps ≤ l.steps;
       brings : Brings l.initial.sw l.sw (l.steps - l.initial.steps);
       alive : g.V.Vault.alive l.vault;
-      sought : (t : Tree (I ks)) → IsTree ks old l.fn.root t → height t < l.initial.bound → Sought ks wanted now l.at l.bound l.initial.steps l.steps t;
+      sought : (t : Tree (I ks)) → IsTree ks old l.fn.root t → height t < l.initial.bound → Sought ks wanted now l.at l.span l.bound l.initial.steps l.steps t;
     }
 
 abbrev pub decreases-loop-at : goal.decreases-loop-at

@@ -1,6 +1,5 @@
 use Rattle.std.proofs.Common.{◌+◌, ◌<◌, subst, arith}
 use Rattle.avl_trees.specs.Trees.{height}
-use Rattle.table_nodes.specs.Nodes.{IsLinked}
 use Rattle.table_nodes.specs.Steps.{AreSides, place}
 use Rattle.table_nodes.proofs.StepLaws.{height_is}
 use Rattle.table_nodes.proofs.TurnLaws.{balanced_right, balanced_left, balanced_plain}

@@ -1,4 +1,4 @@
-use Rattle.std.proofs.Common.{◌<◌, Some, arith}
+use Rattle.std.proofs.Common.{◌<◌, arith}
 use Rattle.avl_trees.specs.Trees.{leaf, node, height}
 use Rattle.table_nodes.specs.Steps.{place}
 use Rattle.table_nodes.proofs.StepLaws.{height_is, touches_none}

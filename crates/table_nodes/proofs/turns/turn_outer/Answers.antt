@@ -1,6 +1,5 @@
-use Rattle.std.proofs.Common.{ℕ, Option, Some, IfSome, subst, arith}
+use Rattle.std.proofs.Common.{ℕ, Option, Some, subst, arith}
 use Rattle.avl_trees.specs.Trees.{leaf, node}
-use Rattle.avl_trees.specs.Standing.{root_of}
 use Rattle.table_nodes.specs.Nodes.{IsLinked}
 use Rattle.table_nodes.specs.Steps.{place, AreTurnedOut}
 use Rattle.table_nodes.proofs.StepLaws.{touches_none}

@@ -1,6 +1,5 @@
 use Rattle.std.proofs.Common.{ℕ, Option, Some, arith, subst}
-use Rattle.avl_trees.specs.Trees.{Tree, leaf, node}
-use Rattle.avl_trees.specs.Standing.{root_of}
+use Rattle.avl_trees.specs.Trees.{leaf, node}
 use Rattle.heap_places.proofs.of_swizzle.TouchLaws.{keeps-refl}
 use Rattle.table_nodes.specs.Nodes.{IsLinked}
 use Rattle.table_nodes.specs.Steps.{place}

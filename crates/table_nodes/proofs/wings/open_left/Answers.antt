@@ -1,16 +1,15 @@
-use Rattle.std.proofs.Common.{ℕ, ◌+◌, ◌*◌, ◌-◌, Option, Some, arith, subst}
+use Rattle.std.proofs.Common.{ℕ, Option, Some, arith, subst, inr}
 use Rattle.avl_trees.specs.Trees.{leaf, node}
 use Rattle.avl_trees.proofs.Standing.{stands_grown}
 use Rattle.heap_places.proofs.of_swizzle.TouchLaws.{keeps-refl, keeps-trans}
 use Rattle.table_nodes.specs.Nodes.{IsLinked}
 use Rattle.table_nodes.specs.Steps.{place, rows_of}
-use Rattle.table_nodes.specs.Wings.{IsLeftWing, IsRightWing}
-use Rattle.table_nodes.specs.declared.wing.Wing.{Wing}
 use Rattle.table_nodes.proofs.BringLaws.{brings_more, brings_none, brings_touched}
 use Rattle.table_nodes.proofs.NodeLaws.{fetch_back}
 use Rattle.table_nodes.proofs.Putting.{root_named, no_root}
 use Rattle.table_nodes.proofs.StepLaws.{height_is, touches_none, touches_then}
 use Rattle.table_nodes.proofs.WingLaws.{ends_kept, held_kept}
+use Rattle.table_nodes.proofs.FaultLaws.{node_fault_back, height_failed, the_node}
 use Rattle.table_nodes.proofs.wings.open_left.Goals as goal
 
 pub returns-then-above-height-clause-wing : goal.returns-then-above-height-clause-wing
@@ -41,7 +40,7 @@ returns-in-Err-open_inner-clause-wing g c ks l (node x b y) s t e f low high =
     let m = place c.open_sides.new.sw (g.V.Vault.outside c.open_sides.new.vault) in
     let ends = c.in-Ok.ensures.ends ks x b y t (root_named c.args.sw.now c.args.high c.in-Some.at b.name c.in-Some.is f) in
     let s2 = stands_grown (rows_of ks p) (rows_of ks m) (c.in-Ok.ensures.grows.rows ks) (node x b y) t in
-    fetch_back p.outside m.outside c.in-Err-open_inner.fault c.in-Ok.ensures.grows.contents (c.in-Err-open_inner.ensures.ends ks x y s2.1 s2.2 ends.0 ends.1)
+    fetch_back p.outside m.outside c.in-Err-open_inner.fault c.in-Ok.ensures.grows.leaves.contents (c.in-Err-open_inner.ensures.ends ks x y s2.1 s2.2 ends.0 ends.1)
 
 pub returns-in-Ok-open_inner-clause-wing : goal.returns-in-Ok-open_inner-clause-wing
 returns-in-Ok-open_inner-clause-wing g c ks l leaf s t e f low high = absurd (no_root c.args.sw.now c.args.high c.in-Some.at c.in-Some.is f)
@@ -98,3 +97,9 @@ returns-in-Err-open_inner-clause-brings g c = brings_touched _ _ _ 2 2 4 c.in-Er
 
 pub returns-in-Ok-open_inner-clause-brings : goal.returns-in-Ok-open_inner-clause-brings
 returns-in-Ok-open_inner-clause-brings g c = brings_touched _ _ _ 2 2 _ c.in-Ok-open_inner.ensures.keeps (omega (arith, c.if-above-bound.false)) c.open_sides.ensures.brings c.open_inner.ensures.brings
+
+pub returns-then-above-bound-clause-fault : goal.returns-then-above-bound-clause-fault
+returns-then-above-bound-clause-fault g c = height_failed (g.V.Vault.outside c.args.vault.now) _ c.args.sw.now c.in-Some.at _ _ _ (the_node c.args.sw.now c.args.high c.in-Some.at c.in-Some.is c.requires.high) (c.height-above.ensures.word c.in-Some.at c.in-Some.is) (inr c.if-above-bound.true) c.damaged.ensures
+
+pub returns-in-Err-open_inner-clause-fault : goal.returns-in-Err-open_inner-clause-fault
+returns-in-Err-open_inner-clause-fault g c = node_fault_back (g.V.Vault.outside c.args.vault.now) (g.V.Vault.outside c.open_sides.new.vault) _ _ c.in-Err-open_inner.fault c.in-Ok.ensures.grows.leaves c.in-Err-open_inner.ensures.fault

@@ -1,18 +1,29 @@
-use Rattle.std.proofs.Common.{◌∙◌, ap, subst, None, ℕ, Err}
-use Rattle.obj_layout.specs.Storing.{TestsObject}
-use Rattle.obj_store.specs.Spaces.{spaces}
-use Rattle.obj_store.specs.Store.{Store, outside_of}
-use Rattle.obj_store.proofs.FaultLaws.{tests_fault}
+use Rattle.obj_store.proofs.CallLaws.{dead_of, store_numbers}
 use Rattle.obj_store.proofs.store.ObjStoreVault.length.Goals as goal
 
-pub length_at-requires-clause-kept : goal.length_at-requires-clause-kept
-length_at-requires-clause-kept g c = c.self.invariant.pages (ap (λ (s : Store g.row.H.Denot). s.live) c.self.view_is ∙ c.requires.alive)
+pub returns-clause-told : goal.returns-clause-told
+returns-clause-told g c = c.length_in.ensures.measures.told
 
-pub returns-in-Err-clause-tested : goal.returns-in-Err-clause-tested
-returns-in-Err-clause-tested g c =
-    let o = g.H.Host.outside in
-    let v = c.self.inside.volume in
-    let z = c.length_at.new.volume in
-    let used = c.self.inside.used in
-    subst (λ (s : Store g.row.H.Denot). TestsObject {T = ℕ} (outside_of o s) c.args.pid None (Err c.in-Err.fault)) c.self.view_is
-    (tests_fault {T = ℕ} (spaces used v.table (o v.host)) (spaces used z.table (o z.host)) c.args.pid None c.in-Err.fault c.in-Err.ensures.fault)
+pub returns-clause-stands : goal.returns-clause-stands
+returns-clause-stands g c = c.length_in.ensures.measures.stands
+
+pub returns-clause-tested : goal.returns-clause-tested
+returns-clause-tested g c = c.length_in.ensures.measures.tested
+
+pub returns-clause-call : goal.returns-clause-call
+returns-clause-call g c = c.length_in.ensures.measures.call
+
+pub returns-clause-same : goal.returns-clause-same
+returns-clause-same g c = c.length_in.ensures.measures.same
+
+pub returns-clause-full : goal.returns-clause-full
+returns-clause-full g c = c.length_in.ensures.measures.full
+
+pub returns-clause-pages : goal.returns-clause-pages
+returns-clause-pages g c = c.length_in.ensures.measures.pages
+
+pub returns-clause-numbers : goal.returns-clause-numbers
+returns-clause-numbers g c = store_numbers c.args.self.now c.length_in.new.self c.length_in.ensures.same
+
+pub returns-clause-dead : goal.returns-clause-dead
+returns-clause-dead g c = dead_of c.length_in.result c.length_in.new.self.live c.length_in.ensures.dead

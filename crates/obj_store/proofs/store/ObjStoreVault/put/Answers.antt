@@ -1,34 +1,20 @@
-use Rattle.std.proofs.Common.{◌∙◌, Ok, ap, subst, sym}
-use Rattle.volume_parts.specs.Layout.{pages_of_words}
-use Rattle.paged_volume.specs.Staging.{HasPages}
-use Rattle.paged_volume.specs.declared.table.Table.{Table}
-use Rattle.obj_layout.specs.Storing.{Puts}
-use Rattle.obj_store.specs.Spaces.{IsInOrder, spaces}
-use Rattle.obj_store.specs.Store.{Store, outside_of}
-use Rattle.obj_store.proofs.SpaceLaws.{puts_done}
-use Rattle.obj_store.proofs.KeptLaws.{kept_looks}
+use Rattle.obj_store.proofs.CallLaws.{dead_of, store_numbers}
 use Rattle.obj_store.proofs.store.ObjStoreVault.put.Goals as goal
 
-pub invariant_of-self : goal.invariant_of-self
-invariant_of-self g c =
-    let o = g.H.Host.outside in
-    let v = c.self.inside.volume in
-    let z = c.put.new.self in
-    let used = c.self.inside.used in
-    let is = c.self.invariant in
-    record {
-      order = subst (λ (t : Table). IsInOrder used t.committed) (sym c.put.ensures.same) is.order;
-      alive = λ live. c.put.ensures.alive (is.alive live);
-      has = λ live. subst (λ (t : Table). HasPages t (pages_of_words used)) (sym c.put.ensures.same) (is.has live);
-      pages = λ live. kept_looks c.self.inside.kept.places.items v.table z.table (o v.host) (o z.host) c.put.ensures.same c.put.ensures.call.contents (is.pages live);
-      unpinned = λ live. ap (λ (t : Table). t.pins.items) c.put.ensures.same ∙ is.unpinned live;
-    }
+pub returns-clause-told : goal.returns-clause-told
+returns-clause-told g c = c.put_in.ensures.told
 
-pub returns-in-Ok-clause-told : goal.returns-in-Ok-clause-told
-returns-in-Ok-clause-told g c =
-    let o = g.H.Host.outside in
-    let v = c.self.inside.volume in
-    let z = c.put.new.self in
-    let used = c.self.inside.used in
-    subst (λ (s : Store g.row.H.Denot). Puts {T = Unit {0}} (outside_of o s) (spaces used z.table (o z.host)) c.args.bytes.now (Ok tt)) c.self.view_is
-    (puts_done used v.table z.table (o v.host) (o z.host) c.args.bytes.now c.put.result tt c.put.ensures.same c.put.ensures.cut c.in-Ok.ensures.all c.in-Ok.ensures.calm c.put.ensures.call)
+pub returns-clause-full : goal.returns-clause-full
+returns-clause-full g c = c.put_in.ensures.never.0
+
+pub returns-clause-pages : goal.returns-clause-pages
+returns-clause-pages g c = c.put_in.ensures.never.1
+
+pub returns-clause-sound : goal.returns-clause-sound
+returns-clause-sound g c = c.put_in.ensures.never.2
+
+pub returns-clause-numbers : goal.returns-clause-numbers
+returns-clause-numbers g c = store_numbers c.args.self.now c.put_in.new.self c.put_in.ensures.same
+
+pub returns-clause-dead : goal.returns-clause-dead
+returns-clause-dead g c = dead_of c.put_in.result c.put_in.new.self.live c.put_in.ensures.dead

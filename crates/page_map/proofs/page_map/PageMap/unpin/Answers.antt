@@ -5,6 +5,7 @@ use Rattle.page_map.specs.Pages.{is_free, free_where, may_be_free, names, no_pag
 use Rattle.page_map.specs.Map.{MapView, with_pin}
 use Rattle.page_map.specs.inside.Kept.{map_of}
 use Rattle.page_map.proofs.MapLaws.{giving_up, names_no_pages, pinned_is_map}
+use Rattle.page_map.proofs.LooseLaws.{pinned_loose}
 use Rattle.page_map.proofs.page_map.PageMap.unpin.Goals as goal
 
 there : (c : goal.After-hold_all) → c.args.pin < length c.self.inside.pins.items
@@ -16,7 +17,7 @@ held_is c = get_or_read c.self.inside.pins.items c.args.pin c.index_mut-pinned.r
 
 -- the list that it has now
 list_is : (c : goal.After-hold_all) → c.clear.new.self ≡ no_pages (length c.self.inside.committed)
-list_is c = c.clear.ensures ∙ ap no_pages (ap length (held_is c) ∙ c.self.invariant.pinned c.args.pin (there c))
+list_is c = c.clear.ensures ∙ ap no_pages (ap length (held_is c) ∙ c.self.invariant.is_map.pinned c.args.pin (there c))
 
 free_is : (c : goal.After-hold_all) → c.hold_all.new.free ≡ (with_pin (map_of c.self.inside) c.args.pin (no_pages (length c.self.inside.committed))).free
 free_is c =
@@ -26,9 +27,10 @@ free_is c =
     let released = c.release_named.new.self in
     let given_up = c.numbers.ensures ∙ held_is c in
     let pins = c.deref.ensures.value ∙ ap (λ (list : List ℕ). set map.pins.items pin list) (list_is c) in
-    giving_up (map_of map) pin (no_pages count) c.self.invariant (λ page above is. absurd (both_ways (names (no_pages count) page) (names_no_pages count page above) is)) released c.hold_all.new.free
+    giving_up (map_of map) pin (no_pages count) c.self.invariant.is_map (λ page above is. absurd (both_ways (names (no_pages count) page) (names_no_pages count page above) is)) released c.hold_all.new.free
     (c.release_named.ensures ∙ ap (λ (list : List ℕ). free_where (length map.free) (λ page. is_free map.free page || (may_be_free page && names list page))) given_up)
     (c.hold_all.ensures
+    ∙ ap (λ (list : List ℕ). free_where (length released) (λ page. is_free released page && not (names map.committed page || (names list page || one_names c.deref.result.now page)))) c.list.ensures
     ∙ ap (λ (lists : List (List ℕ)). free_where (length released) (λ page. is_free released page && not (names map.committed page || (names map.staged page || one_names lists page)))) pins)
 
 pub invariant_of-self : goal.invariant_of-self
@@ -36,7 +38,10 @@ invariant_of-self c =
     let map = map_of c.self.inside in
     let count = length map.committed in
     rw (list_is c, free_is c)
-    (pinned_is_map map c.args.pin (no_pages count) c.self.invariant (λ page above is. absurd (both_ways (names (no_pages count) page) (names_no_pages count page above) is)) (there c) (length-replicate {A = ℕ} count 0))
+    (record {
+      is_map = pinned_is_map map c.args.pin (no_pages count) c.self.invariant.is_map (λ page above is. absurd (both_ways (names (no_pages count) page) (names_no_pages count page above) is)) (there c) (length-replicate {A = ℕ} count 0);
+      loose = pinned_loose map c.args.pin (no_pages count) c.self.inside.loose c.self.invariant.loose;
+    })
 
 pub returns : goal.returns
 returns c = rw (list_is c, free_is c) (ap (λ (map : MapView). with_pin map c.args.pin (no_pages (length map.committed))) c.self.view_is)

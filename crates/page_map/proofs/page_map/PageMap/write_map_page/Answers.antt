@@ -1,4 +1,4 @@
-use Rattle.std.proofs.Common.{◌≡◌, ℕ, ◌*◌, List, [], ◌++◌, drop, sym, ap, ◌∙◌, arith}
+use Rattle.std.proofs.Common.{◌≡◌, ℕ, ◌+◌, ◌*◌, List, [], ◌++◌, get_or, drop, sym, ap, ◌∙◌, arith}
 use Rattle.std.proofs.lemmas.List.{append-nil, drop_all}
 use Rattle.page_map.specs.Map.{MapView}
 use Rattle.page_map.specs.Numbers.{bytes_of, numbers_from}
@@ -12,7 +12,7 @@ pub loop-index-preserved : goal.loop-index-preserved
 loop-index-preserved c =
     c.write_number.ensures
     ∙ written_more c.self.inside.staged c.args.into.now c.loop-index.into (1024 * c.args.number) c.loop-index.index c.number_or_none.result
-    c.number_or_none.ensures c.loop-index.invariant
+    (c.number_or_none.ensures ∙ ap (λ (list : List ℕ). get_or list (1024 * c.args.number + c.loop-index.index) 0) c.list.ensures) c.loop-index.invariant
 
 pub returns : goal.returns
 returns c =

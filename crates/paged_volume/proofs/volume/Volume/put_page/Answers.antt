@@ -2,7 +2,7 @@ use Rattle.std.proofs.Common.{refl, ◌∙◌, ap}
 use Rattle.page_map.specs.Pages.{held_of}
 use Rattle.page_map.specs.Map.{MapView, with_staged}
 use Rattle.paged_volume.proofs.Room.{latest_free}
-use Rattle.paged_volume.proofs.Putting.{is_put, put_as, put_alive, put_contents, put_stays, put_staging, put_pinned, write_as, written_as, holds_as}
+use Rattle.paged_volume.proofs.Putting.{place_lists, is_put, put_as, put_alive, put_contents, put_stays, put_staging, put_pinned, write_as, written_as, holds_as}
 use Rattle.paged_volume.proofs.volume.Volume.put_page.Goals as goal
 
 pub returns-in-Ok-clause-put : goal.returns-in-Ok-clause-put
@@ -79,3 +79,16 @@ returns-in-None-clause-fault g c =
       refl,
       refl,
     )
+
+pub returns-in-Ok-clause-lists : goal.returns-in-Ok-clause-lists
+returns-in-Ok-clause-lists g c =
+    let placed = place_lists c.args.self.now.table.map c.place_for.new.map c.args.page c.in-Some.number c.in-Some.ensures in
+    (ap (λ (m : MapView). m.committed) c.replace.ensures ∙ placed.0, ap (λ (m : MapView). m.pins) c.replace.ensures ∙ placed.1)
+
+pub returns-in-Err-clause-lists : goal.returns-in-Err-clause-lists
+returns-in-Err-clause-lists g c = place_lists c.args.self.now.table.map c.place_for.new.map c.args.page c.in-Some.number c.in-Some.ensures
+
+pub returns-in-None-clause-lists : goal.returns-in-None-clause-lists
+returns-in-None-clause-lists g c =
+    let same = c.in-None.ensures.0 in
+    (ap (λ (m : MapView). m.committed) same, ap (λ (m : MapView). m.pins) same)

@@ -120,3 +120,7 @@ returns-then-pages-held-clause-fault g c =
     let more = c.if-pages-held.true in
     let follows = follows_switched t.committed c.args.used c.args.directory c.requires.alive.is_table.fit c.requires.used.0 c.requires.used.1 c.requires.directory in
     (refl, refl, refl, c.held-held.ensures, wanted, refl, more, λ latest. let room = latest_room t c.requires.alive.is_table latest next follows in absurd (omega (arith, wanted, c.held-held.ensures)))
+
+pub returns-in-Err-clause-kept : goal.returns-in-Err-clause-kept
+returns-in-Err-clause-kept g c =
+    (subst (λ (k : Committed). IsPlanned c.args.self.now.table k c.plan.new.table) c.next_committed-next.ensures c.plan.ensures).pins

@@ -145,7 +145,7 @@ returns-clause-call g c =
     let long : length c.deref_mut.result.now ≡ c.in-Ok.count = omega (arith, ap length c.deref_mut.ensures.value, c.make_room.ensures.long) in
     touch-two now new (g.V.Vault.outside c.args.vault.now) (g.V.Vault.outside c.length.new.self) (g.V.Vault.outside c.fetch_near.new.vault) _ _ _ _ (Ok c.top-top.result)
     c.in-Ok.ensures.call c.in-Ok.ensures.same c.in_default-fetch_near.ensures.call c.fetch_near.ensures.same
-    (λ e. absurd (cc)) (λ e. cc) (λ used wanted capacity e. cc)
+    (λ e. absurd (cc)) (λ e. cc) (λ used wanted capacity e. cc) (λ held wanted pages e. cc)
     (inr (omega (arith, long_enough.1, top), omega (arith, c.in-Ok.ensures.call.calls, c.in_default-fetch_near.ensures.call.calls, top, long)))
 
 pub returns-in-Err-clause-fault : goal.returns-in-Err-clause-fault

@@ -12,7 +12,7 @@ invariant-loop-rest g l =
           (l.self ++ replicate l.rest 32) (Ok tt);
       left : left_of (length l.self + l.rest) ≡ left_of (length l.initial.self + l.count);
       numbers : (vault.used_words l.vault ≡ vault.used_words l.initial.vault) × (vault.directory_at l.vault ≡ vault.directory_at l.initial.vault)
-          × (vault.most_words l.vault ≡ vault.most_words l.initial.vault);
+          × (vault.most_words l.vault ≡ vault.most_words l.initial.vault) × (vault.access l.vault ≡ vault.access l.initial.vault);
       alive : vault.alive l.vault;
     }
 

@@ -6,7 +6,7 @@ pub loop-rest-init : goal.loop-rest-init
 loop-rest-init g c = record {
   sends = sends-kept (g.V.Vault.outside c.args.vault.now) _ _ refl;
   left = refl;
-  numbers = (refl, refl, refl);
+  numbers = (refl, refl, refl, refl);
   alive = c.requires.alive;
 }
 
@@ -37,6 +37,6 @@ loop-rest-preserved g c =
           c.room.ensures.room c.loop-rest-test.true (omega (arith, split.back_len, c.room.ensures.room, c.room-in-loop-rest.ensures.room))
           (ap length c.in_default.ensures.emptied)
           ∙ now.left;
-      numbers = (next.0 ∙ now.numbers.0, next.1 ∙ now.numbers.1, next.2 ∙ now.numbers.2);
+      numbers = (next.0 ∙ now.numbers.0, next.1 ∙ now.numbers.1, next.2 ∙ now.numbers.2, next.3 ∙ now.numbers.3);
       alive = c.in_default.ensures.alive;
     }

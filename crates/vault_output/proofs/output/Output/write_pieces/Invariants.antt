@@ -11,7 +11,7 @@ invariant-loop-rest g l =
       sends : Sends {T = Unit {0}} (vault.outside l.initial.vault) (vault.outside l.vault) (l.initial.self ++ l.bytes) (l.self ++ l.rest) (Ok tt);
       left : left_of (length l.self + length l.rest) ≡ left_of (length l.initial.self + length l.bytes);
       numbers : (vault.used_words l.vault ≡ vault.used_words l.initial.vault) × (vault.directory_at l.vault ≡ vault.directory_at l.initial.vault)
-          × (vault.most_words l.vault ≡ vault.most_words l.initial.vault);
+          × (vault.most_words l.vault ≡ vault.most_words l.initial.vault) × (vault.access l.vault ≡ vault.access l.initial.vault);
       alive : vault.alive l.vault;
     }
 
