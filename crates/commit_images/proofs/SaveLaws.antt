@@ -7,13 +7,13 @@ use Rattle.swizzle.proofs.of_obj_layout.of_ps_outside.PastMoments.{past_then}
 use Rattle.swizzle.specs.obj_layout.declared.vault.VaultFault.{VaultFault}
 use Rattle.swizzle.specs.obj_layout.declared.vault.VaultFault.TheVariants.{Device, Output}
 use Rattle.swizzle.specs.obj_layout.Stored.{Space, directed}
-use Rattle.swizzle.specs.obj_layout.Storing.{unfiled, Becomes, Settles, settling}
+use Rattle.swizzle.specs.obj_layout.Storing.{unfiled, Becomes, Settles, NeverFull, NeverDamaged, settling}
 use Rattle.swizzle.specs.Heap.{Heap}
 use Rattle.swizzle.proofs.TouchLaws.{rose_more}
 use Rattle.commit_images.specs.Images.{words_of, with_images, over_images}
-use Rattle.commit_images.specs.Staging.{Stages, most_calls, Appends, Overwrites, FailsOverwrite}
+use Rattle.commit_images.specs.Staging.{Stages, most_calls, Appends, FailsAppend, Overwrites, FailsOverwrite}
 use Rattle.commit_images.specs.Saved.{saved, saving, FailsSave}
-use Rattle.commit_images.proofs.StagingLaws.{becomes-then}
+use Rattle.commit_images.proofs.StagingLaws.{stages-then, becomes-then}
 
 -- what broke off before it settled
 pub settles-broken : {T : Type 0} (a b : Outside Space) (most : ℕ) (step : Space → Space) (fault : VaultFault) → Stages a b → (fault ≡ Device → Rose a.device_faults b.device_faults) → fault ≢ Output
@@ -77,13 +77,36 @@ pub few-calls : (heap : Heap) (new changed : List ℕ) (a b c d used : ℕ) → 
     → d ≤ c + settling used → d ≤ a + saving heap new changed used
 few-calls heap new changed a b c d used l m n = omega (arith, l, m, n)
 
-pub fails-changed : (heap : Heap) (new changed : List ℕ) (a b c : Outside Space) (used now most : ℕ) (fault : VaultFault) → Stages a b → Appends heap new a b used now most → FailsOverwrite heap changed b c fault
-    → FailsSave heap new changed a c used most fault
-fails-changed heap new changed a b c used now most fault s t f = record {
+pub fails-changed : (heap : Heap) (new changed : List ℕ) (a b c : Outside Space) (used now most : ℕ) (fault : VaultFault) → Stages a b → Stages b c → Appends heap new a b used now most
+    → FailsOverwrite heap changed b c fault → FailsSave heap new changed a c used most fault
+fails-changed heap new changed a b c used now most fault s more t f = record {
   device = λ e. rose_more a.device_faults b.device_faults c.device_faults s.counts (f.device e);
   output = f.output;
   full = λ u w k e. absurd (f.room u w k e);
   damaged = λ at found bound e.
       let d = f.damaged at found bound e in
       record { one = d.one; at_is = d.at_is; tested = λ space held. d.tested (with_images heap new space) (t.becomes.told space held) };
+  whole = inl (stages-then a b c s more).images;
+}
+
+pub fails-new : (heap : Heap) (new changed : List ℕ) (a b : Outside Space) (used most : ℕ) (fault : VaultFault) → Stages a b → FailsAppend heap new a b used most fault
+    → FailsSave heap new changed a b used most fault
+fails-new heap new changed a b used most fault s f = record {
+  device = f.device;
+  output = f.output;
+  full = f.full;
+  damaged = λ at found bound e. absurd (f.sound at found bound e);
+  whole = inl s.images;
+}
+
+-- what was staged whole wasn't settled
+pub fails-settled : {T : Type 0} (heap : Heap) (new changed : List ℕ) (a b c d : Outside Space) (used now most more : ℕ) (step : Space → Space) (fault : VaultFault) → Stages a b → Stages b c
+    → Appends heap new a b used now most → Overwrites heap changed b c → Settles {T = T} c d more step (Err fault) → NeverFull {T = T} (Err fault) → NeverDamaged {T = T} (Err fault)
+    → FailsSave heap new changed a d used most fault
+fails-settled heap new changed a b c d used now most more step fault s t n o k full sound = record {
+  device = λ e. rose_more a.device_faults c.device_faults d.device_faults (stages-then a b c s t).counts (k.cause (ap Err e));
+  output = λ e. k.other (ap Err e);
+  full = λ u w m e. absurd (full u w m (ap Err e));
+  damaged = λ at found bound e. absurd (sound at found bound (ap Err e));
+  whole = inr (λ space held. o.there (with_images heap new space) (n.becomes.told space held));
 }

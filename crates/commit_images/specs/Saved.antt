@@ -1,14 +1,14 @@
 -- All that a commit stores, as one step of a space.
-use Rattle.std.specs.Prelude.{◌≡◌, ◌≢◌, ℕ, ◌+◌, List, length, Some}
-use Rattle.swizzle.specs.obj_layout.ps_outside.Outside.{Outside, Rose}
+use Rattle.std.specs.Prelude.{◌≡◌, ◌≢◌, ◌⊎◌, ℕ, ◌+◌, List, length, Some}
+use Rattle.swizzle.specs.obj_layout.ps_outside.Outside.{Outside, LeavesSame, Rose}
 use Rattle.swizzle.specs.obj_layout.declared.vault.VaultFault.{VaultFault}
 use Rattle.swizzle.specs.obj_layout.declared.vault.VaultFault.TheVariants.{Device, Output, Full, Damaged}
 use Rattle.swizzle.specs.obj_layout.Stored.{Space, damage_at, directed}
-use Rattle.swizzle.specs.obj_layout.Storing.{settling}
+use Rattle.swizzle.specs.obj_layout.Storing.{unfiled, settling}
 use Rattle.swizzle.specs.Objects.{size_of}
 use Rattle.swizzle.specs.Heap.{Heap, object_at, header_at}
 use Rattle.commit_images.specs.Images.{words_of, with_images, over_images}
-use Rattle.commit_images.specs.Staging.{most_calls, IsOneOf, IsFullAt}
+use Rattle.commit_images.specs.Staging.{most_calls, AreThere, IsOneOf, IsFullAt}
 
 -- the space with the images of new objects after its words, those of changed ones in place of theirs, and this directory
 unfoldable pub saved : Heap → List ℕ → List ℕ → ℕ → Space → Space
@@ -25,9 +25,11 @@ pub record IsDamagedBehind (heap : Heap) (new changed : List ℕ) (old : Outside
   pub tested : (space : Space) → old.contents space →
       damage_at (over_images heap one.front (with_images heap new space)).words at (Some (size_of (object_at heap one.at))) ≡ Some (record { found = found; wanted = bound })
 
--- Why not all was stored: the device failed, there was no room for a new object, or the vault has no object in the place of a changed one.
+-- Why not all was stored: the device failed, there was no room for a new object, or the vault has no object in the place of a changed one. Either nothing that a
+-- crash leaves has changed, or all images were staged, and the vault had an object in the place of each changed one.
 pub record FailsSave (heap : Heap) (new changed : List ℕ) (old now : Outside Space) (used most : ℕ) (fault : VaultFault) : Type 0 where
   pub device : fault ≡ Device → Rose old.device_faults now.device_faults
   pub output : fault ≢ Output
   pub full : (found wanted capacity : ℕ) → fault ≡ Full found wanted capacity → IsFullAt heap new used most found wanted capacity
   pub damaged : (at found bound : ℕ) → fault ≡ Damaged at found bound → IsDamagedBehind heap new changed old at found bound
+  pub whole : LeavesSame (unfiled old) (unfiled now) ⊎ ((space : Space) → old.contents space → AreThere heap changed (with_images heap new space))

@@ -1,6 +1,6 @@
 //! The images of new objects, stored behind what a vault holds.
 ghost use Rattle.std.specs.Prelude.{◌≡◌, ◌+◌, ◌≤◌, [], ◌∷◌, filter, length, true, MatchResult, OnOk};
-ghost use Rattle.swizzle.specs.obj_layout.Storing.{DeadIfErr, LacksPages};
+ghost use Rattle.swizzle.specs.obj_layout.Storing.{DeadIfErr, SameUsers, LacksPages};
 ghost use Rattle.swizzle.specs.Heap.{IsHeld};
 ghost use Rattle.commit_images.specs.Images.{is_new, new_in};
 ghost use Rattle.commit_images.specs.Staging.{Stages, AreReady, Appends, FailsAppend};
@@ -37,7 +37,7 @@ fn append_one<V: Vault>(
         (FailsAppend sw.now (filter (is_new sw.now first) (object ∷ [])) (V.outside vault.old) (V.outside vault.new) (V.used_words vault.old) (V.most_words vault.old)) }
     ensures stages { Stages (V.outside vault.old) (V.outside vault.new) }
     ensures pages { LacksPages (V.access vault.old) result }
-    ensures numbers { (V.directory_at vault.new ≡ V.directory_at vault.old) × (V.most_words vault.new ≡ V.most_words vault.old) × (V.access vault.new ≡ V.access vault.old) }
+    ensures numbers { (V.directory_at vault.new ≡ V.directory_at vault.old) × (V.most_words vault.new ≡ V.most_words vault.old) × SameUsers (V.access vault.old) (V.access vault.new) }
     ensures alive { OnOk result (V.alive vault.new) }
     ensures dead { DeadIfErr (V.alive vault.new) result }
     ensures buffer { length buffer.new ≡ length buffer.old }
@@ -70,7 +70,7 @@ pub fn append_all<V: Vault>(
         (FailsAppend sw.now (new_in sw.now first) (V.outside vault.old) (V.outside vault.new) (V.used_words vault.old) (V.most_words vault.old)) }
     ensures stages { Stages (V.outside vault.old) (V.outside vault.new) }
     ensures pages { LacksPages (V.access vault.old) result }
-    ensures numbers { (V.directory_at vault.new ≡ V.directory_at vault.old) × (V.most_words vault.new ≡ V.most_words vault.old) × (V.access vault.new ≡ V.access vault.old) }
+    ensures numbers { (V.directory_at vault.new ≡ V.directory_at vault.old) × (V.most_words vault.new ≡ V.most_words vault.old) × SameUsers (V.access vault.old) (V.access vault.new) }
     ensures alive { OnOk result (V.alive vault.new) }
     ensures dead { DeadIfErr (V.alive vault.new) result }
     ensures buffer { length buffer.new ≡ length buffer.old }

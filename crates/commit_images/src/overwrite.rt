@@ -1,6 +1,6 @@
 //! The images of changed objects, put in place of the words that a vault holds.
 ghost use Rattle.std.specs.Prelude.{◌≡◌, ◌+◌, ◌≤◌, [], ◌∷◌, filter, length, true, MatchResult, OnOk, nat_eq, ◌&&◌};
-ghost use Rattle.swizzle.specs.obj_layout.Storing.{DeadIfErr, LacksPages, SameNumbers};
+ghost use Rattle.swizzle.specs.obj_layout.Storing.{DeadIfErr, LacksPages, SameUsers};
 ghost use Rattle.swizzle.specs.obj_layout.Kind.{kind_number};
 ghost use Rattle.swizzle.specs.Heap.{IsHeld, header_at, object_at, is_reached};
 ghost use Rattle.commit_images.specs.Images.{is_changed, changed_in};
@@ -59,7 +59,8 @@ fn overwrite_one<V: Vault>(
         (FailsOverwrite sw.now (filter (is_changed sw.now first) (object ∷ [])) (V.outside vault.old) (V.outside vault.new)) }
     ensures stages { Stages (V.outside vault.old) (V.outside vault.new) }
     ensures pages { LacksPages (V.access vault.old) result }
-    ensures numbers { SameNumbers V.used_words V.directory_at V.most_words V.access vault.old vault.new }
+    ensures numbers { (V.used_words vault.new ≡ V.used_words vault.old) × (V.directory_at vault.new ≡ V.directory_at vault.old) × (V.most_words vault.new ≡ V.most_words vault.old)
+        × SameUsers (V.access vault.old) (V.access vault.new) }
     ensures alive { OnOk result (V.alive vault.new) }
     ensures dead { DeadIfErr (V.alive vault.new) result }
     ensures buffer { length buffer.new ≡ length buffer.old }
@@ -92,7 +93,8 @@ pub fn overwrite_all<V: Vault>(
         (FailsOverwrite sw.now (changed_in sw.now first) (V.outside vault.old) (V.outside vault.new)) }
     ensures stages { Stages (V.outside vault.old) (V.outside vault.new) }
     ensures pages { LacksPages (V.access vault.old) result }
-    ensures numbers { SameNumbers V.used_words V.directory_at V.most_words V.access vault.old vault.new }
+    ensures numbers { (V.used_words vault.new ≡ V.used_words vault.old) × (V.directory_at vault.new ≡ V.directory_at vault.old) × (V.most_words vault.new ≡ V.most_words vault.old)
+        × SameUsers (V.access vault.old) (V.access vault.new) }
     ensures alive { OnOk result (V.alive vault.new) }
     ensures dead { DeadIfErr (V.alive vault.new) result }
     ensures buffer { length buffer.new ≡ length buffer.old }

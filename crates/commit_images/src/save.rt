@@ -1,7 +1,7 @@
 //! All images of a commit, stored and settled.
 ghost use Rattle.std.specs.Prelude.{◌≡◌, ◌+◌, ◌<◌, ◌≤◌, ℕ, true, length, IfOk, IfErr, OnOk};
 ghost use Rattle.swizzle.specs.obj_layout.Stored.{Space};
-ghost use Rattle.swizzle.specs.obj_layout.Storing.{Becomes, Settles, DeadIfErr, LacksPages};
+ghost use Rattle.swizzle.specs.obj_layout.Storing.{Becomes, Settles, DeadIfErr, SameUsers, all_settled, LacksPages};
 ghost use Rattle.commit_images.specs.Images.{words_of, with_images, new_in, changed_in};
 ghost use Rattle.commit_images.specs.Staging.{AreReady, AreThere};
 ghost use Rattle.commit_images.specs.Saved.{saved, saving, FailsSave};
@@ -44,7 +44,8 @@ pub fn save<V: Vault>(
     ensures room { OnOk result (1 ≤ length (new_in sw.now first) → V.used_words vault.new ≤ V.most_words vault.old) }
     ensures directory { OnOk result (V.directory_at vault.new ≡ directory) }
     ensures most { V.most_words vault.new ≡ V.most_words vault.old }
-    ensures access { V.access vault.new ≡ V.access vault.old }
+    ensures users { SameUsers (V.access vault.old) (V.access vault.new) }
+    ensures unstaged { OnOk result (V.access vault.new ≡ all_settled (V.access vault.old)) }
     ensures pages { LacksPages (V.access vault.old) result }
     ensures fault { IfErr result (FailsSave sw.now (new_in sw.now first) (changed_in sw.now first) (V.outside vault.old) (V.outside vault.new) (V.used_words vault.old) (V.most_words vault.old)) }
     ensures alive { OnOk result (V.alive vault.new) }

@@ -7,7 +7,6 @@ use Rattle.reaching.specs.Reaching.{IsIn, Reached, at_start, by_step}
 use Rattle.reaching.proofs.Lists.{in-append, in-front}
 use Rattle.commit_walk.specs.Walk.{Grows, Goes, May, AreHeld, GoesFrom, AreDone, IsWalked, IsClosed, Starts, StartsAt, Finds, IsSearched}
 use Rattle.commit_walk.proofs.GrowLaws.{grows-in, grows-cases, grows-then}
-use Rattle.commit_walk.proofs.SlotLaws.{inside-held}
 use Rattle.commit_walk.proofs.SteadyLaws.{listed-held}
 
 pub index-in : (xs : List ℕ) (i : ℕ) → i < length xs → IsIn (get_or xs i 0) xs
@@ -85,7 +84,7 @@ goes_on heap old from list new next h u lt g =
       ];
       low = omega (arith, u.low);
       high = let le = grown-length list new P g in omega (arith, le, lt);
-      held = λ y l. elim (grows-cases list new P g y l) [ inl k ↦ u.held y k | inr p ↦ inside-held heap x p.0.slot y h (u.held x x_in) p.0.is ];
+      held = λ y l. elim (grows-cases list new P g y l) [ inl k ↦ u.held y k | inr p ↦ p.0.names.held ];
     }
   where
     before : (a b : ℕ) → a < b + 1 → (a < b) ⊎ (a ≡ b)

@@ -1,3 +1,4 @@
+pub mod NowhereLaws
 pub mod GrowLaws
 pub mod SteadyLaws
 pub mod SlotLaws

@@ -1,8 +1,10 @@
 -- Heaps that differ in flags, the list of the reached and homes alone.
-use Rattle.std.proofs.Common.{Bool, true, false, inl, inr, ◌⊎◌, ◌≡◌, ◌≢◌, ℕ, ◌+◌, ◌<◌, ◌≤◌, List, [], ◌∷◌, ◌++◌, length, refl, sym, ap, ◌∙◌, subst, arith, Option, Some, get_or}
+use Rattle.std.proofs.Common.{Bool, true, false, inl, inr, ◌⊎◌, ◌≡◌, ◌≢◌, ℕ, ◌+◌, ◌<◌, ◌≤◌, List, [], ◌∷◌, ◌++◌, length, refl, sym, ap, ◌∙◌, subst, arith, Option, Some, get_or, ◌==◌, if◌then◌else◌}
 use Rattle.std.specs.Prelude.{slice_index}
 use Rattle.std.proofs.lemmas.Bool.{cases_Bool, cases_eq, true≢false}
-use Rattle.swizzle.specs.obj_layout.declared.reference.Reference.TheVariants.{Nil}
+use Rattle.swizzle.specs.obj_layout.declared.reference.Reference.TheVariants.{Nil, Pid, Local}
+use Rattle.swizzle.specs.obj_layout.declared.reference.Reference.{Reference}
+use Rattle.swizzle.specs.Joint.{name_at, name_of}
 use Rattle.swizzle.specs.Objects.{Object}
 use Rattle.swizzle.specs.Heap.{Heap, IsHeap, IsHeld, IsListed, object_at, header_at, ref_at, num_at, with_object, with_reach, is_assigned, is_reached, reach_flagged, marked_in}
 use Rattle.swizzle.proofs.HeapLaws.{held-replaced, size-replaced, room-objects}
@@ -11,7 +13,7 @@ use Rattle.swizzle.proofs.JointLaws.{object-replaced, object-replaced_other, hel
 use Rattle.swizzle.proofs.NotedLaws.{bit-le}
 use Rattle.reaching.specs.Reaching.{IsIn, is_in, Reached, at_start, by_step}
 use Rattle.reaching.proofs.Lists.{then_is, else_is, is_in-in, in-is_in}
-use Rattle.commit_walk.specs.Walk.{bare, Steady, Lists, GoesBelow, Goes, May, IsAt, StartsAt, Starts, Finds, GoesFrom, IsWalked, IsClosed, Grows, and_once, is_walked, has_home}
+use Rattle.commit_walk.specs.Walk.{bare, Steady, Lists, Names, Goes, May, IsAt, StartsAt, Starts, Finds, GoesFrom, IsWalked, IsClosed, Grows, and_once, is_walked, has_home}
 use Rattle.commit_walk.proofs.GrowLaws.{grows-none, grows-one, grows-as, grows-then}
 
 pub steady-none : (heap : Heap) → Steady heap heap
@@ -29,24 +31,36 @@ steady-then a b c f g = record {
   back = λ y h. f.back y (g.back y h);
 }
 
--- Headers but for flags, and references, are the same.
+-- Objects, headers but for flags, and references are the same.
 pub record Alike (old new : Heap) : Type 0 where
   pub headers : (y : ℕ) → bare (header_at new y) ≡ bare (header_at old y)
   pub refs : (y slot : ℕ) → ref_at new y slot ≡ ref_at old y slot
+  pub held : (y : ℕ) → IsHeld old y → IsHeld new y
+  pub back : (y : ℕ) → IsHeld new y → IsHeld old y
 
 pub alike : (old new : Heap) → Steady old new → Alike old new
-alike old new o = record { headers = o.headers; refs = o.refs }
+alike old new o = record { headers = o.headers; refs = o.refs; held = o.held; back = o.back }
 
 pub alike-back : (old new : Heap) → Alike old new → Alike new old
-alike-back old new a = record { headers = λ y. sym (a.headers y); refs = λ y slot. sym (a.refs y slot) }
+alike-back old new a = record { headers = λ y. sym (a.headers y); refs = λ y slot. sym (a.refs y slot); held = a.back; back = a.held }
 
-pub below-alike : (old new : Heap) → Alike old new → (n x y : ℕ) → GoesBelow old n x y → GoesBelow new n x y
-below-alike old new a n x y g = record { slot = g.slot; below = g.below; is = a.refs x g.slot ∙ g.is }
+-- names are the same
+pub name_at-alike : (old new : Heap) → Alike old new → (y : ℕ) → name_at new y ≡ name_at old y
+name_at-alike old new a y = ap (λ p. if p == 0 then Local y else Pid p) (ap (λ h. h.pid) (a.headers y))
+
+pub name_of-alike : (old new : Heap) → Alike old new → (r : Reference) → name_of new r ≡ name_of old r
+name_of-alike old new a Nil = refl
+name_of-alike old new a (Pid pid) = refl
+name_of-alike old new a (Local y) = name_at-alike old new a y
+
+pub names-alike : (old new : Heap) → Alike old new → (x slot y : ℕ) → Names old x slot y → Names new x slot y
+names-alike old new a x slot y n =
+    record { held = a.held y n.held; is = ap (name_of new) (a.refs x slot) ∙ (name_of-alike old new a (ref_at old x slot) ∙ (n.is ∙ sym (name_at-alike old new a y))) }
 
 pub goes-alike : (old new : Heap) → Alike old new → (x y : ℕ) → Goes old x y → Goes new x y
 goes-alike old new a x y g =
     let count = ap (λ h. h.refs) (a.headers x) in
-    record { slot = g.slot; below = omega (arith, g.below, count); is = a.refs x g.slot ∙ g.is }
+    record { slot = g.slot; below = omega (arith, g.below, count); names = names-alike old new a x g.slot y g.names }
 
 pub may-alike : (old new : Heap) → Alike old new → (y : ℕ) → May old y → May new y
 unfolding is_walked

@@ -1,3 +1,4 @@
+pub mod Nowhere
 pub mod Walk
 pub mod Homes
 pub use Rattle.swizzle.specs as swizzle

@@ -2,15 +2,20 @@
 use Rattle.std.specs.Prelude.{◌≡◌, ◌⊎◌, ℕ, ◌<◌, ◌≤◌, Bool, true, ◌==◌, nat_eq, if◌then◌else◌, List, [], ◌∷◌, ◌++◌, length, get_or, Option, Some}
 use Rattle.swizzle.specs.obj_layout.Kind.{kind_number}
 use Rattle.swizzle.specs.obj_layout.declared.header.Header.{Header}
-use Rattle.swizzle.specs.obj_layout.declared.reference.Reference.TheVariants.{Local}
 use Rattle.swizzle.specs.Heap.{Heap, IsHeld, header_at, ref_at, num_at, top_of}
+use Rattle.swizzle.specs.Joint.{name_at, name_of}
 use Rattle.reaching.specs.Reaching.{IsIn, is_in, Reached}
 
--- one of its first slots refers to an object of the area
+-- The slot names this object of the area: it refers to its index, or to its PID.
+pub record Names (heap : Heap) (x slot y : ℕ) : Type 0 where
+  pub held : IsHeld heap y
+  pub is : name_of heap (ref_at heap x slot) ≡ name_at heap y
+
+-- one of its first slots names an object of the area
 pub record GoesBelow (heap : Heap) (slots x y : ℕ) : Type 0 where
   pub slot : ℕ
   pub below : slot < slots
-  pub is : ref_at heap x slot ≡ Local y
+  pub names : Names heap x slot y
 
 abbrev pub Goes : Heap → ℕ → ℕ → Type 0
 Goes heap x y = GoesBelow heap (header_at heap x).refs x y

@@ -2,6 +2,7 @@
 #![tactic(auto)]
 
 pub mod homes;
+mod nowhere;
 pub mod walk;
 
 pub use swizzle;

@@ -1,9 +1,10 @@
 //! What the walk of one database lists.
-ghost use Rattle.std.specs.Prelude.{◌≡◌, ◌<◌, ◌≤◌, ◌^◌, ℕ, get_or, length, true, Some, IfSome};
-ghost use Rattle.swizzle.specs.Heap.{IsHeld, header_at, ref_at};
-ghost use Rattle.swizzle.specs.obj_layout.declared.reference.Reference.TheVariants as reference;
-ghost use Rattle.commit_walk.specs.Walk.{Goes, May, IsAt, StartsAt, Lists, Searches, Walks, is_walked, has_home};
+ghost use Rattle.std.specs.Prelude.{◌≡◌, ◌<◌, ◌≤◌, ◌^◌, ℕ, get_or, length, true, Some, IfSome, MatchOption};
+ghost use Rattle.swizzle.specs.Fetched.{IsLocal};
+ghost use Rattle.swizzle.specs.Heap.{IsHeld, header_at};
+ghost use Rattle.commit_walk.specs.Walk.{Names, Goes, May, IsAt, StartsAt, Lists, Searches, Walks, is_walked, has_home};
 
+use crate::nowhere::Nowhere;
 use swizzle::obj_layout::kind::Kind;
 use swizzle::obj_layout::reference::Reference;
 use swizzle::swizzle::Swizzle;
@@ -30,16 +31,45 @@ fn reach_object(sw: &mut Swizzle, object: u32)
     }
 }
 
-// Notes what a slot refers to.
-fn reach_slot(sw: &mut Swizzle, object: u32, slot: u32)
+// The object of the area with this PID. Nothing is fetched.
+fn find(sw: &mut Swizzle, pid: u64) -> Option<u32>
+    requires low { 1 ≤ pid }
+    requires high { pid < 2 ^ 63 }
+    ensures found { MatchOption result ((y : ℕ) → IsLocal sw.old pid y → ⊥) (IsLocal sw.old pid) }
+    ensures same { sw.new ≡ sw.old }
+{
+    sw.sound();
+    let mut nowhere = Nowhere::new();
+    match sw.touch_pid(&mut nowhere, pid) {
+        Ok(at) => Some(at),
+        Err(_) => None,
+    }
+}
+
+// The object of the area that a slot names.
+fn named(sw: &mut Swizzle, object: u32, slot: u32) -> Option<u32>
     requires held { IsHeld sw.old object }
     requires below { slot < (header_at sw.old object).refs }
-    ensures { Lists sw.old sw.new (λ y. (ref_at sw.old object slot ≡ reference.Local y) × May sw.old y) }
+    ensures named { MatchOption result ((y : ℕ) → Names sw.old object slot y → ⊥) (Names sw.old object slot) }
+    ensures same { sw.new ≡ sw.old }
 {
     sw.sound();
     match sw.peek(object, slot) {
-        Reference::Local(to) => reach_object(sw, to),
-        _ => {}
+        Reference::Nil => None,
+        Reference::Local(to) => Some(to),
+        Reference::Pid(pid) => find(sw, pid),
+    }
+}
+
+// Notes what a slot names.
+fn reach_slot(sw: &mut Swizzle, object: u32, slot: u32)
+    requires held { IsHeld sw.old object }
+    requires below { slot < (header_at sw.old object).refs }
+    ensures { Lists sw.old sw.new (λ y. Names sw.old object slot y × May sw.old y) }
+{
+    sw.sound();
+    if let Some(to) = named(sw, object, slot) {
+        reach_object(sw, to);
     }
 }
 

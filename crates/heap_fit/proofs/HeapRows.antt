@@ -63,7 +63,7 @@ ticks_fit : IsFitBody (whole kept_names ∷ []) ticks
 unfolding row
 ticks_fit = of_params unscoped fit.no_more
     (fit.block unscoped (a_clause (set_name b_there (by_rule typed.arith tt (fit.one_more (name b_there) (fit.one_more (by_rule typed.int refl fit.no_more) fit.no_more)))) (a_clause (name b_there) at_end)))
-    (record { nums_apart = tt; nums_in = tt; refs_apart = tt; refs_in = tt; few = omega arith })
+    (tt, tt) (record { nums_apart = tt; nums_in = tt; refs_apart = tt; refs_in = tt; few = omega arith })
 
 -- What is reached, and that no procedure mentions `a`.
 three : (id : ℕ) → IsInHeap stored id → (id ≡ 0) ⊎ ((id ≡ 1) ⊎ (id ≡ 2))

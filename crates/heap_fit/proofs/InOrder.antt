@@ -59,10 +59,10 @@ run_in last xs h = subst (λ n. AllByRecursion (λ x. x < n) xs) (omega (arith, 
 
 -- The slots of clauses, on both stacks.
 
-abbrev slots : Bool → Node → List ℕ
+abbrev pub slots : Bool → Node → List ℕ
 slots numbers = fold (λ clause parts. own_slots numbers clause ++ joined parts)
 
-abbrev all_slots : Bool → List Node → List ℕ
+abbrev pub all_slots : Bool → List Node → List ℕ
 all_slots numbers [] = []
 all_slots numbers (clause ∷ clauses) = slots numbers clause ++ all_slots numbers clauses
 
@@ -87,27 +87,32 @@ takes_as free free' taken other same h = record {
   refs = subst (λ xs. Run free.refs xs free'.refs) (sym (same false)) h.refs;
 }
 
-joined_are : (numbers : Bool) (parts : List (Part Node)) → joined (map (part_as (slots numbers)) parts) ≡ all_slots numbers (evaluated parts)
+pub joined_are : (numbers : Bool) (parts : List (Part Node)) → joined (map (part_as (slots numbers)) parts) ≡ all_slots numbers (evaluated parts)
 joined_are numbers [] = refl
 joined_are numbers (operand c ∷ rest) = ap (λ xs. slots numbers c ++ xs) (joined_are numbers rest)
 joined_are numbers (label c ∷ rest) = ap (λ xs. slots numbers c ++ xs) (joined_are numbers rest)
 joined_are numbers (branch c ∷ rest) = ap (λ xs. slots numbers c ++ xs) (joined_are numbers rest)
 joined_are numbers (literal c ∷ rest) = joined_are numbers rest
 
--- a clause takes its own slots, and then its parts take theirs
+-- a clause takes its own slots, and its parts take theirs
+pub slots_are : (numbers : Bool) (tree : Node) (clauses : List Node) → evaluated (parts_of tree) ≡ clauses →
+    slots numbers tree ≡ own_slots numbers tree ++ all_slots numbers clauses
+slots_are numbers tree clauses are =
+    fold_parts (λ clause parts. own_slots numbers clause ++ joined parts) tree
+    ∙ ap (λ xs. own_slots numbers tree ++ xs) (joined_are numbers (parts_of tree) ∙ ap (all_slots numbers) are)
+
 whole : (free between free' : Free) (tree : Node) (clauses : List Node) → evaluated (parts_of tree) ≡ clauses → TakesSlots free (λ numbers. own_slots numbers tree) between →
     TakesSlots between (λ numbers. all_slots numbers clauses) free' → TakesSlots free (λ numbers. slots numbers tree) free'
 whole free between free' tree clauses are own h =
     takes_as free free' (λ numbers. own_slots numbers tree ++ all_slots numbers clauses) (λ numbers. slots numbers tree)
-    (λ numbers. fold_parts (λ clause parts. own_slots numbers clause ++ joined parts) tree
-    ∙ ap (λ xs. own_slots numbers tree ++ xs) (joined_are numbers (parts_of tree) ∙ ap (all_slots numbers) are))
+    (λ numbers. slots_are numbers tree clauses are)
     (takes_then free between free' (λ numbers. own_slots numbers tree) (λ numbers. all_slots numbers clauses) own h)
 
 then_all : (free between free' : Free) (tree : Node) (clauses : List Node) → TakesSlots free (λ numbers. slots numbers tree) between →
     TakesSlots between (λ numbers. all_slots numbers clauses) free' → TakesSlots free (λ numbers. all_slots numbers (tree ∷ clauses)) free'
 then_all free between free' tree clauses h k = takes_then free between free' (λ numbers. slots numbers tree) (λ numbers. all_slots numbers clauses) h k
 
-append_slots : (numbers : Bool) (xs ys : List Node) → all_slots numbers (xs ++ ys) ≡ all_slots numbers xs ++ all_slots numbers ys
+pub append_slots : (numbers : Bool) (xs ys : List Node) → all_slots numbers (xs ++ ys) ≡ all_slots numbers xs ++ all_slots numbers ys
 append_slots numbers [] ys = refl
 append_slots numbers (x ∷ xs) ys = ap (λ zs. slots numbers x ++ zs) (append_slots numbers xs ys) ∙ sym (append_assoc (slots numbers x) (all_slots numbers xs) (all_slots numbers ys))
 
@@ -118,7 +123,7 @@ all_then free between free' clauses rest h k =
     (takes_then free between free' (λ numbers. all_slots numbers clauses) (λ numbers. all_slots numbers rest) h k)
 
 -- no clause with a rule takes a slot by itself
-none_own : {tree : Node} {claims : List Claim} {t : TyView} → Rule tree claims t → (numbers : Bool) → own_slots numbers tree ≡ []
+pub none_own : {tree : Node} {claims : List Claim} {t : TyView} → Rule tree claims t → (numbers : Bool) → own_slots numbers tree ≡ []
 none_own typed.int numbers = refl
 none_own other numbers = refl
 
@@ -138,7 +143,7 @@ declares_one : {env own : Env} {free behind : Free} {place : Place} {ty : TyView
 declares_one (typed.as_local {free = free} {slot = slot} {ty = ty} e) = takes_one ty free slot e
 declares_one (typed.as_kept {free = free} name scopes is) = takes_none free
 
-items_are : (items : Nodes) → evaluated (parts_all branch items) ≡ item_nodes items
+pub items_are : (items : Nodes) → evaluated (parts_all branch items) ≡ item_nodes items
 items_are none = refl
 items_are (more first rest) = ap (λ l. first ∷ l) (items_are rest)
 

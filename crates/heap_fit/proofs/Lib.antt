@@ -1,5 +1,6 @@
 pub mod RoundLaws
 pub mod Rows
+mod RefusedRows
 mod HeapRows
 pub mod InOrder
 pub mod TypedFits

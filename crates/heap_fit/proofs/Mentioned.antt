@@ -22,7 +22,7 @@ part-ids does scope [] x h l = absurd h
 part-ids does scope (v ∷ vs) x (inl e) l = in-front x (value_ids v) (values_ids vs) (subst (λ w. IsIn x (value_ids w)) e l)
 part-ids does scope (v ∷ vs) x (inr h) l = in-behind x (value_ids v) (values_ids vs) (part-ids does scope vs x h l)
 
-referred : (stored : StoredHeap) (id : ℕ) (o : Object) → IsInHeap stored id → object_at stored.objects id ≡ Some o → (x : ℕ) → IsIn x (object_ids (Some o)) → IsInHeap stored x
+pub referred : (stored : StoredHeap) (id : ℕ) (o : Object) → IsInHeap stored id → object_at stored.objects id ≡ Some o → (x : ℕ) → IsIn x (object_ids (Some o)) → IsInHeap stored x
 unfolding next_in
 referred stored id o there is x l = by_step id x there (subst (λ k. IsIn x (object_ids k)) (sym is) l) tt
 

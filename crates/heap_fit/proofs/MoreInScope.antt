@@ -1,5 +1,5 @@
 -- A body that is fit stays fit where more is in scope, and a literal makes a fit procedure.
-use Rattle.std.proofs.Common.{inl, inr, ◌≡◌, ℕ, List, [], ◌∷◌, ◌++◌, map, length, refl, sym, ap, subst, arith, Option}
+use Rattle.std.proofs.Common.{inl, inr, ◌≡◌, ℕ, List, [], ◌∷◌, map, length, refl, sym, ap, subst, arith, Option, Some}
 use Rattle.ps_heap.specs.ps_base.TyView.{TyView}
 use Rattle.ps_soundness.specs.ps_program.declared.place.Place.{Place}
 use Rattle.ps_soundness.specs.ps_program.declared.place.Place.TheVariants.{Plain, Kept}
@@ -30,59 +30,32 @@ name-more : (env other : InScope) (place : Place) (ty : TyView) → Wider env ot
 name-more env other (Plain slot) ty w at = subst (λ locals. fit.IsNameAt (record { locals = locals; levels = other.levels }) (Plain slot) ty) (sym w.0) at
 name-more env other (Kept up position) ty w at = at-more env.levels other.levels position ty up w.1 at
 
--- the same level of the wider scopes
-record Split (before : List Level) (level : Level) (after others : List Level) : Type 0 where
-  front : List Level
-  same : Level
-  back : List Level
-  is : others ≡ front ++ same ∷ back
-  long : length front ≡ length before
-  has : HasMore level same
-  own : (position : ℕ) → HaveMore (before ++ record level { declared = position ∷ level.declared } ∷ after) (front ++ record same { declared = position ∷ same.declared } ∷ back)
-
 declared-more : (level other : Level) (position : ℕ) → HasMore level other → HasMore (record level { declared = position ∷ level.declared }) (record other { declared = position ∷ other.declared })
 declared-more level other position h = record { names = h.names; declared = λ p below l. elim l [ inl e ↦ inl e | inr m ↦ inr (h.declared p below m) ] }
 
-split : (before : List Level) (level : Level) (after others : List Level) → HaveMore (before ++ level ∷ after) others → Split before level after others
-split [] level after [] more = absurd more
-split [] level after (other ∷ others) more = record {
-  front = [];
-  same = other;
-  back = others;
-  is = refl;
-  long = refl;
-  has = more.0;
-  own = λ position. (declared-more level other position more.0, more.1);
-}
-split (first ∷ before) level after [] more = absurd more
-split (first ∷ before) level after (other ∷ others) more =
-    let s = split before level after others more.1 in
-    record {
-      front = other ∷ s.front;
-      same = s.same;
-      back = s.back;
-      is = ap (λ ls. other ∷ ls) s.is;
-      long = omega (arith, s.long);
-      has = s.has;
-      own = λ position. (more.0, s.own position);
-    }
-
-record Widened (other : InScope) (place : Place) (ty : TyView) (own : InScope) : Type 0 where
+record Widened (scope : Option (List ℕ)) (other : InScope) (place : Place) (ty : TyView) (own : InScope) : Type 0 where
   after : InScope
-  declares : Declares other place ty after
+  declares : Declares scope other place ty after
   wider : Wider own after
 
-declares-more : {env own : InScope} {place : Place} {ty : TyView} (other : InScope) → Wider env other → Declares env place ty own → Widened other place ty own
+kept-more : (text : List ℕ) (locals : _) (level : Level) (around others : List Level) (position : ℕ) (ty : TyView) → HaveMore (level ∷ around) others → At (IsOfType ty) level.names position
+    → Widened (Some text) (record { locals = locals; levels = others }) (Kept 0 position) ty
+    (record { locals = locals; levels = record level { declared = position ∷ level.declared } ∷ around })
+kept-more text locals level around [] position ty more at = absurd more
+kept-more text locals level around (other ∷ others) position ty more at = record {
+  after = record { locals = locals; levels = record other { declared = position ∷ other.declared } ∷ others };
+  declares = fit.as_kept other others refl (subst (λ names. At (IsOfType ty) names position) (sym more.0.names) at);
+  wider = (refl, (declared-more level other position more.0, more.1));
+}
+
+declares-more : {scope : Option (List ℕ)} {env own : InScope} {place : Place} {ty : TyView} (other : InScope) → Wider env other → Declares scope env place ty own
+    → Widened scope other place ty own
 declares-more other w (fit.as_local {slot = slot} {ty = ty}) =
     record { after = with_local slot ty other; declares = fit.as_local; wider = (ap (λ ls. record { slot = slot; ty = ty } ∷ ls) w.0, w.1) }
-declares-more other w (fit.as_kept {env = env} {position = position} {ty = ty} before level after is at) =
-    let s = split before level after other.levels (subst (λ ls. HaveMore ls other.levels) is w.1) in
-    record {
-      after = with_levels (s.front ++ record s.same { declared = position ∷ s.same.declared } ∷ s.back) other;
-      declares = subst (λ n. Declares other (Kept n position) ty (with_levels (s.front ++ record s.same { declared = position ∷ s.same.declared } ∷ s.back) other)) s.long
-          (fit.as_kept s.front s.same s.back s.is (subst (λ names. At (IsOfType ty) names position) (sym s.has.names) at));
-      wider = (w.0, s.own position);
-    }
+declares-more other w (fit.as_kept {text = text} {env = env} {position = position} {ty = ty} level around is at) =
+    subst (λ locals. Widened (Some text) (record { locals = locals; levels = other.levels }) (Kept 0 position) ty
+    (record { locals = env.locals; levels = record level { declared = position ∷ level.declared } ∷ around })) (sym w.0)
+    (kept-more text env.locals level around other.levels position ty (subst (λ ls. HaveMore ls other.levels) is w.1) at)
 
 record Opened (scope : Option (List ℕ)) (around inside : List Level) : Type 0 where
   after : List Level
@@ -97,12 +70,13 @@ opens-more others more (fit.scoped {first = first} {rest = rest} named) = record
   more = (record { names = refl; declared = λ position below l. l }, more);
 }
 
-record Given (other : InScope) (nums refs : ℕ) (params : List Param) (last : InScope) : Type 0 where
+record Given (scope : Option (List ℕ)) (other : InScope) (nums refs : ℕ) (params : List Param) (last : InScope) : Type 0 where
   after : InScope
-  takes : Takes other nums refs params after
+  takes : Takes scope other nums refs params after
   wider : Wider last after
 
-takes-more : {env last : InScope} {nums refs : ℕ} {params : List Param} (other : InScope) → Wider env other → Takes env nums refs params last → Given other nums refs params last
+takes-more : {scope : Option (List ℕ)} {env last : InScope} {nums refs : ℕ} {params : List Param} (other : InScope) → Wider env other → Takes scope env nums refs params last
+    → Given scope other nums refs params last
 takes-more other w fit.no_more = record { after = other; takes = fit.no_more; wider = w }
 takes-more other w (fit.as_local {slot = slot} {ty = ty} e rest) =
     let r = takes-more (with_local slot ty other) (ap (λ ls. record { slot = slot; ty = ty } ∷ ls) w.0, w.1) rest in
@@ -112,9 +86,9 @@ takes-more other w (fit.as_kept declares rest) =
     let r = takes-more d.after d.wider rest in
     record { after = r.after; takes = fit.as_kept d.declares r.takes; wider = r.wider }
 
-record ItemsMore (other : InScope) (before : TyView) (items : Nodes) (ty : TyView) : Type 0 where
+record ItemsMore (scope : Option (List ℕ)) (other : InScope) (before : TyView) (items : Nodes) (ty : TyView) : Type 0 where
   last : InScope
-  are : AreItems other before items ty last
+  are : AreItems scope other before items ty last
 
 mutual
   fits-more : {env : InScope} {clause : Node} {ty : TyView} (other : InScope) → Wider env other → IsFit env clause ty → IsFit other clause ty
@@ -136,7 +110,8 @@ mutual
   parts-more other w fit.AreFit.no_more = fit.AreFit.no_more
   parts-more other w (fit.one_more first rest) = fit.one_more (fits-more other w first) (parts-more other w rest)
 
-  items-more : {env last : InScope} {before ty : TyView} {items : Nodes} (other : InScope) → Wider env other → AreItems env before items ty last → ItemsMore other before items ty
+  items-more : {scope : Option (List ℕ)} {env last : InScope} {before ty : TyView} {items : Nodes} (other : InScope) → Wider env other → AreItems scope env before items ty last
+      → ItemsMore scope other before items ty
   items-more other w fit.at_end = record { last = other; are = fit.at_end }
   items-more other w (fit.a_clause first rest) =
       let r = items-more other w rest in record { last = r.last; are = fit.a_clause (fits-more other w first) r.are }
@@ -150,10 +125,10 @@ mutual
       record { last = r.last; are = fit.a_literal d.declares (fits-more d.after d.wider e) r.are }
 
   pub body-more : {levels : List Level} {of : BodyNode} (others : List Level) → HaveMore levels others → IsFitBody levels of → IsFitBody others of
-  body-more others more (fit.of_params opens takes tree slots) =
+  body-more others more (fit.of_params opens takes tree valued slots) =
       let o = opens-more others more opens in
       let t = takes-more (record { locals = []; levels = o.after }) (refl, o.more) takes in
-      fit.of_params o.opens t.takes (fits-more t.after t.wider tree) slots
+      fit.of_params o.opens t.takes (fits-more t.after t.wider tree) valued slots
 
 -- A literal.
 

@@ -101,7 +101,7 @@ counter_fits : IsFitBody around counter
 unfolding row
 counter_fits = of_params unscoped fit.no_more
     (fit.block unscoped (a_clause (set_name n_there one_more) (a_clause (name n_there) at_end)))
-    (record { nums_apart = tt; nums_in = tt; refs_apart = tt; refs_in = tt; few = omega arith })
+    (tt, tt) (record { nums_apart = tt; nums_in = tt; refs_apart = tt; refs_in = tt; few = omega arith })
 
 -- { let a = 1; let b = 2; a }, in slots that aren't those of their order
 abbrev turned : BodyNode
@@ -115,7 +115,7 @@ unfolding row
 turned_fits = of_params unscoped fit.no_more
     (fit.block unscoped (a_value refl fit.as_local (literal_int (record { locals = []; levels = [] }))
     (a_value refl fit.as_local (by_rule typed.int refl fit.no_more) (a_clause (name (inr (inl (refl, refl)))) at_end))))
-    (record { nums_apart = ((λ e. absurd (omega (arith, e)), tt), (tt, tt)); nums_in = (omega arith, (omega arith, tt)); refs_apart = tt; refs_in = tt; few = omega arith })
+    (tt, tt) (record { nums_apart = ((λ e. absurd (omega (arith, e)), tt), (tt, tt)); nums_in = (omega arith, (omega arith, tt)); refs_apart = tt; refs_in = tt; few = omega arith })
 
 -- It has no types by the rules, which give the first name the first slot: so what is proved of evaluating typed bodies doesn't reach it.
 turned_has_no_types : (scopes : List (List Field)) → IsBody scopes turned → ⊥

@@ -1,10 +1,10 @@
 -- A body with types that runs is fit for the scopes round it.
-use Rattle.std.proofs.Common.{inl, inr, ◌≡◌, ℕ, ◌+◌, ◌<◌, Bool, true, false, List, [], ◌∷◌, ◌++◌, map, length, refl, sym, ap, ◌∙◌, subst, arith, Option, Some, None, if◌then◌else◌}
+use Rattle.std.proofs.Common.{inl, inr, ◌≡◌, ℕ, ◌+◌, ◌<◌, ◌≤◌, Bool, true, false, List, [], ◌∷◌, ◌++◌, map, length, refl, sym, ap, ◌∙◌, subst, arith, Option, Some, None, if◌then◌else◌}
 use Rattle.std.specs.Prelude.{codes}
 use Rattle.std.specs.List.{AllByRecursion}
-use Rattle.std.proofs.lemmas.List.{length-append, append_assoc}
+use Rattle.std.proofs.lemmas.List.{length-append}
 use Rattle.std.proofs.lemmas.Bool.{cases_eq}
-use Rattle.ps_heap.specs.ps_base.TyView.{TyView, TyViews}
+use Rattle.ps_heap.specs.ps_base.TyView.{TyView}
 use Rattle.ps_heap.specs.ps_base.declared.line.Line.{Line}
 use Rattle.ps_soundness.specs.ps_program.declared.place.Place.{Place}
 use Rattle.ps_soundness.specs.ps_program.declared.place.Place.TheVariants.{Plain, Kept}
@@ -22,8 +22,9 @@ use Rattle.ps_soundness.specs.ps_typing.WellTyped.{At, Some_is, Env, Free, IsAt,
 use Rattle.ps_soundness.specs.ps_typing.WellTyped as typed
 use Rattle.ps_heap.specs.Library.{LibraryProcedure, OnHeap, CreateDatabase}
 use Rattle.ps_soundness.specs.Valued.{IsValued, IsGiven, AllValued}
-use Rattle.ps_soundness.specs.Running.{IsPlace, RunsIn, AllRunIn, ArmsRunIn, ArePlaces, BodyRuns}
+use Rattle.ps_soundness.specs.Running.{IsPlace, RunsIn, AllRunIn, ArePlaces, BodyRuns}
 use Rattle.ps_soundness.proofs.Valued.{given_by, valued_by, field_valued, AreValued}
+use Rattle.ps_soundness.proofs.Running.{AllRunClaims, parts_run}
 use Rattle.ps_soundness.proofs.Library.{type_given, library_says}
 use Rattle.ps_soundness.proofs.Scopes.{front_at, front_more}
 use Rattle.heap_fit.specs.Bodies.{Level, InScope, HasDeclared, IsNameAt, with_local, with_levels, NamesWell, IsFit, AreFit, IsFitBody}
@@ -55,65 +56,11 @@ small_items : (items : Nodes) → Each Small (evaluated (parts_all branch items)
 small_items none h = tt
 small_items (more first rest) h = (h.0, small_items rest h.1)
 
--- The parts of a clause with a rule run, what it gives has values, and it names well.
+-- What a clause with a rule gives has values, and it names well.
 
 module _ (wholes : List (List Field)) where
   abbrev RunHere : Node → Type 0
   RunHere = RunsIn (Some wholes)
-
-  args_run : {args : Nodes} {tys : TyViews} {claims : List Claim} → Arguments args tys claims → AllRunIn (Some wholes) args → Each RunHere (clauses_of claims)
-  args_run typed.Arguments.no_more r = tt
-  args_run (typed.Arguments.one_more rest) r = (r.0, args_run rest r.1)
-
-  all_run : (ty : TyView) (items : Nodes) (claims : List Claim) → AllRunIn (Some wholes) items → Each RunHere (clauses_of claims) → Each RunHere (clauses_of (all_have ty items ++ claims))
-  all_run ty none claims r h = h
-  all_run ty (more first rest) claims r h = (r.0, all_run ty rest claims r.1 h)
-
-  items_run : (ty : TyView) (items : Nodes) → AllRunIn (Some wholes) items → Each RunHere (clauses_of (all_have ty items))
-  items_run ty none r = tt
-  items_run ty (more first rest) r = (r.0, items_run ty rest r.1)
-
-  arms_run : (value ty : TyView) (arms : Arms) (d : Node) → ArmsRunIn (Some wholes) arms → RunHere d → Each RunHere (clauses_of (arms_have value ty arms ++ d has ty ∷ []))
-  arms_run value ty no_arms d r e = (e, tt)
-  arms_run value ty (more_arms (arm labels a) rest) d r e =
-      subst (λ cs. Each RunHere (clauses_of cs)) (sym (append_assoc (all_have value labels) (a has ty ∷ arms_have value ty rest) (d has ty ∷ [])))
-      (all_run value labels (a has ty ∷ (arms_have value ty rest ++ d has ty ∷ [])) r.0 (r.1, arms_run value ty rest d r.2 e))
-
-  rule_runs : {t : Node} {claims : List Claim} {ty : TyView} → Rule t claims ty → RunHere t → Each RunHere (clauses_of claims)
-  rule_runs typed.int r = tt
-  rule_runs typed.flag r = tt
-  rule_runs typed.text r = tt
-  rule_runs typed.nil r = tt
-  rule_runs typed.class r = tt
-  rule_runs typed.empty r = tt
-  rule_runs typed.abort r = tt
-  rule_runs typed.if_do r = (r.0, (r.1, tt))
-  rule_runs typed.if_else r = (r.0, (r.1, (r.2, tt)))
-  rule_runs typed.while r = (r.0, (r.1, tt))
-  rule_runs typed.repeat r = (r.0, (r.1, (r.2, tt)))
-  rule_runs (typed.case {d = d} {arms = arms} {value = value} {t = t} equated) r = (r.0, arms_run value t arms d r.1 r.2)
-  rule_runs typed.and r = (r.0, (r.1, tt))
-  rule_runs typed.or r = (r.0, (r.1, tt))
-  rule_runs typed.not r = (r, tt)
-  rule_runs typed.neg r = (r, tt)
-  rule_runs typed.plus r = (r, tt)
-  rule_runs typed.arith r = (r.0, (r.1, tt))
-  rule_runs (typed.compare comparable) r = (r.0, (r.1, tt))
-  rule_runs (typed.is of_class) r = (r.1, tt)
-  rule_runs typed.join r = (r.0, (r.1, tt))
-  rule_runs typed.part r = (r.0, (r.1, (r.2, tt)))
-  rule_runs (typed.make of_class are) r = args_run are r.1
-  rule_runs (typed.field is_field) r = (r.1, tt)
-  rule_runs (typed.set_field is_field) r = (r.1, (r.2, tt))
-  rule_runs (typed.fill isnt) r = (r.0, (r.1, (r.2, tt)))
-  rule_runs (typed.elems {items = items} {t = t}) r = (r.1, items_run t items r.2)
-  rule_runs typed.element r = (r.0, (r.1, tt))
-  rule_runs typed.set_element r = (r.0, (r.1, (r.2, tt)))
-  rule_runs typed.bound r = (r, tt)
-  rule_runs (typed.call are) r = (r.0, args_run are r.1)
-  rule_runs (typed.lib of_library are) r = args_run are r
-  rule_runs (typed.write writable) r = (r.0, (r.1, tt))
-  rule_runs (typed.write_wide writable) r = (r.0, (r.1, tt))
 
   procedure_given : (of : LibraryProcedure) → IsGiven (type_given of)
   procedure_given (OnHeap CreateDatabase) = tt
@@ -142,9 +89,9 @@ module _ (wholes : List (List Field)) where
   rule_names typed.int r given = r
   rule_names typed.text r given = r
   rule_names (typed.is of_class) r given = r.0
-  rule_names (typed.make of_class are) r given = r.0.class
-  rule_names (typed.field is_field) r given = r.0.class
-  rule_names (typed.set_field is_field) r given = r.0.class
+  rule_names (typed.make of_class are) r given = r.0
+  rule_names (typed.field is_field) r given = r.0
+  rule_names (typed.set_field is_field) r given = r.0
   rule_names (typed.fill isnt) r given = given
   rule_names typed.elems r given = r.0
   rule_names other r given = tt
@@ -185,9 +132,40 @@ name_at {env = env} {wholes = wholes} {to = to} (Kept up position) ty s at = let
 
 -- A name that is declared.
 
-record Declared (to : InScope) (place : Place) (ty : TyView) (own : Env) (wholes : List (List Field)) : Type 0 where
+-- How many names the innermost scope keeps: it only grows, and is as before where nothing is kept.
+abbrev width : List (List Field) → ℕ
+width [] = 0
+width (fields ∷ scopes) = length fields
+
+abbrev KeepsNone : Option (List ℕ) → (first last : List (List Field)) → Type 0
+KeepsNone scope first last = scope ≡ None → width last ≤ width first
+
+keeps_same : {scope : Option (List ℕ)} {first last : List (List Field)} → last ≡ first → KeepsNone scope first last
+keeps_same {last = last} same e = subst (λ ss. width last ≤ width ss) same (omega arith)
+
+kept_width : (fields : List Field) (name : List ℕ) (ty : TyView) → length (typed.and_kept fields name ty) ≡ length fields + 1
+kept_width fields name ty = length-append fields (record { ty = ty; name = name } ∷ [])
+
+declares_width : {env own : Env} {free behind : Free} {place : Place} {ty : TyView} → typed.Declares env free place ty own behind → width env.scopes ≤ width own.scopes
+declares_width (typed.as_local e) = omega arith
+declares_width (typed.as_kept {ty = ty} {scope = fields} {around = around} name scopes is) =
+    subst (λ ss. width ss ≤ length (typed.and_kept fields name ty)) (sym scopes) (omega (arith, kept_width fields name ty))
+
+items_width : {env last : Env} {free free' : Free} {before ty : TyView} {items : Nodes} → AreItems env free before items ty last free' → width env.scopes ≤ width last.scopes
+items_width typed.at_end = omega arith
+items_width (typed.a_clause first others) = items_width others
+items_width (typed.a_value isnt declares t others) = omega (arith, declares_width declares, items_width others)
+items_width (typed.a_literal declares t others) = omega (arith, declares_width declares, items_width others)
+
+takes_width : {env last : Env} {free free' : Free} {params : List Param} → typed.Takes env free params last free' → width env.scopes ≤ width last.scopes
+takes_width typed.no_more = omega arith
+takes_width (typed.as_local e rest) = takes_width rest
+takes_width (typed.as_kept {last = last} {ty = ty} {scope = fields} {around = around} name scopes is rest) =
+    subst (λ ss. width ss ≤ width last.scopes) (sym scopes) (omega (arith, kept_width fields name ty, takes_width rest))
+
+record Declared (scope : Option (List ℕ)) (to : InScope) (place : Place) (ty : TyView) (own : Env) (wholes : List (List Field)) : Type 0 where
   after : InScope
-  declares : fit.Declares to place ty after
+  declares : fit.Declares scope to place ty after
   stands : Stands own wholes after
 
 local_more : {env : Env} {wholes : List (List Field)} {to : InScope} (slot : ℕ) (ty : TyView) → Stands env wholes to → IsValued ty → Stands (typed.with_local slot ty env) wholes (with_local slot ty to)
@@ -218,35 +196,37 @@ level_more fields whole level name ty l at valued = record {
   valued = valued_more fields (record { ty = ty; name = name }) l.valued valued;
 }
 
-kept_more : {wholes : List (List Field)} (locals : List Local) (levels : List Level) (fields : List Field) (around : List (List Field)) (name : List ℕ) (ty : TyView)
+kept_more : {wholes : List (List Field)} (text : List ℕ) (locals : List Local) (levels : List Level) (fields : List Field) (around : List (List Field)) (name : List ℕ) (ty : TyView)
     → Stands (record { locals = locals; scopes = fields ∷ around }) wholes (record { locals = locals; levels = levels }) → IsPlace (Some wholes) (Kept 0 (length fields)) ty → IsValued ty
-    → Declared (record { locals = locals; levels = levels }) (Kept 0 (length fields)) ty (record { locals = locals; scopes = typed.and_kept fields name ty ∷ around }) wholes
-kept_more {wholes = []} locals levels fields around name ty s at valued = absurd at
-kept_more {wholes = whole ∷ wholes} locals [] fields around name ty s at valued = absurd s.levels
-kept_more {wholes = whole ∷ wholes} locals (level ∷ levels) fields around name ty s at valued =
+    → Declared (Some text) (record { locals = locals; levels = levels }) (Kept 0 (length fields)) ty (record { locals = locals; scopes = typed.and_kept fields name ty ∷ around }) wholes
+kept_more {wholes = []} text locals levels fields around name ty s at valued = absurd at
+kept_more {wholes = whole ∷ wholes} text locals [] fields around name ty s at valued = absurd s.levels
+kept_more {wholes = whole ∷ wholes} text locals (level ∷ levels) fields around name ty s at valued =
     let here : At (IsOfType ty) whole (length fields) = innermost (λ w. At (IsOfType ty) w (length fields)) whole wholes at in
     record {
       after = record { locals = locals; levels = record level { declared = length fields ∷ level.declared } ∷ levels };
-      declares = fit.as_kept [] level levels refl (subst (λ names. At (IsOfType ty) names (length fields)) (sym s.levels.0.names) here);
+      declares = fit.as_kept level levels refl (subst (λ names. At (IsOfType ty) names (length fields)) (sym s.levels.0.names) here);
       stands = record { locals = refl; levels = (level_more fields whole level name ty s.levels.0 here valued, s.levels.1); valued = s.valued };
     }
 
-declared : {env own : Env} {free behind : Free} {place : Place} {ty : TyView} {wholes : List (List Field)} {to : InScope} → typed.Declares env free place ty own behind
-    → Stands env wholes to → IsPlace (Some wholes) place ty → IsValued ty → Declared to place ty own wholes
-declared (typed.as_local {slot = slot} {ty = ty} e) s at valued = record { after = _; declares = fit.as_local; stands = local_more slot ty s valued }
-declared {wholes = wholes} {to = to} (typed.as_kept {env = env} {position = position} {ty = ty} {scope = fields} {around = around} name scopes is) s at valued =
+declared : (scope : Option (List ℕ)) {env own : Env} {free behind : Free} {place : Place} {ty : TyView} {wholes : List (List Field)} {to : InScope}
+    → typed.Declares env free place ty own behind → KeepsNone scope env.scopes own.scopes → Stands env wholes to → IsPlace (Some wholes) place ty → IsValued ty → Declared scope to place ty own wholes
+declared scope (typed.as_local {slot = slot} {ty = ty} e) keeps s at valued = record { after = _; declares = fit.as_local; stands = local_more slot ty s valued }
+declared None (typed.as_kept {env = env} {ty = ty} {scope = fields} {around = around} name scopes is) keeps s at valued =
+    absurd (omega (arith, kept_width fields name ty, subst (λ ss. length (typed.and_kept fields name ty) ≤ width ss) scopes (keeps refl)))
+declared (Some text) {wholes = wholes} {to = to} (typed.as_kept {env = env} {position = position} {ty = ty} {scope = fields} {around = around} name scopes is) keeps s at valued =
     let own : List (List Field) → Env = λ scopes. record { locals = env.locals; scopes = scopes } in
-    subst (λ ls. Declared (record { locals = ls; levels = to.levels }) (Kept 0 position) ty (own (typed.and_kept fields name ty ∷ around)) wholes) (sym s.locals)
-    (subst (λ n. Declared (record { locals = env.locals; levels = to.levels }) (Kept 0 n) ty (own (typed.and_kept fields name ty ∷ around)) wholes) (sym is)
-    (kept_more env.locals to.levels fields around name ty
+    subst (λ ls. Declared (Some text) (record { locals = ls; levels = to.levels }) (Kept 0 position) ty (own (typed.and_kept fields name ty ∷ around)) wholes) (sym s.locals)
+    (subst (λ n. Declared (Some text) (record { locals = env.locals; levels = to.levels }) (Kept 0 n) ty (own (typed.and_kept fields name ty ∷ around)) wholes) (sym is)
+    (kept_more text env.locals to.levels fields around name ty
     (record { locals = refl; levels = subst (λ ss. AreLevels ss wholes to.levels) scopes s.levels; valued = s.valued })
     (subst (λ n. IsPlace (Some wholes) (Kept 0 n) ty) is at) valued))
 
 -- Parameters.
 
-record Taken (to : InScope) (free : Free) (params : List Param) (last : Env) (wholes : List (List Field)) : Type 0 where
+record Taken (scope : Option (List ℕ)) (to : InScope) (free : Free) (params : List Param) (last : Env) (wholes : List (List Field)) : Type 0 where
   after : InScope
-  takes : fit.Takes to free.nums free.refs params after
+  takes : fit.Takes scope to free.nums free.refs params after
   stands : Stands last wholes after
 
 next_nums : (b : Bool) (free : Free) → (if b then record free { nums = free.nums + 1 } else record free { refs = free.refs + 1 }).nums ≡ (if b then free.nums + 1 else free.nums)
@@ -258,22 +238,23 @@ next_refs true free = refl
 next_refs false free = refl
 
 -- the rest is taken behind the slot of the first
-behind : (to after : InScope) (free : Free) (ty : TyView) (rest : List Param) → fit.Takes to (typed.behind_one ty free).nums (typed.behind_one ty free).refs rest after
-    → fit.Takes to (if is_number ty then free.nums + 1 else free.nums) (if is_number ty then free.refs else free.refs + 1) rest after
-behind to after free ty rest h =
-    subst (λ n. fit.Takes to n (if is_number ty then free.refs else free.refs + 1) rest after) (next_nums (is_number ty) free)
-    (subst (λ n. fit.Takes to (typed.behind_one ty free).nums n rest after) (next_refs (is_number ty) free) h)
+behind : (scope : Option (List ℕ)) (to after : InScope) (free : Free) (ty : TyView) (rest : List Param) → fit.Takes scope to (typed.behind_one ty free).nums (typed.behind_one ty free).refs rest after
+    → fit.Takes scope to (if is_number ty then free.nums + 1 else free.nums) (if is_number ty then free.refs else free.refs + 1) rest after
+behind scope to after free ty rest h =
+    subst (λ n. fit.Takes scope to n (if is_number ty then free.refs else free.refs + 1) rest after) (next_nums (is_number ty) free)
+    (subst (λ n. fit.Takes scope to (typed.behind_one ty free).nums n rest after) (next_refs (is_number ty) free) h)
 
-taken : {env last : Env} {free free' : Free} {params : List Param} {wholes : List (List Field)} {to : InScope} → typed.Takes env free params last free' → Stands env wholes to
-    → ArePlaces wholes params → AllValued (types_of_params params) → Taken to free params last wholes
-taken {to = to} typed.no_more s places valued = record { after = to; takes = fit.no_more; stands = s }
-taken {to = to} (typed.as_local {free = free} {slot = slot} {ty = ty} {rest = rest} e takes) s places valued =
-    let r = taken takes (local_more slot ty s valued.0) places.1 valued.1 in
-    record { after = r.after; takes = fit.as_local e (behind (with_local slot ty to) r.after free ty rest r.takes); stands = r.stands }
-taken (typed.as_kept {free = free} {ty = ty} {rest = rest} name scopes is takes) s places valued =
-    let d = declared (typed.as_kept {free = free} name scopes is) s places.0 valued.0 in
-    let r = taken takes d.stands places.1 valued.1 in
-    record { after = r.after; takes = fit.as_kept d.declares (behind d.after r.after free ty rest r.takes); stands = r.stands }
+taken : (scope : Option (List ℕ)) {env last : Env} {free free' : Free} {params : List Param} {wholes : List (List Field)} {to : InScope} → typed.Takes env free params last free'
+    → KeepsNone scope env.scopes last.scopes → Stands env wholes to → ArePlaces wholes params → AllValued (types_of_params params) → Taken scope to free params last wholes
+taken scope {to = to} typed.no_more keeps s places valued = record { after = to; takes = fit.no_more; stands = s }
+taken scope {to = to} (typed.as_local {free = free} {slot = slot} {ty = ty} {rest = rest} e takes) keeps s places valued =
+    let r = taken scope takes keeps (local_more slot ty s valued.0) places.1 valued.1 in
+    record { after = r.after; takes = fit.as_local e (behind scope (with_local slot ty to) r.after free ty rest r.takes); stands = r.stands }
+taken scope (typed.as_kept {env = env} {free = free} {position = position} {ty = ty} {scope = fields} {around = around} {rest = rest} name scopes is takes) keeps s places valued =
+    let one : typed.Declares env free (Kept 0 position) ty (typed.with_scopes (typed.and_kept fields name ty ∷ around) env) free = typed.as_kept name scopes is in
+    let d = declared scope one (λ e. omega (arith, keeps e, takes_width takes)) s places.0 valued.0 in
+    let r = taken scope takes (λ e. omega (arith, keeps e, declares_width one)) d.stands places.1 valued.1 in
+    record { after = r.after; takes = fit.as_kept d.declares (behind scope d.after r.after free ty rest r.takes); stands = r.stands }
 
 -- A scope that is opened.
 
@@ -305,9 +286,9 @@ stands_inside fields s = record { locals = s.locals; levels = (fresh_level field
 
 -- Clauses, items and bodies.
 
-record ItemsFit (to : InScope) (before : TyView) (items : Nodes) (ty : TyView) : Type 0 where
+record ItemsFit (scope : Option (List ℕ)) (to : InScope) (before : TyView) (items : Nodes) (ty : TyView) : Type 0 where
   last : InScope
-  are : fit.AreItems to before items ty last
+  are : fit.AreItems scope to before items ty last
   given : IsGiven ty
 
 -- a literal with the bodies in it
@@ -323,26 +304,26 @@ mutual
   pub fits : {env : Env} {free free' : Free} {tree : Node} {ty : TyView} (wholes : List (List Field)) (to : InScope) → IsTyped env free tree ty free' → RunsIn (Some wholes) tree
       → Small tree → Stands env wholes to → IsFit to tree ty × IsGiven ty
   fits wholes to (typed.by_rule {clause = clause} r are) runs sm s =
-      let parts = fits_each wholes to are (rule_runs wholes r runs) (subst (Each Small) (parts_named r).0 (small clause sm)) s in
+      let parts = fits_each wholes to are (parts_run (Some wholes) r runs) (subst (Each Small) (parts_named r).0 (small clause sm)) s in
       let given = rule_gives wholes r parts.1 runs in
       (fit.by_rule r (rule_names wholes r runs given) parts.0, given)
   fits wholes to (typed.name {place = place} {ty = ty} is) runs sm s = let n = name_at place ty s is in (fit.name n.0, n.1)
   fits wholes to (typed.set_name {place = place} {ty = ty} {e = e} is t) runs sm s =
       (fit.set_name (name_at place ty s is).0 (fits wholes to t runs.1 (small (node.SetName place ty e) sm).0 s).0, tt)
   fits wholes to (typed.block {items = items} typed.unscoped are is) runs sm s =
-      let r = fits_items wholes to are runs (small_items items (small (node.Block None items) sm)) s tt in (fit.block fit.unscoped r.are, r.given)
+      let r = fits_items None wholes to are (keeps_same is) runs (small_items items (small (node.Block None items) sm)) s tt in (fit.block fit.unscoped r.are, r.given)
   fits wholes to (typed.block {items = items} (typed.scoped {first = first} {rest = rest}) are is) runs sm s =
       let own = runs.0 in
-      let r = fits_items (own.fields ∷ wholes) (with_levels (fresh own.fields ∷ to.levels) to) are runs.1 (small_items items (small (node.Block (Some (class_text (codes "scope") (first ∷ rest))) items) sm)) (stands_inside own.fields s) tt in
+      let r = fits_items (Some (class_text (codes "scope") (first ∷ rest))) (own.fields ∷ wholes) (with_levels (fresh own.fields ∷ to.levels) to) are (λ e. absurd cc) runs.1 (small_items items (small (node.Block (Some (class_text (codes "scope") (first ∷ rest))) items) sm)) (stands_inside own.fields s) tt in
       (fit.block (opens_scope own.fields _ first rest to.levels own.named own.text_is refl) r.are, r.given)
   fits wholes to (typed.loop {slot = slot} {a = a} {b = b} {c = c} {s = clause} {control = control} {line = line} slot_is typed.unscoped declares is are t) runs sm s =
       let parts = small (node.For slot a b c None control clause line) sm in
-      let d = declared declares s runs.3 tt in
+      let d = declared None declares (keeps_same is) s runs.3 tt in
       (fit.loop fit.unscoped d.declares (fits_each wholes to are (runs.0, (runs.1, (runs.2, tt))) (parts.0, (parts.1.0, (parts.1.1.0, tt))) s).0 (fits wholes d.after t runs.4 parts.1.1.1.0 d.stands).0, tt)
   fits wholes to (typed.loop {slot = slot} {a = a} {b = b} {c = c} {s = clause} {control = control} {line = line} slot_is (typed.scoped {first = first} {rest = rest}) declares is are t) runs sm s =
       let own = runs.3.0 in
       let parts = small (node.For slot a b c (Some (class_text (codes "scope") (first ∷ rest))) control clause line) sm in
-      let d = declared declares (stands_inside own.fields s) runs.3.1 tt in (
+      let d = declared (Some (class_text (codes "scope") (first ∷ rest))) declares (λ e. absurd cc) (stands_inside own.fields s) runs.3.1 tt in (
         fit.loop (opens_scope own.fields _ first rest to.levels own.named own.text_is refl) d.declares
             (fits_each wholes to are (runs.0, (runs.1, (runs.2, tt))) (parts.0, (parts.1.0, (parts.1.1.0, tt))) s).0 (fits (own.fields ∷ wholes) d.after t runs.3.2 parts.1.1.1.0 d.stands).0,
         tt,
@@ -353,7 +334,7 @@ mutual
   fits wholes to (typed.literal {params = params} {gives = gives} {tree = tree} {scope = scope} {line = line} is_body) runs sm s =
       (fit.literal (fits_body wholes to.levels is_body runs (small_literal params gives tree scope line sm) s.levels), sm.0.valued)
 
-  fits_each : {env : Env} {free free' : Free} {claims : List Claim} (wholes : List (List Field)) (to : InScope) → AreTyped env free claims free' → Each (RunHere wholes) (clauses_of claims)
+  fits_each : {env : Env} {free free' : Free} {claims : List Claim} (wholes : List (List Field)) (to : InScope) → AreTyped env free claims free' → AllRunClaims (Some wholes) claims
       → Each Small (clauses_of claims) → Stands env wholes to → AreFit to claims × Each (Given wholes) claims
   fits_each wholes to typed.AreTyped.no_more runs sm s = (fit.no_more, tt)
   fits_each wholes to (typed.AreTyped.one_more first others) runs sm s =
@@ -361,33 +342,34 @@ mutual
       let r = fits_each wholes to others runs.1 sm.1 s in
       (fit.one_more f.0 r.0, (f.1, r.1))
 
-  fits_items : {env last : Env} {free free' : Free} {before ty : TyView} {items : Nodes} (wholes : List (List Field)) (to : InScope) → AreItems env free before items ty last free'
-      → AllRunIn (Some wholes) items → Each Small (item_nodes items) → Stands env wholes to → IsGiven before → ItemsFit to before items ty
-  fits_items wholes to typed.at_end runs sm s given = record { last = to; are = fit.at_end; given = given }
-  fits_items wholes to (typed.a_clause first others) runs sm s given =
+  fits_items : (scope : Option (List ℕ)) {env last : Env} {free free' : Free} {before ty : TyView} {items : Nodes} (wholes : List (List Field)) (to : InScope)
+      → AreItems env free before items ty last free' → KeepsNone scope env.scopes last.scopes → AllRunIn (Some wholes) items → Each Small (item_nodes items) → Stands env wholes to → IsGiven before
+      → ItemsFit scope to before items ty
+  fits_items scope wholes to typed.at_end keeps runs sm s given = record { last = to; are = fit.at_end; given = given }
+  fits_items scope wholes to (typed.a_clause first others) keeps runs sm s given =
       let f = fits wholes to first runs.0 sm.0 s in
-      let r = fits_items wholes to others runs.1 sm.1 s f.1 in
+      let r = fits_items scope wholes to others keeps runs.1 sm.1 s f.1 in
       record { last = r.last; are = fit.a_clause f.0 r.are; given = r.given }
-  fits_items wholes to (typed.a_value {place = place} {e = e} {of = of} isnt declares t others) runs sm s given =
+  fits_items scope wholes to (typed.a_value {place = place} {e = e} {of = of} isnt declares t others) keeps runs sm s given =
       let f = fits wholes to t runs.0.1 (small (node.Let place of e) sm.0).0 s in
-      let d = declared declares s runs.0.0 (valued_by of f.1 isnt) in
-      let r = fits_items wholes d.after others runs.1 sm.1 d.stands tt in
+      let d = declared scope declares (λ n. omega (arith, keeps n, items_width others)) s runs.0.0 (valued_by of f.1 isnt) in
+      let r = fits_items scope wholes d.after others (λ n. omega (arith, keeps n, declares_width declares)) runs.1 sm.1 d.stands tt in
       record { last = r.last; are = fit.a_value isnt d.declares f.0 r.are; given = r.given }
-  fits_items wholes to (typed.a_literal {place = place} {procedure = procedure} {of = of} declares t others) runs sm s given =
+  fits_items scope wholes to (typed.a_literal {place = place} {procedure = procedure} {of = of} declares t others) keeps runs sm s given =
       let inner = (small (node.Let place of (node.Proc procedure)) sm.0).0 in
-      let d = declared declares s runs.0.0 (literal_valued t inner) in
+      let d = declared scope declares (λ n. omega (arith, keeps n, items_width others)) s runs.0.0 (literal_valued t inner) in
       let f = fits wholes d.after t runs.0.1 inner d.stands in
-      let r = fits_items wholes d.after others runs.1 sm.1 d.stands tt in
+      let r = fits_items scope wholes d.after others (λ n. omega (arith, keeps n, declares_width declares)) runs.1 sm.1 d.stands tt in
       record { last = r.last; are = fit.a_literal d.declares f.0 r.are; given = r.given }
 
   pub fits_body : {scopes : List (List Field)} {of : BodyNode} (wholes : List (List Field)) (levels : List Level) → IsBody scopes of → BodyRuns wholes of → Each IsSmall (bodies of)
       → AreLevels scopes wholes levels → IsFitBody levels of
   fits_body wholes levels (typed.of_params {tree = tree} typed.unscoped takes is t) runs sm are =
-      let p = taken {to = record { locals = []; levels = levels }} takes (record { locals = refl; levels = are; valued = λ slot ty found. absurd found }) runs.0 sm.0.valued.0 in
-      fit.of_params fit.unscoped p.takes (fits wholes p.after t runs.1 sm.1 p.stands).0 (has_slots (typed.of_params typed.unscoped takes is t) sm.0.few)
+      let p = taken None {to = record { locals = []; levels = levels }} takes (keeps_same is) (record { locals = refl; levels = are; valued = λ slot ty found. absurd found }) runs.0 sm.0.valued.0 in
+      fit.of_params fit.unscoped p.takes (fits wholes p.after t runs.1 sm.1 p.stands).0 sm.0.valued (has_slots (typed.of_params typed.unscoped takes is t) sm.0.few)
   fits_body wholes levels (typed.of_params {tree = tree} (typed.scoped {first = first} {rest = rest}) takes is t) runs sm are =
       let own = runs.0 in
-      let p = taken {to = record { locals = []; levels = fresh own.fields ∷ levels }} takes
+      let p = taken (Some (class_text (codes "scope") (first ∷ rest))) {to = record { locals = []; levels = fresh own.fields ∷ levels }} takes (λ e. absurd cc)
       (record { locals = refl; levels = (fresh_level own.fields, are); valued = λ slot ty found. absurd found }) runs.1 sm.0.valued.0 in
       fit.of_params (opens_scope own.fields _ first rest levels own.named own.text_is refl) p.takes (fits (own.fields ∷ wholes) p.after t runs.2 sm.1 p.stands).0
-      (has_slots (typed.of_params typed.scoped takes is t) sm.0.few)
+      sm.0.valued (has_slots (typed.of_params typed.scoped takes is t) sm.0.few)

@@ -1,5 +1,5 @@
 -- Which bodies are fit for the scopes round them: they have types, each name lies in a place of its own, whichever it is, and what is named is in scope.
-use Rattle.std.specs.Prelude.{◌≡◌, ◌≢◌, ℕ, ◌+◌, ◌<◌, ◌≤◌, true, false, if◌then◌else◌, Option, Some, None, List, [], ◌∷◌, ◌++◌, codes, length}
+use Rattle.std.specs.Prelude.{◌≡◌, ◌≢◌, ℕ, ◌+◌, ◌<◌, ◌≤◌, true, false, if◌then◌else◌, Option, Some, None, List, [], ◌∷◌, codes, length}
 use Rattle.std.specs.List.{AllByRecursion}
 use Rattle.ps_heap.specs.ps_base.TyView.{TyView}
 use Rattle.ps_heap.specs.ps_base.TyView as types
@@ -17,7 +17,7 @@ use Rattle.ps_soundness.specs.ps_typing.Placing.{is_number}
 use Rattle.ps_soundness.specs.ps_typing.WellTyped.{At, Some_is, Local, IsLocal, IsOfType, Claim, ◌has◌, Rule, types_of_params}
 use Rattle.ps_heap.specs.Operators.{is_int}
 use Rattle.ps_heap.specs.Texts.{is_string}
-use Rattle.ps_soundness.specs.Running.{IsClassText}
+use Rattle.ps_soundness.specs.Running.{IsClassText, HasField, HasAsMany}
 use Rattle.ps_soundness.specs.Valued.{IsValued}
 use Rattle.ps_heap.specs.Held.{row}
 use Rattle.ps_heap.specs.reaching.Reaching.{IsIn}
@@ -51,12 +51,13 @@ with_local slot ty env = record env { locals = record { slot = slot; ty = ty } �
 abbrev pub with_levels : List Level → InScope → InScope
 with_levels levels env = record env { levels = levels }
 
--- A name that is declared at this place is in scope afterwards. A kept one has the type that the scope so many levels out names.
-pub data Declares : InScope → Place → TyView → InScope → Type 0 where
-  as_local : {env : InScope} {slot : ℕ} {ty : TyView} → Declares env (Plain slot) ty (with_local slot ty env)
-  as_kept : {env : InScope} {position : ℕ} {ty : TyView} (before : List Level) (level : Level) (after : List Level) →
-      env.levels ≡ before ++ level ∷ after → At (IsOfType ty) level.names position →
-      Declares env (Kept (length before) position) ty (with_levels (before ++ record level { declared = position ∷ level.declared } ∷ after) env)
+-- A name that is declared at this place is in scope afterwards. Where what declares it has a scope of its own, which is the innermost, that may keep it, as a
+-- name of the type that its text says.
+pub data Declares : Option (List ℕ) → InScope → Place → TyView → InScope → Type 0 where
+  as_local : {own : Option (List ℕ)} {env : InScope} {slot : ℕ} {ty : TyView} → Declares own env (Plain slot) ty (with_local slot ty env)
+  as_kept : {text : List ℕ} {env : InScope} {position : ℕ} {ty : TyView} (level : Level) (around : List Level) →
+      env.levels ≡ level ∷ around → At (IsOfType ty) level.names position →
+      Declares (Some text) env (Kept 0 position) ty (with_levels (record level { declared = position ∷ level.declared } ∷ around) env)
 
 -- the scopes inside a clause that has a scope of this text, or none: at first none of its names is in scope
 pub data Opens : Option (List ℕ) → List Level → List Level → Type 0 where
@@ -64,27 +65,30 @@ pub data Opens : Option (List ℕ) → List Level → List Level → Type 0 wher
   scoped : {around : List Level} {first : Field} {rest : List Field} → IsNamed (codes "scope") (first ∷ rest) →
       Opens (Some (class_text (codes "scope") (first ∷ rest))) around (record { names = first ∷ rest; declared = [] } ∷ around)
 
--- what a clause names by itself: an int, a string, a class whose name and fields have names of a text, and types of which there are values
+-- What a clause names by itself: an int, a string, a class whose name and fields have names of a text, and types of which there are values. The class has the
+-- field that is named, and as many fields as a clause gives values: where names may be any bytes, its text can be read as that of other classes too.
 abbrev pub NamesWell : Node → Type 0
 NamesWell (node.Int value) = is_int value ≡ true
 NamesWell (node.Text bytes) = is_string bytes ≡ true
 NamesWell (node.Is e class) = IsClassText class
-NamesWell (node.Make class args) = IsClassText class
-NamesWell (node.Field e class index ty line) = IsClassText class
-NamesWell (node.SetField p class index ty e line) = IsClassText class
+NamesWell (node.Make class args) = HasAsMany class args
+NamesWell (node.Field e class index ty line) = HasField class index ty
+NamesWell (node.SetField p class index ty e line) = HasField class index ty
 NamesWell (node.Fill l u e ty line) = IsValued ty
 NamesWell (node.Elems l items ty line) = IsValued ty
 NamesWell _ = Unit {0}
 
--- The parameters stand in the first locals of each stack, in their order; those that the scope keeps too.
-pub data Takes : InScope → (nums refs : ℕ) → List Param → InScope → Type 0 where
-  no_more : {env : InScope} {nums refs : ℕ} → Takes env nums refs [] env
-  as_local : {env last : InScope} {nums refs slot : ℕ} {ty : TyView} {rest : List Param} → slot ≡ (if is_number ty then nums else refs) →
-      Takes (with_local slot ty env) (if is_number ty then nums + 1 else nums) (if is_number ty then refs else refs + 1) rest last →
-      Takes env nums refs (record { ty = ty; place = Plain slot } ∷ rest) last
-  as_kept : {env own last : InScope} {nums refs up position : ℕ} {ty : TyView} {rest : List Param} → Declares env (Kept up position) ty own →
-      Takes own (if is_number ty then nums + 1 else nums) (if is_number ty then refs else refs + 1) rest last →
-      Takes env nums refs (record { ty = ty; place = Kept up position } ∷ rest) last
+-- The parameters stand in the first locals of each stack, in their order; those that the scope of the body keeps too.
+pub data Takes : Option (List ℕ) → InScope → (nums refs : ℕ) → List Param → InScope → Type 0 where
+  no_more : {own : Option (List ℕ)} {env : InScope} {nums refs : ℕ} → Takes own env nums refs [] env
+  as_local : {own : Option (List ℕ)} {env last : InScope} {nums refs slot : ℕ} {ty : TyView} {rest : List Param} →
+      slot ≡ (if is_number ty then nums else refs) →
+      Takes own (with_local slot ty env) (if is_number ty then nums + 1 else nums) (if is_number ty then refs else refs + 1) rest last →
+      Takes own env nums refs (record { ty = ty; place = Plain slot } ∷ rest) last
+  as_kept : {own : Option (List ℕ)} {env with_name last : InScope} {nums refs up position : ℕ} {ty : TyView} {rest : List Param} →
+      Declares own env (Kept up position) ty with_name →
+      Takes own with_name (if is_number ty then nums + 1 else nums) (if is_number ty then refs else refs + 1) rest last →
+      Takes own env nums refs (record { ty = ty; place = Kept up position } ∷ rest) last
 
 -- no number stands twice
 abbrev pub AreApart : List ℕ → Type 0
@@ -106,10 +110,10 @@ mutual
     name : {env : InScope} {place : Place} {ty : TyView} → IsNameAt env place ty → IsFit env (node.Name place ty) ty
     set_name : {env : InScope} {place : Place} {ty : TyView} {e : Node} → IsNameAt env place ty → IsFit env e ty → IsFit env (node.SetName place ty e) types.Void
     block : {env last : InScope} {scope : Option (List ℕ)} {inside : List Level} {items : Nodes} {ty : TyView} →
-        Opens scope env.levels inside → AreItems (with_levels inside env) types.Void items ty last → IsFit env (node.Block scope items) ty
+        Opens scope env.levels inside → AreItems scope (with_levels inside env) types.Void items ty last → IsFit env (node.Block scope items) ty
     -- the control is in scope in what is repeated alone
     loop : {env own : InScope} {slot : ℕ} {a b c s : Node} {scope : Option (List ℕ)} {inside : List Level} {control : Place} {line : Line} →
-        Opens scope env.levels inside → Declares (with_levels inside env) control types.Int own →
+        Opens scope env.levels inside → Declares scope (with_levels inside env) control types.Int own →
         AreFit env (a has types.Int ∷ b has types.Int ∷ c has types.Int ∷ []) → IsFit own s types.Void →
         IsFit env (node.For slot a b c scope control s line) types.Void
     scan : {env : InScope} {string : _} {a f : Node} {q s : ℕ} {line : Line} →
@@ -122,21 +126,21 @@ mutual
     no_more : {env : InScope} → AreFit env []
     one_more : {env : InScope} {clause : Node} {ty : TyView} {rest : List Claim} → IsFit env clause ty → AreFit env rest → AreFit env (clause has ty ∷ rest)
 
-  -- The items of a sequence after an item of this type, and what is in scope at the end: each but the last is void. A `Let` is an item. The name of a literal
-  -- is in scope inside it, any other name after its initial clause.
-  pub data AreItems : InScope → TyView → Nodes → TyView → InScope → Type 0 where
-    at_end : {env : InScope} {ty : TyView} → AreItems env ty none ty env
-    a_clause : {env last : InScope} {item : Node} {rest : Nodes} {of ty : TyView} →
-        IsFit env item of → AreItems env of rest ty last → AreItems env types.Void (more item rest) ty last
-    a_value : {env own last : InScope} {place : Place} {e : Node} {rest : Nodes} {of ty : TyView} →
-        isnt_void of ≡ true → Declares env place of own → IsFit env e of → AreItems own types.Void rest ty last →
-        AreItems env types.Void (more (node.Let place of e) rest) ty last
-    a_literal : {env own last : InScope} {place : Place} {procedure : BodyNode} {rest : Nodes} {of ty : TyView} →
-        Declares env place of own → IsFit own (node.Proc procedure) of → AreItems own types.Void rest ty last →
-        AreItems env types.Void (more (node.Let place of (node.Proc procedure)) rest) ty last
+  -- The items of a sequence, which may have a scope of its own, after an item of this type, and what is in scope at the end: each but the last is void. A `Let`
+  -- is an item. The name of a literal is in scope inside it, any other name after its initial clause.
+  pub data AreItems : Option (List ℕ) → InScope → TyView → Nodes → TyView → InScope → Type 0 where
+    at_end : {scope : Option (List ℕ)} {env : InScope} {ty : TyView} → AreItems scope env ty none ty env
+    a_clause : {scope : Option (List ℕ)} {env last : InScope} {item : Node} {rest : Nodes} {of ty : TyView} →
+        IsFit env item of → AreItems scope env of rest ty last → AreItems scope env types.Void (more item rest) ty last
+    a_value : {scope : Option (List ℕ)} {env own last : InScope} {place : Place} {e : Node} {rest : Nodes} {of ty : TyView} →
+        isnt_void of ≡ true → Declares scope env place of own → IsFit env e of → AreItems scope own types.Void rest ty last →
+        AreItems scope env types.Void (more (node.Let place of e) rest) ty last
+    a_literal : {scope : Option (List ℕ)} {env own last : InScope} {place : Place} {procedure : BodyNode} {rest : Nodes} {of ty : TyView} →
+        Declares scope env place of own → IsFit own (node.Proc procedure) of → AreItems scope own types.Void rest ty last →
+        AreItems scope env types.Void (more (node.Let place of (node.Proc procedure)) rest) ty last
 
-  -- a body inside these scopes: it has locals of its own
+  -- a body inside these scopes: it has locals of its own, and takes and gives values
   pub data IsFitBody : List Level → BodyNode → Type 0 where
     of_params : {around inside : List Level} {params : List Param} {gives : TyView} {tree : Node} {scope : Option (List ℕ)} {line : Line} {env : InScope} →
-        Opens scope around inside → Takes (record { locals = []; levels = inside }) 0 0 params env → IsFit env tree gives →
-        HasSlots (body params gives tree scope line) → IsFitBody around (body params gives tree scope line)
+        Opens scope around inside → Takes scope (record { locals = []; levels = inside }) 0 0 params env → IsFit env tree gives →
+        IsValued (types.Proc (types_of_params params) gives) → HasSlots (body params gives tree scope line) → IsFitBody around (body params gives tree scope line)

@@ -9,7 +9,9 @@ use Rattle.ps_soundness.specs.ps_type_text.Texts.{Field, type_text, class_text, 
 use Rattle.ps_heap.specs.Operators.{is_int}
 use Rattle.ps_heap.specs.Texts.{is_string}
 use Rattle.ps_heap.specs.Values.{Value, Num, Flag, Text, Nil, Pointer, Vector, Procedure, as_written}
+use Rattle.ps_heap.specs.text_forms.Classes.{form_of_type}
 use Rattle.ps_heap.specs.Objects.{is_vector}
+use Rattle.ps_heap.specs.Scopes.{first_value}
 pub use Rattle.ps_soundness.specs.Shapes.{IsPointedAt, at_structure, at_table}
 use Rattle.ps_soundness.specs.Shapes.{type_of_body}
 use Rattle.ps_soundness.specs.Valued.{IsValued}
@@ -81,11 +83,12 @@ pub record IsMentioned (stored : StoredHeap) (id position : ℕ) : Type 0 where
   pub round : IsOut stored.objects id scope out
   pub mentioned : mentions out position of ≡ true
 
--- The names of a scope from a position on: each holds a value of its type, or nil, where no procedure mentions it.
+-- The names of a scope from a position on: each holds a value of its type, or what it held at first, where no procedure mentions it. So a reference may be
+-- nil; an int, a bool and a pntr hold values of their types from the beginning on.
 abbrev pub AreFitNames : StoredHeap → ℕ → ℕ → List Field → List Value → Type 0
 AreFitNames stored id position [] [] = Unit {0}
 AreFitNames stored id position (field ∷ fields) (v ∷ vs) =
-    (IsFitValue stored.objects field.ty v ⊎ ((v ≡ Nil) × (IsMentioned stored id position → ⊥))) × AreFitNames stored id (position + 1) fields vs
+    (IsFitValue stored.objects field.ty v ⊎ ((v ≡ first_value (form_of_type field.ty)) × (IsMentioned stored id position → ⊥))) × AreFitNames stored id (position + 1) fields vs
 AreFitNames stored id position _ vs = ⊥
 
 pub record IsFitStructure (heap : Heap) (class : List ℕ) (values : List Value) : Type 0 where

@@ -1,6 +1,8 @@
 pub mod StandingLaws
 pub mod TableLaws
 pub mod HeapLaws
+pub mod TreeLaws
+mod TableRows
 pub mod PlaceLaws
 pub mod WriteLaws
 pub mod FieldLaws

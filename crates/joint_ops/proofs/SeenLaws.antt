@@ -78,6 +78,7 @@ stored-stays before after pid words same s = record {
   there = record { space = s.there.space; is = same.kept s.there.space s.there.is; has = s.there.has };
   header = s.header;
   far = s.far;
+  clean = s.clean;
 }
 
 -- What is seen of the area is so still, where its objects stay.

@@ -28,11 +28,18 @@ use Rattle.heap_meaning.specs.Units.{IsUnitSeen}
 use Rattle.heap_meaning.specs.Paired.{paired, StandsRow}
 use Rattle.heap_meaning.specs.Denoting.{DenotesValue, DenotesScope, IsFor}
 
--- A vault holds these words under the PID, and they may come into the area.
+-- an object on a volume has no flags, no PID in its header and no chain
+pub record IsClean (header : Header) : Type 0 where
+  pub flags : header.flags ≡ 0
+  pub pid : header.pid ≡ 0
+  pub chain : header.chain ≡ 0
+
+-- A vault holds these words under the PID, they may come into the area, and they are clean.
 pub record IsStored (outside : Outside Space) (pid : ℕ) (words : List ℕ) : Type 0 where
   pub there : Holds outside pid words
   pub header : Header
   pub far : IsFar words header
+  pub clean : IsClean header
 
 -- what is seen of area and vault
 abbrev pub seen : area.Heap → Outside Space → reference.Reference → Shown → Type 0

@@ -131,6 +131,7 @@ stores-earlier before mid wanted same s =
         there = record { space = held.space; is = same.no_other held.space held.is; has = held.has };
         header = s.stored.header;
         far = s.stored.far;
+        clean = s.stored.clean;
       };
       count = s.count;
     }

@@ -21,6 +21,8 @@ pub record Memory : Type 0 where
   pub failing : Option ℕ
   -- no call has answered a fault
   pub alive : Bool
+  -- something was stored that isn't settled yet
+  pub staged : Bool
 
 -- a vault that is made with these words, and has had no call
 abbrev pub fresh : List ℕ → ℕ → ℕ → Memory
@@ -33,6 +35,7 @@ fresh words directory room = record {
   output_faults = 0;
   failing = None;
   alive = true;
+  staged = false;
 }
 
 -- the number of used words and of those that can be used, within the bounds of every store

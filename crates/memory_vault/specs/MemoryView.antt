@@ -14,6 +14,7 @@ memory_of vault = record {
   output_faults = vault.output_faults;
   failing = vault.failing;
   alive = vault.alive;
+  staged = vault.staged;
 }
 
 -- what it keeps is in order, and the memory for all of the room was taken

@@ -26,6 +26,8 @@ pub struct MemoryVault {
     device_faults: u64,
     output_faults: u64,
     alive: bool,
+    // Whether something was stored that isn't settled yet.
+    staged: bool,
 }
 
 impl Drop for MemoryVault {
@@ -40,6 +42,7 @@ impl Drop for MemoryVault {
             device_faults: _,
             output_faults: _,
             alive: _,
+            staged: _,
         } = self;
     }
 }
@@ -93,6 +96,7 @@ impl MemoryVault {
             device_faults: 0,
             output_faults: 0,
             alive: true,
+            staged: false,
         })
     }
 
@@ -237,7 +241,9 @@ impl Vault for MemoryVault {
 
     ghost directory_at = { λ vault. vault.space.directory };
 
-    ghost access = { λ vault. unshared };
+    ghost Lent = { Unit {0} };
+
+    ghost access = { λ vault. unshared vault.staged };
 
     fn length(&mut self, pid: u64) -> Result<u32, VaultFault> {
         let header = self.object(pid, None)?;
@@ -254,6 +260,7 @@ impl Vault for MemoryVault {
         self.sound();
         let used = self.place(words.len() as u64)?;
         self.extend(words);
+        self.staged = true;
         Ok(used)
     }
 
@@ -264,6 +271,7 @@ impl Vault for MemoryVault {
         };
         self.sound();
         self.replace(pid, words);
+        self.staged = true;
         Ok(())
     }
 
@@ -271,6 +279,7 @@ impl Vault for MemoryVault {
         self.call()?;
         self.sound();
         self.direct(directory);
+        self.staged = false;
         Ok(())
     }
 

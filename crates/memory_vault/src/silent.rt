@@ -1,4 +1,4 @@
-ghost use Rattle.std.specs.Prelude.{◌≡◌, ◌≤◌};
+ghost use Rattle.std.specs.Prelude.{◌≡◌, ◌≤◌, false};
 
 use obj_layout::vault::{Vault, VaultFault};
 
@@ -34,7 +34,9 @@ impl Vault for SilentVault {
 
     ghost directory_at = { λ vault. 0 };
 
-    ghost access = { λ vault. unshared };
+    ghost Lent = { Unit {0} };
+
+    ghost access = { λ vault. unshared false };
 
     fn length(&mut self, pid: u64) -> Result<u32, VaultFault> {
         self.ask();

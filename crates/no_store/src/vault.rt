@@ -72,7 +72,9 @@ impl<H: Host> Vault for NoStore<H> {
 
     ghost directory_at = { λ vault. 0 };
 
-    ghost access = { λ vault. unshared };
+    ghost Lent = { Unit {0} };
+
+    ghost access = { λ vault. unshared false };
 
     fn length(&mut self, pid: u64) -> Result<u32, VaultFault> {
         Err(self.refuse(pid))

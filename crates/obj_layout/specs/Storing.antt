@@ -6,17 +6,29 @@ use Rattle.obj_layout.specs.declared.vault.VaultFault.{VaultFault}
 use Rattle.obj_layout.specs.declared.vault.VaultFault.TheVariants.{Device, Output, Full, NoPages, Damaged}
 use Rattle.obj_layout.specs.Stored.{Space, damage_at, without_file}
 
--- Who else uses a vault: whether it may be written, and whether it is alone, so that no snapshot holds pages of it.
-pub record Access : Type 0 where
+-- Who else uses a vault: whether it may be written, whether it is alone, so that no snapshot holds pages of it, and what it is lent by those who use it too;
+-- and whether something is staged.
+pub record Access (L : Type 0) : Type 0 where
   pub writes : Bool
   pub alone : Bool
+  pub lent : L
+  pub staged : Bool
 
 -- nobody else uses it
-abbrev pub unshared : Access
-unshared = record { writes = true; alone = true }
+abbrev pub unshared : Bool → Access (Unit {0})
+unshared staged = record { writes = true; alone = true; lent = tt; staged = staged }
 
--- What a vault says of itself stays: its used words, where its directory is, the most words that it may use, and who else uses it.
-abbrev pub SameNumbers : {V : Type 0} → (V → ℕ) → (V → ℕ) → (V → ℕ) → (V → Access) → V → V → Type 0
+-- the same, after everything was settled
+abbrev pub all_settled : {L : Type 0} → Access L → Access L
+all_settled access = record access { staged = false }
+
+-- the same, whether or not something is staged
+abbrev pub SameUsers : {L : Type 0} → Access L → Access L → Type 0
+SameUsers old new = all_settled new ≡ all_settled old
+
+-- What a vault says of itself stays: its used words, where its directory is, the most words that it may use, who else uses it and whether something is
+-- staged.
+abbrev pub SameNumbers : {V L : Type 0} → (V → ℕ) → (V → ℕ) → (V → ℕ) → (V → Access L) → V → V → Type 0
 SameNumbers used directory most access old new =
     (used new ≡ used old) × (directory new ≡ directory old) × (most new ≡ most old) × (access new ≡ access old)
 
@@ -66,7 +78,7 @@ abbrev pub NeverLacksPages : {T : Type 0} → Result T VaultFault → Type 0
 NeverLacksPages result = (held wanted pages : ℕ) → result ≢ Err (NoPages held wanted pages)
 
 -- Pages are lacked only beside snapshots, and where those that are held and those that are wanted are more than there are.
-abbrev pub LacksPages : {T : Type 0} → Access → Result T VaultFault → Type 0
+abbrev pub LacksPages : {T L : Type 0} → Access L → Result T VaultFault → Type 0
 LacksPages access result = (held wanted pages : ℕ) → result ≡ Err (NoPages held wanted pages) → (access.alone ≡ false) × (pages < held + wanted)
 
 -- after a fault no call may be made

@@ -1,7 +1,7 @@
 ghost use Rattle.std.specs.Prelude.{◌≡◌, ◌+◌, ◌≤◌, ◌<◌, ◌^◌, ◌↔◌, ℕ, List, length, Some, None, true, IfOk, OnOk, Err, drop};
 ghost use Rattle.ps_outside.specs.Outside.{Outside, SameContents};
 ghost use Rattle.obj_layout.specs.Stored.{Space, IsSpace, Holds, IsHeaded, length_there, words_there, appended, overwritten, directed};
-ghost use Rattle.obj_layout.specs.Storing.{IsStoreCall, IsStagingCall, TestsObject, NeverDamaged, NeverFull, Access, LacksPages, NeverLacksPages, DeadIfErr, Becomes, Settles, Puts, reading, writing, settling, SameNumbers};
+ghost use Rattle.obj_layout.specs.Storing.{IsStoreCall, IsStagingCall, TestsObject, NeverDamaged, NeverFull, Access, SameUsers, all_settled, LacksPages, NeverLacksPages, DeadIfErr, Becomes, Settles, Puts, reading, writing, settling, SameNumbers};
 
 /// Why a vault didn't answer. After any fault the vault isn't alive.
 #[derive(Clone, Copy, PartialEq, Eq, Debug)]
@@ -45,8 +45,11 @@ pub trait Vault {
 
     ghost directory_at: { Self → ℕ };
 
-    /// Whether it may be written, and whether no snapshot holds pages of it.
-    ghost access: { Self → Access };
+    /// What it is lent by others who use the same store.
+    ghost Lent: { Type 0 };
+
+    /// Whether it may be written, whether no snapshot holds pages of it, what it is lent, and whether something is staged: only `append` and `overwrite` stage.
+    ghost access: { Self → Access Lent };
 
     /// How many words the object has, its header included. It goes by what stands at the PID alone: whether the rest of the space is cut into
     /// objects changes nothing.
@@ -93,7 +96,8 @@ pub trait Vault {
         ensures call { IsStagingCall (outside self.old) (outside self.new) (writing (length words.now)) result }
         ensures sound { NeverDamaged result }
         ensures used { OnOk result (used_words self.new ≡ used_words self.old + length words.now) }
-        ensures numbers { (directory_at self.new ≡ directory_at self.old) × (most_words self.new ≡ most_words self.old) × (access self.new ≡ access self.old) }
+        ensures numbers { (directory_at self.new ≡ directory_at self.old) × (most_words self.new ≡ most_words self.old) }
+        ensures users { SameUsers (access self.old) (access self.new) }
         ensures alive { OnOk result (alive self.new) }
         ensures dead { DeadIfErr (alive self.new) result };
 
@@ -107,7 +111,8 @@ pub trait Vault {
         ensures call { IsStagingCall (outside self.old) (outside self.new) (writing (length words.now)) result }
         ensures full { NeverFull result }
         ensures pages { LacksPages (access self.old) result }
-        ensures numbers { SameNumbers used_words directory_at most_words access self.old self.new }
+        ensures numbers { (used_words self.new ≡ used_words self.old) × (directory_at self.new ≡ directory_at self.old) × (most_words self.new ≡ most_words self.old) }
+        ensures users { SameUsers (access self.old) (access self.new) }
         ensures alive { OnOk result (alive self.new) }
         ensures dead { DeadIfErr (alive self.new) result };
 
@@ -122,7 +127,9 @@ pub trait Vault {
         ensures pages { LacksPages (access self.old) result }
         ensures sound { NeverDamaged result }
         ensures directory { OnOk result (directory_at self.new ≡ directory) }
-        ensures numbers { (used_words self.new ≡ used_words self.old) × (most_words self.new ≡ most_words self.old) × (access self.new ≡ access self.old) }
+        ensures numbers { (used_words self.new ≡ used_words self.old) × (most_words self.new ≡ most_words self.old) }
+        ensures users { SameUsers (access self.old) (access self.new) }
+        ensures unstaged { OnOk result (access self.new ≡ all_settled (access self.old)) }
         ensures alive { OnOk result (alive self.new) }
         ensures dead { DeadIfErr (alive self.new) result };
 

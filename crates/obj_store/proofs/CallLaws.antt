@@ -1,6 +1,6 @@
 -- What the calls of a store say.
 use Rattle.std.proofs.Common.{◌≡◌, ℕ, ◌+◌, ◌-◌, ◌^◌, ◌≤◌, min, Bool, true, false, List, length, sym, ◌∙◌, ap, subst, arith, Option, Some, None, Result, Ok, Err}
-use Rattle.std.specs.Prelude.{OnErr}
+use Rattle.std.specs.Prelude.{OnErr, OnOk}
 use Rattle.std.proofs.lemmas.Result.{on_err_weaker}
 use Rattle.obj_layout.specs.ps_outside.Outside.{Outside}
 use Rattle.obj_layout.specs.ps_outside.Past.{KeepsPast}
@@ -12,10 +12,9 @@ use Rattle.paged_volume.specs.declared.committed.Committed.{Committed}
 use Rattle.paged_volume.specs.declared.table.Table.{Table}
 use Rattle.obj_layout.specs.declared.vault.VaultFault.{VaultFault}
 use Rattle.obj_layout.specs.Stored.{Space, Holds, IsHeaded, length_there, words_there, appended, overwritten, directed}
-use Rattle.obj_layout.specs.Storing.{Becomes, Settles, SameNumbers, TestsObject, reading, writing, settling}
+use Rattle.obj_layout.specs.Storing.{Becomes, Settles, SameNumbers, SameUsers, all_settled, TestsObject, reading, writing, settling}
 use Rattle.obj_store.specs.declared.source.Source.{Source}
 use Rattle.obj_store.specs.Calls.{Measures, Fetches, Appends, Overwrites, SettlesAll}
-use Rattle.obj_store.specs.Staging.{SamePins}
 use Rattle.obj_store.specs.Spaces.{IsInOrder, used_in, directory_in, spaces, spaces_at}
 use Rattle.obj_store.specs.Store.{Store, access_of, directory_of, most_of, outside_of, used_of, bounded, is_alone}
 use Rattle.obj_store.specs.StoreLaws.{used_is, most_is}
@@ -28,34 +27,41 @@ use Rattle.obj_store.proofs.SpaceLaws.{same_spaces}
 pub dead_of : {T E : Type 0} (result : Result T E) (live : Bool) → OnErr result (live ≡ false) → OnErr result (live ≡ true → ⊥)
 dead_of result live dead = on_err_weaker result (λ no yes. cc) dead
 
--- the numbers of a store, and of a view, go by its table and its words
-pub store_numbers : {H : Type 0} (old new : Store H) → (new.table ≡ old.table) × (new.used ≡ old.used) → SameNumbers used_of directory_of most_of access_of old new
+-- the numbers of a store, and of a view, go by its table, its words and whether something is staged
+pub store_numbers : {H : Type 0} (old new : Store H) → (new.table ≡ old.table) × (new.used ≡ old.used) × (new.staged ≡ old.staged) → SameNumbers used_of directory_of most_of access_of old new
 store_numbers old new same = (
   ap (λ (n : ℕ). bounded n) same.1,
   ap (λ (t : Table). t.committed.note.directory) same.0,
   ap (λ (t : Table). min (capacity_of t.committed.pages) (2 ^ 30 - 1)) same.0,
-  (λ i. record { writes = true; alone = is_alone (same.0 i).pins.items }),
+  (λ i. record { writes = true; alone = is_alone (same.0 i).pins.items; lent = tt; staged = same.2 i }),
 )
 
-pub staged_numbers : {H : Type 0} (old new : Store H) → SamePins old.table new.table → new.table.committed ≡ old.table.committed →
-    (directory_of new ≡ directory_of old) × (most_of new ≡ most_of old) × (access_of new ≡ access_of old)
-staged_numbers old new pins committed = (
+pub staged_numbers : {H : Type 0} (old new : Store H) → new.table.committed ≡ old.table.committed → (directory_of new ≡ directory_of old) × (most_of new ≡ most_of old)
+staged_numbers old new committed = (
   ap (λ (k : Committed). k.note.directory) committed,
   ap (λ (k : Committed). min (capacity_of k.pages) (2 ^ 30 - 1)) committed,
-  (λ i. record { writes = true; alone = is_alone (pins.pins i) }),
 )
 
-pub call_numbers : {H : Type 0} (old new : Store H) → SamePins old.table new.table → new.table.committed ≡ old.table.committed → new.used ≡ old.used →
-    SameNumbers used_of directory_of most_of access_of old new
-call_numbers old new pins committed used =
-    let staged = staged_numbers old new pins committed in
-    (ap (λ (n : ℕ). bounded n) used, staged.0, staged.1, staged.2)
+pub call_numbers : {H : Type 0} (old new : Store H) → new.table.committed ≡ old.table.committed → new.used ≡ old.used →
+    (used_of new ≡ used_of old) × (directory_of new ≡ directory_of old) × (most_of new ≡ most_of old)
+call_numbers old new committed used =
+    let staged = staged_numbers old new committed in
+    (ap (λ (n : ℕ). bounded n) used, staged.0, staged.1)
 
-pub settled_numbers : {H : Type 0} (old new : Store H) → (new.used ≡ old.used) × (new.table.committed.pages ≡ old.table.committed.pages) × (access_of new ≡ access_of old) →
-    (used_of new ≡ used_of old) × (most_of new ≡ most_of old) × (access_of new ≡ access_of old)
-settled_numbers old new same = (ap (λ (n : ℕ). bounded n) same.0, ap (λ (n : ℕ). min (capacity_of n) (2 ^ 30 - 1)) same.1, same.2)
+pub settled_numbers : {H : Type 0} (old new : Store H) → (new.used ≡ old.used) × (new.table.committed.pages ≡ old.table.committed.pages) →
+    (used_of new ≡ used_of old) × (most_of new ≡ most_of old)
+settled_numbers old new same = (ap (λ (n : ℕ). bounded n) same.0, ap (λ (n : ℕ). min (capacity_of n) (2 ^ 30 - 1)) same.1)
 
-pub view_numbers : {H : Type 0} (source : Source) (old new : Store H) → (new.table ≡ old.table) × (new.used ≡ old.used) →
+-- who uses a store goes by its pins
+pub store_users : {H : Type 0} (old new : Store H) → is_alone new.table.pins.items ≡ is_alone old.table.pins.items → SameUsers (access_of old) (access_of new)
+store_users old new alone = λ i. record { writes = true; alone = alone i; lent = tt; staged = false }
+
+pub store_settled : {T E H : Type 0} (result : Result T E) (old new : Store H) → is_alone new.table.pins.items ≡ is_alone old.table.pins.items → OnOk result (new.staged ≡ false) →
+    OnOk result (access_of new ≡ all_settled (access_of old))
+store_settled (Ok value) old new alone settled = λ i. record { writes = true; alone = alone i; lent = tt; staged = settled i }
+store_settled (Err fault) old new alone settled = tt
+
+pub view_numbers : {H : Type 0} (source : Source) (old new : Store H) → (new.table ≡ old.table) × (new.used ≡ old.used) × (new.staged ≡ old.staged) →
     (bounded (used_in source new.used) ≡ bounded (used_in source old.used)) × (directory_in source new.table ≡ directory_in source old.table) × (most_of new ≡ most_of old)
 view_numbers source old new same = (
   ap (λ (n : ℕ). bounded (used_in source n)) same.1,

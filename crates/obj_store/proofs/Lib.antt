@@ -16,3 +16,4 @@ pub mod LeftLaws
 pub use Rattle.volume_parts.proofs as of_volume_parts
 pub use Rattle.paged_volume.proofs as of_paged_volume
 pub use Rattle.obj_layout.proofs as of_obj_layout
+pub mod LendLaws

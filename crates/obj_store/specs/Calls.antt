@@ -28,7 +28,7 @@ pub record Fetches (old new : Outside Space) (pid count : ℕ) (into : List ℕ)
   pub pages : NeverLacksPages result
 
 -- an object is appended
-pub record Appends (old new : Outside Space) (words : List ℕ) (used next most : ℕ) (access : Access) (result : Result ℕ VaultFault) : Type 0 where
+pub record Appends (old new : Outside Space) (words : List ℕ) (used next most : ℕ) {L : Type 0} (access : Access L) (result : Result ℕ VaultFault) : Type 0 where
   pub pid : IfOk result (λ pid. pid ≡ used)
   pub told : OnOk result (Becomes old new (appended words))
   pub full : (found wanted capacity : ℕ) → result ≡ Err (Full found wanted capacity) →
@@ -40,7 +40,7 @@ pub record Appends (old new : Outside Space) (words : List ℕ) (used next most 
   pub used_is : OnOk result (next ≡ used + length words)
 
 -- an object is written over
-pub record Overwrites (old new : Outside Space) (pid : ℕ) (words : List ℕ) (access : Access) (result : Result (Unit {0}) VaultFault) : Type 0 where
+pub record Overwrites (old new : Outside Space) (pid : ℕ) (words : List ℕ) {L : Type 0} (access : Access L) (result : Result (Unit {0}) VaultFault) : Type 0 where
   pub told : OnOk result (Becomes old new (overwritten pid words))
   pub tested : TestsObject old pid (Some (length words)) result
   pub call : IsStagingCall old new (writing (length words)) result
@@ -48,7 +48,7 @@ pub record Overwrites (old new : Outside Space) (pid : ℕ) (words : List ℕ) (
   pub pages : LacksPages access result
 
 -- all is settled
-pub record SettlesAll (old new : Outside Space) (used directory : ℕ) (access : Access) (result : Result (Unit {0}) VaultFault) : Type 0 where
+pub record SettlesAll (old new : Outside Space) (used directory : ℕ) {L : Type 0} (access : Access L) (result : Result (Unit {0}) VaultFault) : Type 0 where
   pub told : OnOk result (Becomes old new (directed directory))
   pub settled : Settles old new (settling used) (directed directory) result
   pub full : NeverFull result

@@ -9,6 +9,7 @@ pub mod StoreView
 pub mod StoreLaws
 pub mod Opening
 pub mod Viewing
+pub mod Lending
 pub mod Calls
 pub use Rattle.paged_volume.specs as paged_volume
 pub use Rattle.volume_parts.specs as volume_parts

@@ -51,9 +51,9 @@ is_alone [] = true
 is_alone (None ∷ pins) = is_alone pins
 is_alone (Some held ∷ pins) = false
 
--- it may be written, and is alone while no pin holds anything
-abbrev pub access_of : {H : Type 0} → Store H → Access
-access_of store = record { writes = true; alone = is_alone store.table.pins.items }
+-- it may be written, and is alone while no pin holds anything; it is lent nothing
+abbrev pub access_of : {H : Type 0} → Store H → Access (Unit {0})
+access_of store = record { writes = true; alone = is_alone store.table.pins.items; lent = tt; staged = store.staged }
 
 -- nothing is staged
 pub record IsUnstaged (table : Table) (used : ℕ) : Type 0 where

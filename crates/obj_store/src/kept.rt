@@ -35,6 +35,16 @@ pub struct KeptPages {
     places: Vec<Option<KeptPage>>,
 }
 
+// A page with these bytes.
+fn new_page(number: u32, from: &[u8]) -> KeptPage
+    requires { length from.now ≡ 4096 }
+    ensures { result ≡ kept_page number from.now }
+{
+    let mut bytes = [0u8; PAGE_BYTES];
+    bytes.copy_from_slice(from);
+    KeptPage { number, bytes }
+}
+
 impl KeptPages {
     /// No page is kept. Memory is taken here alone.
     pub fn new(alloc: Global) -> Result<KeptPages, AllocError>
@@ -77,12 +87,13 @@ impl KeptPages {
     {
         let place = page as usize % PLACES;
         if place < self.places.len() {
-            let mut own = [0u8; PAGE_BYTES];
-            own.copy_from_slice(bytes);
-            self.places[place] = Some(KeptPage {
-                number: page,
-                bytes: own,
-            });
+            match &mut self.places[place] {
+                Some(kept) => {
+                    kept.number = page;
+                    kept.bytes.copy_from_slice(bytes);
+                }
+                None => self.places[place] = Some(new_page(page, bytes)),
+            }
         }
     }
 }

@@ -40,6 +40,7 @@ pub fn settle_all<H: Host>(
     ensures outdated { OnOk result (volume.new.table.pins.items ≡ map outdated volume.old.table.pins.items) }
     ensures pinned { OnOk result (KeepsPins volume.old.table volume.new.table (H.outside volume.old.host) (H.outside volume.new.host)) }
     ensures pins { OnErr result (volume.new.table.pins.items ≡ volume.old.table.pins.items) }
+    ensures lists { volume.new.table.map.pins ≡ volume.old.table.map.pins }
     ensures has { OnOk result (HasPages volume.new.table (pages_of_words used)) }
     ensures alive { OnOk result (IsAlive volume.new.live volume.new.table (H.outside volume.new.host)) }
 {

@@ -4,7 +4,9 @@ ghost use Rattle.paged_volume.specs.Pinning.{pin_of, outdated, NoneIsHeld, Reser
 ghost use Rattle.obj_layout.specs.Stored.{IsHeaded};
 ghost use Rattle.obj_layout.specs.Storing.{Puts, NeverDamaged, NeverFull, NeverLacksPages};
 ghost use Rattle.obj_store.specs.Calls.{Measures, Fetches, Appends, Overwrites, SettlesAll};
+ghost use Rattle.obj_store.specs.Lending.{others_of};
 ghost use Rattle.obj_store.specs.Staging.{SamePins};
+ghost use Rattle.obj_store.specs.Store.{is_alone};
 ghost use Rattle.obj_store.specs.Viewing.{IsSource, IsViewed, IsFew, ShowsPin};
 
 use crate::kept::KeptPages;
@@ -160,7 +162,7 @@ impl<H: Host> ObjStore<H> {
         requires alive { self.old.live ≡ true }
         requires source { IsSource self.old.table source }
         ensures measures { Measures (outside_at H.outside source self.old) (outside_at H.outside source self.new) pid result }
-        ensures same { (self.new.table ≡ self.old.table) × (self.new.used ≡ self.old.used) }
+        ensures same { (self.new.table ≡ self.old.table) × (self.new.used ≡ self.old.used) × (self.new.staged ≡ self.old.staged) }
         ensures alive { OnOk result (self.new.live ≡ true) }
         ensures dead { OnErr result (self.new.live ≡ false) }
     {
@@ -184,7 +186,7 @@ impl<H: Host> ObjStore<H> {
         requires alive { self.old.live ≡ true }
         requires source { IsSource self.old.table source }
         ensures fetches { Fetches (outside_at H.outside source self.old) (outside_at H.outside source self.new) pid (length into.old) into.new result }
-        ensures same { (self.new.table ≡ self.old.table) × (self.new.used ≡ self.old.used) }
+        ensures same { (self.new.table ≡ self.old.table) × (self.new.used ≡ self.old.used) × (self.new.staged ≡ self.old.staged) }
         ensures alive { OnOk result (self.new.live ≡ true) }
         ensures dead { OnErr result (self.new.live ≡ false) }
     {
@@ -251,7 +253,10 @@ impl<H: Host> ObjStore<H> {
         ensures directory { OnOk result (self.new.table.committed.note.directory ≡ directory) }
         ensures unstaged { OnOk result (self.new.staged ≡ false) }
         ensures outdated { OnOk result (self.new.table.pins.items ≡ map outdated self.old.table.pins.items) }
-        ensures same { (self.new.used ≡ self.old.used) × (self.new.table.committed.pages ≡ self.old.table.committed.pages) × (access_of self.new ≡ access_of self.old) }
+        ensures kept { OnErr result (self.new.table.pins.items ≡ self.old.table.pins.items) }
+        ensures lists { self.new.table.map.pins ≡ self.old.table.map.pins }
+        ensures same { (self.new.used ≡ self.old.used) × (self.new.table.committed.pages ≡ self.old.table.committed.pages) }
+        ensures alone { is_alone self.new.table.pins.items ≡ is_alone self.old.table.pins.items }
         ensures alive { OnOk result (self.new.live ≡ true) }
         ensures dead { OnErr result (self.new.live ≡ false) }
     {
@@ -276,6 +281,8 @@ impl<H: Host> ObjStore<H> {
         ensures settles { SettlesAll (outside_of H.outside self.old) (outside_of H.outside self.new) (used_of self.old) directory (access_of self.old) result }
         ensures directory { OnOk result (self.new.table.committed.note.directory ≡ directory) }
         ensures viewed { OnOk result (IsViewed self.new.table pin Staged) }
+        ensures unstaged { OnOk result (self.new.staged ≡ false) }
+        ensures others { others_of self.new.table pin ≡ others_of self.old.table pin }
         ensures same { (self.new.used ≡ self.old.used) × (self.new.table.committed.pages ≡ self.old.table.committed.pages) }
         ensures alive { OnOk result (self.new.live ≡ true) }
         ensures dead { OnErr result (self.new.live ≡ false) }
@@ -294,7 +301,7 @@ impl<H: Host> ObjStore<H> {
         requires alive { self.old.live ≡ true }
         ensures told { Puts (outside_at H.outside source self.old) (outside_at H.outside source self.new) bytes.now result }
         ensures never { NeverFull result × NeverLacksPages result × NeverDamaged result }
-        ensures same { (self.new.table ≡ self.old.table) × (self.new.used ≡ self.old.used) }
+        ensures same { (self.new.table ≡ self.old.table) × (self.new.used ≡ self.old.used) × (self.new.staged ≡ self.old.staged) }
         ensures alive { OnOk result (self.new.live ≡ true) }
         ensures dead { OnErr result (self.new.live ≡ false) }
     {
@@ -322,6 +329,8 @@ impl<H: Host> Vault for ObjStore<H> {
     ghost most_words = { λ store. most_of store };
 
     ghost directory_at = { λ store. directory_of store };
+
+    ghost Lent = { Unit {0} };
 
     ghost access = { λ store. access_of store };
 

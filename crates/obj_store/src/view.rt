@@ -2,8 +2,9 @@
 
 ghost use Rattle.std.specs.Prelude.{◌≡◌, true, false, IsSome};
 ghost use Rattle.paged_volume.specs.Pinning.{pin_of};
-ghost use Rattle.obj_store.specs.Spaces.{used_in, directory_in, is_staged};
+ghost use Rattle.obj_store.specs.Spaces.{used_in, directory_in};
 ghost use Rattle.obj_store.specs.Store.{bounded, most_of, outside_at};
+ghost use Rattle.obj_store.specs.Lending.{Lent, view_access};
 ghost use Rattle.obj_store.specs.Viewing.{IsViewed, IsFew, ShowsPin};
 
 use crate::source::Source;
@@ -54,7 +55,9 @@ impl<'a, H: Host> Vault for View<'a, H> {
 
     ghost directory_at = { λ view. directory_in view.source view.store.now.table };
 
-    ghost access = { λ view. record { writes = is_staged view.source; alone = false } };
+    ghost Lent = { Lent };
+
+    ghost access = { λ view. view_access view.store.ghost_name view.pin view.source view.store.now };
 
     fn length(&mut self, pid: u64) -> Result<u32, VaultFault> {
         self.store.length_in(self.source, pid)

@@ -149,6 +149,7 @@ impl<H: Host> Volume<H> {
         ensures numbers { OnOk result ((page : ℕ) → slice_index self.new.table.map.committed page ≡ next_number self.old.table.map (pages_of_words used) page) }
         ensures pins { OnOk result (self.new.table.pins.items ≡ map outdated self.old.table.pins.items) }
         ensures kept { OnErr result (self.new.table.pins.items ≡ self.old.table.pins.items) }
+        ensures lists { self.new.table.map.pins ≡ self.old.table.map.pins }
         ensures pinned { OnOk result (KeepsPins self.old.table self.new.table (H.outside self.old.host) (H.outside self.new.host)) }
         ensures room { OnOk result (HasRoom self.old.table (switched used directory self.old.table.committed)) }
         ensures alive { OnOk result (IsAlive self.new.live self.new.table (H.outside self.new.host)) }

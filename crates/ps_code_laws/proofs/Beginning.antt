@@ -21,7 +21,7 @@ use Rattle.ps_gen.specs.Units.{kept_at, keeps, size_keeps}
 use Rattle.ps_stepping.specs.Config.{frame_in}
 use Rattle.ps_soundness.specs.Running.{ArePlaces}
 use Rattle.ps_soundness.proofs.Telling.{Told}
-use Rattle.ps_soundness.proofs.Combining.{Standing, Sound, sound_then, sound_nothing}
+use Rattle.ps_soundness.proofs.Combining.{Sound, sound_then, sound_nothing}
 use Rattle.ps_soundness.proofs.Calling.{ValuesOf, values_kept}
 use Rattle.ps_soundness.proofs.Declaring.{declare_kept}
 use Rattle.ps_code_laws.specs.Compiled.{compiled}
@@ -38,24 +38,25 @@ use Rattle.ps_code_laws.proofs.Operands.{Stand}
 use Rattle.ps_code_laws.proofs.ScopeForms.{does_set_kept, does_set_kept_ref}
 use Rattle.ps_code_laws.proofs.Arguments.{KindsAre}
 use Rattle.ps_code_laws.proofs.Handed.{Passed, passed_next}
+use Rattle.ps_soundness.proofs.Standings.{Standing, by_rules, in_scopes}
 
 -- what is known of these locals and scopes
 abbrev pub known_in : List Local → List (List Field) → List (List Field) → Standing
 known_in locals wholes scopes = record { locals = locals; wholes = Some wholes; scopes = scopes }
 
 keep_sound : (told : Told) (wholes : List (List Field)) {env last : Env} {free behind : Free} {params : List Param} → Takes env free params last behind →
-    (locals : List Local) (args : List Value) → ArePlaces wholes params → (heap : Heap) → ValuesOf heap (types_of_params params) args →
-    Sound heap (known_in locals wholes env.scopes) (known_in locals wholes last.scopes) types.Void (keep_all params args)
+    (locals : List Local) (args : List Value) → ArePlaces wholes params → (heap : Heap) → ValuesOf by_rules heap (types_of_params params) args →
+    Sound in_scopes heap (known_in locals wholes env.scopes) (known_in locals wholes last.scopes) types.Void (keep_all params args)
 unfolding keep_all keep
-keep_sound told wholes typed.Takes.no_more locals args places heap are = sound_nothing
+keep_sound told wholes typed.Takes.no_more locals args places heap are = sound_nothing in_scopes
 keep_sound told wholes (typed.Takes.as_local e rest) locals [] places heap are = absurd are
 keep_sound told wholes (typed.Takes.as_local {ty = ty} {rest = params} e rest) locals (arg ∷ args) places heap are =
-    sound_then sound_nothing (λ new u g is.
-    keep_sound told wholes rest locals args places.1 new (values_kept heap new g (types_of_params params) args are.1))
+    sound_then in_scopes (sound_nothing in_scopes) (λ new u g is.
+    keep_sound told wholes rest locals args places.1 new (values_kept by_rules heap new g (types_of_params params) args are.1))
 keep_sound told wholes (typed.Takes.as_kept name scopes is rest) locals [] places heap are = absurd are
 keep_sound told wholes (typed.Takes.as_kept {position = position} {ty = ty} {rest = params} name scopes is rest) locals (arg ∷ args) places heap are =
-    sound_then (declare_kept told wholes position name ty arg scopes is places.0 are.0) (λ new u g done.
-    keep_sound told wholes rest locals args places.1 new (values_kept heap new g (types_of_params params) args are.1))
+    sound_then in_scopes (declare_kept told wholes position name ty arg scopes is places.0 are.0) (λ new u g done.
+    keep_sound told wholes rest locals args places.1 new (values_kept by_rules heap new g (types_of_params params) args are.1))
 
 -- where so many turns are left, in a heap, with these names
 abbrev pub begun : ℕ → Heap → List Local → List (List Field) → List (List Field) → Origin
@@ -63,7 +64,7 @@ begun turns heap locals wholes scopes = record { turns = turns; heap = heap; kno
 
 pub keep_leads : (P : BodyNode → Type 0) (told : Told) (wholes : List (List Field)) {env last : Env} {free behind : Free} {params : List Param} →
     Takes env free params last behind → (locals : List Local) (args : List Value) → ArePlaces wholes params → (turns : ℕ) (heap : Heap) →
-    ValuesOf heap (types_of_params params) args → AreLiterals P args →
+    ValuesOf by_rules heap (types_of_params params) args → AreLiterals P args →
     Leads P (begun turns heap locals wholes env.scopes) (known_in locals wholes last.scopes) types.Void (keep_all params args)
 keep_leads P told wholes {params = params} takes locals args places turns heap are literals = record {
   falls = falls_keep_all params args;
@@ -134,7 +135,7 @@ module _ (w : Way) where
 
   pub keeps_do : (told : Told) (wholes : List (List Field)) {env last : Env} {free behind : Free} {params : List Param} →
       Takes env free params last behind → (locals : List Local) (args : List Value) → KindsAre params → ArePlaces wholes params → (turns : ℕ)
-      (heap : Heap) (p : ℕ) → ValuesOf heap (types_of_params params) args → AreLiterals w.Body args →
+      (heap : Heap) (p : ℕ) → ValuesOf by_rules heap (types_of_params params) args → AreLiterals w.Body args →
       free.nums + taken_by_params true params ≤ (frame_in w.unit).nums → free.refs + taken_by_params false params ≤ (frame_in w.unit).refs →
       Ahead w.Allows w.unit p (keeps params free.nums free.refs) →
       From w (begun turns heap locals wholes env.scopes) (Passed free (arguments_on true params args) (arguments_on false params args)) [] []
@@ -157,11 +158,11 @@ module _ (w : Way) where
       (give Nothing >>= λ u. keep_all params args) types.Void 1 p q) same
       (then_from w (λ u. keep_all params args)
       (λ v f. Passed (behind_one ty free) (arguments_on true params args) (arguments_on false params args) f) 0 1 p p (p + size_keeps params)
-      (omega arith) (record { falls = falls_give Nothing; sound = sound_nothing; holds = holds_give w.Body Nothing tt })
+      (omega arith) (record { falls = falls_give Nothing; sound = sound_nothing in_scopes; holds = holds_give w.Body Nothing tt })
       (λ f s is. (passed_next (is_number ty) f free arg (arguments_on true params args) (arguments_on false params args) is).0)
       (from_does w _ (does_nothing w n 0 p))
       (λ new u g done. keeps_do told wholes rest locals args kinds.1 places.1 turns new p
-      (values_kept heap new g (types_of_params params) args are.1) literals.1 room.0 room.1
+      (values_kept by_rules heap new g (types_of_params params) args are.1) literals.1 room.0 room.1
       (plain_ahead w.Allows w.unit (is_number ty) p slot params free h)))
   keeps_do told wholes (typed.Takes.as_kept name scopes is rest) locals [] kinds places turns heap p are literals nums refs h = absurd are
   keeps_do told wholes {env = env} (typed.Takes.as_kept {free = free} {position = position} {ty = ty} {rest = params} name scopes is rest) locals
@@ -188,5 +189,5 @@ module _ (w : Way) where
             (passed_next (is_number ty) f free arg (arguments_on true params args) (arguments_on false params args) so).1 has since reach;
       })
       (λ new u g done. keeps_do told wholes rest locals args kinds.1 places.1 turns new (p + 5 + 9)
-      (values_kept heap new g (types_of_params params) args are.1) literals.1 room.0 room.1
+      (values_kept by_rules heap new g (types_of_params params) args are.1) literals.1 room.0 room.1
       (kept_behind (is_number ty) p position params free h)))

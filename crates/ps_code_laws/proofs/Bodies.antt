@@ -26,7 +26,6 @@ use Rattle.ps_gen.specs.ps_emitter.Choices as choice
 use Rattle.ps_gen.specs.Units.{HasUnit, unit_of}
 use Rattle.ps_stepping.specs.Config.{frame_words, Caller, Config, code_in, frame_in, IsAt, start}
 use Rattle.ps_stepping.specs.Machine.{Step, Goes, Stops, and_touched, act, Steps, at_instruction, resumed, RunsBy, goes_by, stops_by}
-use Rattle.ps_stepping.specs.Machine as machine
 use Rattle.ps_stepping.specs.Path.{Reaches, Finishes}
 use Rattle.ps_stepping.specs.Path as path
 use Rattle.ps_soundness.specs.Running.{BodyRuns}
@@ -43,6 +42,7 @@ use Rattle.ps_code_laws.proofs.Calls.{Enters, Entered}
 use Rattle.ps_code_laws.proofs.Called.{within, Closes, Returns, body_does}
 use Rattle.ps_code_laws.proofs.Naming.{names_in_body}
 use Rattle.ps_code_laws.proofs.Inside.{bodies_inside, bodies_fit}
+use Rattle.ps_soundness.proofs.Standings.{by_rules}
 
 -- one step more before what follows
 with_end : (c : Config) (events later rest : List Event) → Finishes c (compiled_events events ++ (compiled_events later ++ rest)) →
@@ -181,7 +181,7 @@ comes_so u callers g (Value_is w e t) room k at v f s h =
     (sym h.1) ([], sym (append-nil s.events), returns u k g v f s.store callers room at))
 comes_so u callers g (Ends e t) room k at v f s h = absurd h
 
-handed : (heap : Heap) (params : List Param) (args : List Value) → AreHanded heap params args → ValuesOf heap (types_of_params params) args
+handed : (heap : Heap) (params : List Param) (args : List Value) → AreHanded heap params args → ValuesOf by_rules heap (types_of_params params) args
 handed heap [] [] h = tt
 handed heap [] (v ∷ vs) h = absurd h
 handed heap (param ∷ params) [] h = absurd h

@@ -20,23 +20,23 @@ use Rattle.ps_typing_laws.proofs.Tracked.{limit, Grows, tree_grows, LocalsBelow,
 use Rattle.ps_stepping.specs.ps_heap.Objects.{Heap}
 use Rattle.ps_stepping.specs.ps_heap.Values.{Num}
 use Rattle.ps_stepping.specs.ps_meaning.Evaluation.{eval}
-use Rattle.ps_stepping.specs.ps_meaning.Meaning.{Outcome, Value_is, Ends}
 use Rattle.ps_stepping.specs.ps_meaning.Calls.{context}
 use Rattle.ps_soundness.specs.Running.{IsPlace, HasAsMany, RunsIn, AllRunIn}
 use Rattle.ps_soundness.specs.Free.{AllBelow}
 use Rattle.ps_soundness.specs.Valued.{IsValued, AllValued}
-use Rattle.ps_soundness.specs.Shapes.{ComesToInside, type_of_body}
+use Rattle.ps_soundness.specs.Shapes.{type_of_body}
 use Rattle.ps_soundness.proofs.Telling.{Told}
 use Rattle.ps_soundness.proofs.Places.{free_slot}
-use Rattle.ps_soundness.proofs.Combining.{Standing, AreAround, IsStanding, stand, Comes, sound_then, sound_set}
+use Rattle.ps_soundness.proofs.Combining.{sound_then, sound_set}
 use Rattle.ps_soundness.proofs.Reading.{same_types}
 use Rattle.ps_stepping.specs.ps_heap.Library.{CreateDatabase, OpenDatabase, Commit, MakeTable, EnterString, LookUpString, EnterInt, LookUpInt, Cardinality, LibraryProcedure, OnHeap, ReadLine, AtEnd, Length, IntText}
 use Rattle.ps_soundness.proofs.Library.{parameters_of, library_says}
 use Rattle.ps_soundness.proofs.Rules.{as_many}
-use Rattle.ps_soundness.proofs.Calling.{sound_opened, sound_call}
+use Rattle.ps_soundness.proofs.Calling.{sound_call}
 use Rattle.ps_soundness.proofs.Scans.{key_type, SparesAll}
 use Rattle.ps_soundness.proofs.Declaring.{declared_less, scope_same, sound_set_local, declared_sound, literal_sound}
-use Rattle.ps_soundness.proofs.Bodies.{within_answers, comes_to_inside}
+use Rattle.ps_soundness.proofs.Clauses.{sound}
+use Rattle.ps_soundness.proofs.Bodies.{within_answers}
 use Rattle.ps_soundness.proofs.Valued.{valued_by, field_valued}
 use Rattle.ps_code_laws.specs.Literals.{BodiesAre, AllBodiesAre}
 use Rattle.ps_code_laws.proofs.Known.{HasPlace, IsNext, opened}
@@ -47,6 +47,8 @@ use Rattle.ps_code_laws.proofs.Giving.{Stands, parts_stand, GivesClaim, gives_ea
 use Rattle.ps_code_laws.proofs.Clauses as clause_of
 use Rattle.ps_code_laws.proofs.Clauses.{IsNum, int, bool, IsRef, str, pntr, vector, proc, Kind, of_num, of_ref, IsLoop, Sounds, KeepsTypes, Controls, IsScan, fields_by, Clause, flag, text, get_num, get_ref, set_num, set_ref, let_num, let_ref, empty, block, if_do, if_else, while, repeat, loop, kept_loop, case, and, or, not, neg, plus, arith, compare, write, write_wide, abort, nil, a_class, is_of, join, substring, structure, get_field, put_field, filled, listed, get_element, put_element, a_bound, scan, get_kept_num, get_kept_ref, set_kept_num, set_kept_ref, let_kept_num, let_kept_ref, scoped_block, literal, let_literal, let_kept_literal, call, Part, that, Items, at_end, an_item, ArmsAre, no_more, one_arm, AllAre, none_is, one_is, Args, no_arg, one_arg, clause_in, sounds_in, is_shown, kind_of, equal_by, compared}
 use Rattle.ps_soundness.proofs.Loops.{Turns}
+use Rattle.ps_soundness.proofs.Standings.{Standing, AreAround, IsStanding, stand, by_rules, in_scopes}
+use Rattle.ps_soundness.proofs.InScopes.{sound_opened}
 
 -- a local of a type that isn't void, on the stack of its type
 pub data IsSlot (nums refs slot : ℕ) (ty : TyView) : Type 0 where
@@ -91,18 +93,9 @@ are_below : (env : Env) (free : Free) → LocalsBelow env free → AllBelow env.
 are_below env free h = all_below free env.locals h
 
 -- however many turns may be left and calls are round it, and from each heap on, a clause yields a value of its type
-inside_comes : (heap : Heap) (wholes : List (List Field)) (env : Env) (ty : TyView) (o : Outcome) → ComesToInside heap wholes env ty o →
-    Comes heap (stand (Some wholes) env) ty o
-inside_comes heap wholes env ty (Value_is v f s) h =
-    record { grows = h.0.grows; typed = h.0.typed; are = (h.0.locals, h.1); value = h.0.value }
-inside_comes heap wholes env ty (Ends e s) h = h
-
 pub sounds_inside : {env : Env} {free behind : Free} {t : Node} {ty : TyView} (told : Told) (wholes : List (List Field)) →
     IsTyped env free t ty behind → RunsIn (Some wholes) t → AllBelow env.locals free → Sounds (stand (Some wholes) env) (stand (Some wholes) env) t ty
-sounds_inside {env = env} {free = free} {behind = behind} {t = t} {ty = ty} told wholes typing runs below n depth heap = record {
-  runs = λ frame state g typed_heap are. inside_comes state.store.held.objects wholes env ty (eval (context n depth) t frame state)
-      (comes_to_inside told n depth wholes env free behind t ty frame state typing runs below typed_heap are.0 are.1);
-}
+sounds_inside told wholes typing runs below n depth heap = sound told (Some wholes) typing below runs (context n depth) (within_answers told n (suc depth)) heap
 
 -- the place of a name in scope, and of the next one that the innermost scope keeps
 declared_place : (wholes : List (List Field)) (env : Env) (up position : ℕ) (ty : TyView) → IsAt env (Kept up position) ty →
@@ -320,7 +313,7 @@ module _ (told : Told) (P : BodyNode → Type 0) (valued_body : (of : BodyNode) 
       Sounds (stand (Some wholes) env) (stand (Some wholes) with_name) (node.Let place of e) types.Void
   unfolding eval
   let_sounds {env = env} {free = free} wholes e declares at below h n depth heap =
-      sound_then (h n depth heap) (λ new v g is. declared_sound told (Some wholes) declares at (are_below env free below) new v is)
+      sound_then in_scopes (h n depth heap) (λ new v g is. declared_sound told (Some wholes) declares at (are_below env free below) new v is)
 
   literal_sounds : {env with_name : Env} {free behind between : Free} {place : Place} {of : TyView} {p : BodyNode} (wholes : List (List Field)) →
       Declares env free place of with_name behind → IsTyped with_name behind (node.Proc p) of between → RunsIn (Some wholes) (node.Proc p) →
@@ -366,18 +359,18 @@ module _ (told : Told) (P : BodyNode → Type 0) (valued_body : (of : BodyNode) 
       let under = are_below env free below in
       record {
         spares = λ at low heap v. sound_set_local at types.Int v (λ now frame g are.
-            free_slot now frame free types.Int at v env.locals (omega by_arith) under are);
-        counts = λ z heap. sound_set slot types.Int (Num z) (λ now frame g are. let before = less now frame are in (
-          free_slot now frame free types.Int slot (Num z) env.locals (omega by_arith) under before.0,
+            free_slot by_rules now frame free types.Int at v env.locals (omega by_arith) under are);
+        counts = λ z heap. sound_set in_scopes slot types.Int (Num z) (λ now frame g are. let before = less now frame are in (
+          free_slot by_rules now frame free types.Int slot (Num z) env.locals (omega by_arith) under before.0,
           subst (λ (scope : Option ℕ). AreAround now scope (Some wholes) env.scopes) (sym (scope_same frame types.Int slot (Num z))) before.1,
         ));
       }
 
   -- a value in a free slot
   spares : {env : Env} {free : Free} (wholes : List (List Field)) (ty : TyView) (from : ℕ) → next_slot ty free ≤ from → LocalsBelow env free →
-      SparesAll (stand (Some wholes) env) ty from
+      SparesAll in_scopes (stand (Some wholes) env) ty from
   spares {env = env} {free = free} wholes ty from low below at above heap v =
-      sound_set_local at ty v (λ now frame g are. free_slot now frame free ty at v env.locals (omega (by_arith, low, above)) (are_below env free below) are)
+      sound_set_local at ty v (λ now frame g are. free_slot by_rules now frame free ty at v env.locals (omega (by_arith, low, above)) (are_below env free below) are)
 
   scan_is : {env : Env} {free : Free} (wholes : List (List Field)) (strings : Bool) (q s : ℕ) → q ≡ free.refs → s ≡ free.nums → LocalsBelow env free →
       IsScan (stand (Some wholes) env) strings q s
@@ -386,7 +379,7 @@ module _ (told : Told) (P : BodyNode → Type 0) (valued_body : (of : BodyNode) 
     procedures = spares {env = env} {free = free} wholes (caller (key_type strings)) q (omega by_arith) below;
     texts = spares {env = env} {free = free} wholes types.Str q (omega by_arith) below;
     ints = spares {env = env} {free = free} wholes types.Int s (omega by_arith) below;
-    answers = λ n depth line heap procedure args is vs. sound_call (context n depth) (within_answers told n (suc depth)) line procedure args
+    answers = λ n depth line heap procedure args is vs. sound_call in_scopes (context n depth) (within_answers told n (suc depth)) line procedure args
         (two (key_type strings) types.Pntr) types.Bool is vs;
   }
 
@@ -441,15 +434,15 @@ module _ (told : Told) (P : BodyNode → Type 0) (valued_body : (of : BodyNode) 
       let part = of_s inside r.3.2 in
       let controls : Controls (opened (stand (Some wholes) env) its.fields wholes) (stand (Some inside) own) (Kept 0 place)
       = λ z is heap. declared_sound told (Some inside) declares r.3.1 further heap (Num z) is in
-      let turns : (n depth : ℕ) → Turns (stand (Some wholes) env) (stand (Some wholes) env) (Some bytes) (Kept 0 place) (eval (context n depth) s)
-      = λ n depth z is heap. sound_opened bytes its (λ new g. sound_then (controls z is new) (λ last u g2 done. sounds_in part n depth last)) in
+      let turns : (n depth : ℕ) → Turns in_scopes (stand (Some wholes) env) (stand (Some wholes) env) (Some bytes) (Kept 0 place) (eval (context n depth) s)
+      = λ n depth z is heap. sound_opened bytes its (λ new g. sound_then in_scopes (controls z is new) (λ last u g2 done. sounds_in part n depth last)) in
       subst (λ (p : ℕ). Clause P nums refs (stand (Some wholes) env) (node.For slot a b c (Some bytes) (Kept 0 p) s line) types.Void) (sym first_place)
       (kept_loop its refl (subst (At (IsOfType types.Int) its.fields) first_place (innermost its.fields wholes place types.Int r.3.1))
       (is_loop slot a b c s (Kept 0 place) (with_scopes ([] ∷ env.scopes) env) env own free behind between free' slot_is refl declares are t below
       (omega by_arith) (record { nums = omega by_arith; refs = omega by_arith }) h own_below within)
       (keeps_types {env = env} {own = stand (Some wholes) env} {free = free} wholes slot slot_is below (λ new frame are. are))
       (subst (λ (p : ℕ). Controls (opened (stand (Some wholes) env) its.fields wholes) (stand (Some inside) own) (Kept 0 p)) first_place controls)
-      (subst (λ (p : ℕ). (n depth : ℕ) → Turns (stand (Some wholes) env) (stand (Some wholes) env) (Some bytes) (Kept 0 p) (eval (context n depth) s))
+      (subst (λ (p : ℕ). (n depth : ℕ) → Turns in_scopes (stand (Some wholes) env) (stand (Some wholes) env) (Some bytes) (Kept 0 p) (eval (context n depth) s))
       first_place turns)
       three.0 three.1.0 three.1.1.0 part)
 

@@ -1,6 +1,6 @@
 -- A body that is called does what it means: its scope is made, the arguments that it keeps are moved there, its clause runs, and it comes back. By
 -- induction on the turns that may be left.
-use Rattle.std.proofs.Common.{◌≡◌, ℕ, ◌+◌, ◌≤◌, Bool, true, false, List, [], ◌∷◌, ◌++◌, length, Option, Some, None, refl, sym, ap, subst, arith}
+use Rattle.std.proofs.Common.{◌≡◌, ℕ, ◌+◌, ◌≤◌, Bool, true, false, List, [], ◌∷◌, ◌++◌, length, Option, Some, None, refl, ap, subst, arith}
 use Rattle.ps_gen.specs.ps_base.TyView.{TyView, TyViews}
 use Rattle.ps_gen.specs.ps_base.TyView as types
 use Rattle.ps_gen.specs.ps_base.CodeUnit.{text as text_of}
@@ -56,6 +56,7 @@ use Rattle.ps_code_laws.proofs.Calls.{Entered}
 use Rattle.ps_code_laws.proofs.Operands.{some_depth, context_in, Stand}
 use Rattle.ps_soundness.specs.Valued.{IsValued, AllValued}
 use Rattle.ps_code_laws.proofs.Simulation.{does}
+use Rattle.ps_soundness.proofs.Standings.{by_rules}
 
 width_by : (number : Bool) (place : Place) (rest : List Param) (nums refs : ℕ) → ((n r : ℕ) → widths (keeps rest n r) ≡ size_keeps rest) →
     widths (if number then kept_at place (instr.GetM nums) (λ u i. instr.KeepM u i) ++ keeps rest (nums + 1) refs
@@ -93,7 +94,7 @@ module _ (v : Way) where
   -- after its scope, a body keeps its arguments and does what its clause means
   clause_does : (told : Told) {wholes first : List (List Field)} {params : List Param} {tree : Node} {gives : TyView}
       (h : Inside wholes first params tree gives) (turns : ℕ) → Entered v turns → (heap : Heap) (args : List Value) →
-      ValuesOf heap (types_of_params params) args → AreLiterals v.Body args → (p k : ℕ) (behind_it : List Instr) →
+      ValuesOf by_rules heap (types_of_params params) args → AreLiterals v.Body args → (p k : ℕ) (behind_it : List Instr) →
       Ahead v.Allows v.unit p (keeps params 0 0 ++ (emit tree (p + size_keeps params) k ++ behind_it)) → Named v.unit k (constants tree) →
       From v (begun turns heap h.env.locals wholes first) (Passed (record { nums = 0; refs = 0 }) (arguments_on true params args)
       (arguments_on false params args)) [] [] (keep_all params args >>= λ u. eval (context_in v turns) tree) gives (depth tree) p
@@ -181,7 +182,7 @@ module _ (told : Told) (w : Way) (callers : List Caller) (turns : ℕ) (scope : 
   pub body_does : (wholes scopes : List (List Field)) (of : BodyNode) (ps : TyViews) (g : TyView) (Is : Value → State → Type 0) →
       types.Proc ps g ≡ type_of_body of → IsBody scopes of → BodyRuns wholes of → AreScopes s.store.held.objects scope wholes scopes →
       BodyIs w.Body IsValued of → s.store.turns ≤ turns → Entered (within w of callers) turns → IsTypedHeld s.store.held → WeighsUnits s.store.held.weigh →
-      ValuesOf s.store.held.objects ps args → AreLiterals w.Body args → InHeap w.Body s.store.held.objects → Returns (within w of callers) g Is →
+      ValuesOf by_rules s.store.held.objects ps args → AreLiterals w.Body args → InHeap w.Body s.store.held.objects → Returns (within w of callers) g Is →
       Closes w Is (body_meant (context turns (length callers)) of args (frame_of_call of scope args) s) →
       w.Holds (standing (unit_of of) callers 0 [] [] (frame_of_call of scope args) s.store) s.events
   unfolding body_meant scoped ◌>>=◌ after enter frame_of_call inside_of
@@ -193,7 +194,7 @@ module _ (told : Told) (w : Way) (callers : List Caller) (turns : ℕ) (scope : 
       let heap = s.store.held.objects in
       let given : g ≡ gives = cc in
       let taken : ps ≡ types_of_params params = cc in
-      let are = subst (λ (tys : TyViews). ValuesOf heap tys args) taken values in
+      let are = subst (λ (tys : TyViews). ValuesOf by_rules heap tys args) taken values in
       let h = inside_of v wholes params gives tree None line refl takes t runs.0 runs.1 fits.1 (w.fits of fits.0).valued.0 in
       let counted : IsCounted of = (track_body (typed.of_params {line = line} typed.unscoped takes ended t)).counted in
       let whole = all_ahead w.Allows u 0 (body_instrs params gives tree None) (w.fits of fits.0).unit (w.allowed of fits.0) refl in
@@ -223,7 +224,7 @@ module _ (told : Told) (w : Way) (callers : List Caller) (turns : ℕ) (scope : 
       let heap = s.store.held.objects in
       let given : g ≡ gives = cc in
       let taken : ps ≡ types_of_params params = cc in
-      let are = subst (λ (tys : TyViews). ValuesOf heap tys args) taken values in
+      let are = subst (λ (tys : TyViews). ValuesOf by_rules heap tys args) taken values in
       let own = runs.0 in
       let h = inside_of v (own.fields ∷ wholes) params gives tree (Some bytes) line refl takes t runs.1 runs.2 fits.1 (w.fits of fits.0).valued.0 in
       let counted : IsCounted of = (track_body (typed.of_params {line = line} typed.scoped takes ended t)).counted in
@@ -235,7 +236,7 @@ module _ (told : Told) (w : Way) (callers : List Caller) (turns : ℕ) (scope : 
       let grown = grows_new heap (new_scope bytes scope) in
       let inner : Frame = record frame { scope = Some (new_number heap) } in
       let now : State = record s { store = and_object (new_scope bytes scope) s.store } in
-      let values_now = values_kept heap new grown (types_of_params params) args are in
+      let values_now = values_kept by_rules heap new grown (types_of_params params) args are in
       let does = clause_does v told h turns enters new args values_now literals 5 2 (instr.Return (choice.kind_of gives) ∷ []) whole.1 names.1 in
       let of_tree = behind w.Allows u 5 (5 + size_keeps params) (keeps params 0 0) _ (ap (λ (n : ℕ). 5 + n) (width_keeps params 0 0)) whole.1 in
       let at_return = (after_clause w.Allows u tree (5 + size_keeps params) 2 _ of_tree).0 in

@@ -26,13 +26,12 @@ use Rattle.ps_stepping.specs.ps_meaning.Frames.{arguments_on, frame_of_call}
 use Rattle.ps_stepping.specs.ps_meaning.Calls.{body_meant, call_within, context}
 use Rattle.ps_gen.specs.ps_emitter.Choices as choice
 use Rattle.ps_gen.specs.Units.{unit_of}
-use Rattle.ps_stepping.specs.Config.{frame_words, Caller, Config, code_in, IsAt}
+use Rattle.ps_stepping.specs.Config.{frame_words, Caller, Config}
 use Rattle.ps_stepping.specs.Steps.{Goes, Stops}
 use Rattle.ps_stepping.specs.Machine.{act}
 use Rattle.ps_stepping.specs.Procedures.{in_turn, waiting, body_of_call}
 use Rattle.ps_soundness.specs.Shapes.{IsOf, AreOf, IsTypedHeld, IsProcedure}
 use Rattle.ps_soundness.proofs.Growing.{procedure_kept}
-use Rattle.ps_soundness.proofs.Combining.{Standing}
 use Rattle.ps_soundness.proofs.Calling.{ValuesOf, values_kept}
 use Rattle.ps_code_laws.specs.Compiled.{compiled, compiled_all, compiled_store, WeighsUnits}
 use Rattle.ps_soundness.specs.Valued.{IsValued}
@@ -47,6 +46,7 @@ use Rattle.ps_code_laws.proofs.Operands.{context_in, Stand}
 use Rattle.ps_code_laws.proofs.RowForms.{pushed_nums, pushed_refs, pushed_nums_over, pushed_refs_over}
 use Rattle.ps_code_laws.proofs.CallForms.{Returned, back_behind, call_acts}
 use Rattle.ps_code_laws.proofs.Arguments.{fields_of, kinds_are, values_by, references_are, num_locals, ref_locals}
+use Rattle.ps_soundness.proofs.Standings.{Standing, by_rules}
 
 module _ (w : Way) where
   -- From its first instruction a body that is called does what it means where at most so many turns are left, whatever waits that has room: whatever is
@@ -54,7 +54,7 @@ module _ (w : Way) where
   abbrev pub Enters : ℕ → Type 0
   Enters n = (caller : Caller) (of : BodyNode) (scope : Option ℕ) (args : List Value) (ps : TyViews) (g : TyView) (s : State) →
       s.store.turns ≤ n → HasRoom (caller ∷ []) → IsTypedHeld s.store.held → WeighsUnits s.store.held.weigh → IsProcedure s.store.held.objects (types.Proc ps g) of scope →
-      ValuesOf s.store.held.objects ps args → BodyIs w.Body IsValued of → AreLiterals w.Body args → InHeap w.Body s.store.held.objects →
+      ValuesOf by_rules s.store.held.objects ps args → BodyIs w.Body IsValued of → AreLiterals w.Body args → InHeap w.Body s.store.held.objects →
       Returned w caller g (body_meant (context n (suc (length w.callers))) of args (frame_of_call of scope args) s) →
       w.Holds (standing (unit_of of) (caller ∷ w.callers) 0 [] [] (frame_of_call of scope args) s.store) s.events
 
@@ -102,7 +102,7 @@ module _ (w : Way) where
       (map word_of (arguments_on true params args) ++ []) (compiled_all (arguments_on false params args) ++ []) (place w (p + 9) nums refs f s.store) →
       HasRoom (waiting (place w (p + 9) nums refs f s.store) ∷ []) → IsTypedHeld s.store.held → WeighsUnits s.store.held.weigh →
       IsProcedure s.store.held.objects (types.Proc (types_of_params params) gives) (body params gives tree text line) scope →
-      ValuesOf s.store.held.objects (types_of_params params) args → BodyIs w.Body IsValued (body params gives tree text line) → AreLiterals w.Body args →
+      ValuesOf by_rules s.store.held.objects (types_of_params params) args → BodyIs w.Body IsValued (body params gives tree text line) → AreLiterals w.Body args →
       InHeap w.Body s.store.held.objects →
       Comes w (p + 9) nums refs gives (back_to f (after (turned (with_turns s.store turns)
       (frame_of_call (body params gives tree text line) scope args) s)
@@ -137,7 +137,7 @@ module _ (w : Way) where
       else Stops (Trapped TooDeep at_line) 0) →
       HasRoom (waiting (place w (p + 9) nums refs f s.store) ∷ []) → IsTypedHeld s.store.held → WeighsUnits s.store.held.weigh →
       IsProcedure s.store.held.objects (types.Proc (types_of_params params) gives) (body params gives tree text line) scope →
-      ValuesOf s.store.held.objects (types_of_params params) args → BodyIs w.Body IsValued (body params gives tree text line) → AreLiterals w.Body args →
+      ValuesOf by_rules s.store.held.objects (types_of_params params) args → BodyIs w.Body IsValued (body params gives tree text line) → AreLiterals w.Body args →
       InHeap w.Body s.store.held.objects →
       Comes w (p + 9) nums refs gives (choose deep (in_frame (frame_of_call (body params gives tree text line) scope args)
       (call_within turns (suc (length w.callers)) (body params gives tree text line) args)) (stop (Trapped TooDeep at_line)) f s) →
@@ -189,7 +189,7 @@ module _ (w : Way) where
         (call_acts w heap p at_line params gives tree text line scope args nums refs f s.store (kinds_are params (w.fits of fits.0).valued.0) values few.0 few.1)
         (let a = room.on_nums in omega arith, let a = room.on_refs in omega arith) since.typed since.weighs
         (procedure_kept heap now since.grows (types.Proc (types_of_params params) gives) of scope is)
-        (values_kept heap now since.grows (types_of_params params) args values) fits literals since.held.1 reach in
+        (values_kept by_rules heap now since.grows (types_of_params params) args values) fits literals since.held.1 reach in
         subst (λ (zs : List ℤ). w.Holds (place w p zs (pushed_refs (fields_of params) args (v ∷ []) ++ refs) f s.store) s.events)
         (sym (pushed_nums_over (fields_of params) args [] nums))
         (subst (λ (vs : List Value). w.Holds (place w p (pushed_nums (fields_of params) args nums) vs f s.store) s.events)

@@ -25,13 +25,14 @@ use Rattle.ps_soundness.specs.Running.{IsScopeText, HasField}
 use Rattle.ps_soundness.specs.Shapes.{IsOf}
 use Rattle.ps_soundness.specs.Valued.{IsValued}
 use Rattle.ps_soundness.proofs.Library.{parameters_of, type_given}
-use Rattle.ps_soundness.proofs.Combining.{Standing, Sound, sound_then, sound_give}
+use Rattle.ps_soundness.proofs.Combining.{Sound, sound_then, sound_give}
 use Rattle.ps_soundness.proofs.Calling.{ValuesOf}
 use Rattle.ps_soundness.proofs.Scans.{key_type, SparesAll}
 use Rattle.ps_soundness.proofs.Loops.{Settable, Turns, Spares}
 use Rattle.ps_code_laws.specs.Literals.{BodiesAre, AllBodiesAre}
 use Rattle.ps_code_laws.proofs.Known.{HasPlace, opened}
 use Rattle.ps_code_laws.proofs.Keeps.{on_nums, on_refs, Keeps}
+use Rattle.ps_soundness.proofs.Standings.{Standing, by_rules, in_scopes}
 
 -- the types whose values are numbers, those whose values are references, and those that can be written
 pub data IsNum : TyView → Type 0 where
@@ -69,29 +70,29 @@ pub record IsLoop (nums slot : ℕ) (b c s : Node) : Type 0 where
 
 -- however many turns may be left and calls are round it, and from each heap on, a clause yields a value of its type
 abbrev pub Sounds : Standing → Standing → Node → TyView → Type 0
-Sounds first last t ty = (n depth : ℕ) (heap : Heap) → Sound heap first last ty (eval (context n depth) t)
+Sounds first last t ty = (n depth : ℕ) (heap : Heap) → Sound in_scopes heap first last ty (eval (context n depth) t)
 
 -- what a loop by `for` keeps of what is known, and of what is known after a turn
 pub record KeepsTypes (known own : Standing) (slot : ℕ) : Type 0 where
-  pub spares : (at : ℕ) → slot ≤ at → Spares known at
-  pub counts : (z : ℤ) → Settable own known (Plain slot) z
+  pub spares : (at : ℕ) → slot ≤ at → Spares in_scopes known at
+  pub counts : (z : ℤ) → Settable in_scopes own known (Plain slot) z
 
 -- a control has a number that is an int, from each heap on
 abbrev pub Controls : Standing → Standing → Place → Type 0
-Controls first last control = (z : ℤ) → is_int z ≡ true → Settable first last control z
+Controls first last control = (z : ℤ) → is_int z ≡ true → Settable in_scopes first last control z
 
 -- and so has it in a scope of its own in each turn, however many turns may be left and calls are round it
 abbrev pub TurnsIn : Standing → List ℕ → Node → Type 0
-TurnsIn known bytes s = (n depth : ℕ) → Turns known known (Some bytes) (Kept 0 0) (eval (context n depth) s)
+TurnsIn known bytes s = (n depth : ℕ) → Turns in_scopes known known (Some bytes) (Kept 0 0) (eval (context n depth) s)
 
 -- what a scan needs: its locals of each row are free, and its procedure, called with a key and what is under it, yields a bool
 pub record IsScan (known : Standing) (strings : Bool) (q s : ℕ) : Type 0 where
-  pub pntrs : SparesAll known types.Pntr q
-  pub procedures : SparesAll known (caller (key_type strings)) q
-  pub texts : SparesAll known types.Str q
-  pub ints : SparesAll known types.Int s
+  pub pntrs : SparesAll in_scopes known types.Pntr q
+  pub procedures : SparesAll in_scopes known (caller (key_type strings)) q
+  pub texts : SparesAll in_scopes known types.Str q
+  pub ints : SparesAll in_scopes known types.Int s
   pub answers : (n depth : ℕ) (line : Line) (heap : Heap) (procedure : Value) (args : List Value) → IsOf heap (caller (key_type strings)) procedure →
-      ValuesOf heap (two (key_type strings) types.Pntr) args → Sound heap known known types.Bool (call_meant (context n depth) line procedure args)
+      ValuesOf by_rules heap (two (key_type strings) types.Pntr) args → Sound in_scopes heap known known types.Bool (call_meant (context n depth) line procedure args)
 
 -- the types of arguments as those of fields, by which the words of a row go
 abbrev pub fields_by : TyViews → List Field
@@ -267,10 +268,10 @@ behind_items (at_end {known = known}) = known
 behind_items (an_item first sounds fit rest) = behind_items rest
 
 pub items_sound : {P : BodyNode → Type 0} {nums refs : ℕ} {known : Standing} {before ty : TyView} {ts : Nodes} (h : Items P nums refs known before ts ty) (n depth : ℕ)
-    (heap : Heap) (v : Value) → IsOf heap before v → Sound heap known (behind_items h) ty (eval_all (context n depth) v ts)
+    (heap : Heap) (v : Value) → IsOf heap before v → Sound in_scopes heap known (behind_items h) ty (eval_all (context n depth) v ts)
 unfolding eval_all behind_items
-items_sound at_end n depth heap v is = sound_give v is
-items_sound (an_item first sounds fit rest) n depth heap v is = sound_then (sounds n depth heap) (λ new w g of. items_sound rest n depth new w of)
+items_sound at_end n depth heap v is = sound_give in_scopes v is
+items_sound (an_item first sounds fit rest) n depth heap v is = sound_then in_scopes (sounds n depth heap) (λ new w g of. items_sound rest n depth new w of)
 
 pub items_fit : {P : BodyNode → Type 0} {nums refs : ℕ} {known : Standing} {before ty : TyView} {ts : Nodes} → Items P nums refs known before ts ty → AllBodiesAre P IsValued ts
 items_fit at_end = tt

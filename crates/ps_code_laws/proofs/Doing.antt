@@ -20,7 +20,7 @@ use Rattle.ps_stepping.specs.ps_heap.Objects.{Heap}
 use Rattle.ps_stepping.specs.ps_meaning.Loops.{while_turns}
 use Rattle.ps_soundness.specs.Shapes.{IsOf, IsTypedHeld, Grows}
 use Rattle.ps_soundness.proofs.Growing.{grows_not, grows_then}
-use Rattle.ps_soundness.proofs.Combining.{Standing, IsStanding, Sound, sound_then}
+use Rattle.ps_soundness.proofs.Combining.{Sound, sound_then}
 use Rattle.ps_soundness.proofs.Combining as combining
 use Rattle.ps_stepping.specs.Config.{frame_words, Caller, Config, code_in, frame_in, IsAt}
 use Rattle.ps_stepping.specs.Machine.{Step, Goes, Stops, Stuck, and_touched, on, push_num, push_ref, forward, back, turn_to, answered, act}
@@ -35,6 +35,7 @@ use Rattle.ps_code_laws.specs.Literals.{Fits, instrs_of}
 use Rattle.ps_code_laws.proofs.Standing.{AtBy}
 use Rattle.ps_code_laws.proofs.Literals.{IsLiteral, InHeap, InFrame}
 use Rattle.ps_code_laws.proofs.Holding.{Left, Holds, holds_then}
+use Rattle.ps_soundness.proofs.Standings.{Standing, IsStanding, in_scopes}
 
 -- A run of a unit, inside bodies that wait, that is to come to something: whatever is so of what a step returns is so of what it
 -- starts from. The events are the meaning's.
@@ -149,14 +150,14 @@ since_left n last ty v f s left = record {
 -- a part that takes turns alone, and yields a value of a type
 pub record Leads (P : BodyNode → Type 0) (n : Origin) (last : Standing) (ty : TyView) (a : Meaning) : Type 0 where
   pub falls : Falling a
-  pub sound : Sound n.heap n.known last ty a
+  pub sound : Sound in_scopes n.heap n.known last ty a
   pub holds : Holds P a
 
-left_of : (P : BodyNode → Type 0) (n : Origin) (last : Standing) (ty : TyView) (old : Store) (o : Outcome) → old.turns ≤ n.turns → Grows n.heap old.held.objects →
-    WeighsUnits old.held.weigh → Falls old o → combining.Comes old.held.objects last ty o → Left P o → Behind P n last ty o
-left_of P n last ty old (Value_is v f s) le g weighs falls h k = record {
+left_of : (P : BodyNode → Type 0) (n : Origin) (last : Standing) (ty : TyView) (before : State) (o : Outcome) → before.store.turns ≤ n.turns → Grows n.heap before.store.held.objects →
+    WeighsUnits before.store.held.weigh → Falls before.store o → combining.Comes in_scopes before last ty o → Left P o → Behind P n last ty o
+left_of P n last ty before (Value_is v f s) le g weighs falls h k = record {
   few = let fewer = falls.0 in omega arith;
-  grows = grows_then n.heap old.held.objects s.store.held.objects g h.grows;
+  grows = grows_then n.heap before.store.held.objects s.store.held.objects g h.grows;
   typed = h.typed;
   are = h.are;
   value = h.value;
@@ -164,25 +165,25 @@ left_of P n last ty old (Value_is v f s) le g weighs falls h k = record {
   literal = k.0;
   weighs = subst WeighsUnits (sym falls.1) weighs;
 }
-left_of P n last ty old (Ends e s) le g weighs falls h k = tt
+left_of P n last ty before (Ends e s) le g weighs falls h k = tt
 
 pub leads_left : {P : BodyNode → Type 0} {n : Origin} {last : Standing} {ty : TyView} {a : Meaning} {f : Frame} {s : State} → Leads P n last ty a → IsSince P n f s →
     Behind P n last ty (a f s)
 leads_left {P = P} {n = n} {last = last} {ty = ty} {a = a} {f = f} {s = s} leads since =
-    left_of P n last ty s.store (a f s) since.few since.grows since.weighs (leads.falls f s)
+    left_of P n last ty s (a f s) since.few since.grows since.weighs (leads.falls f s)
     (leads.sound.runs f s since.grows since.typed since.are) (leads.holds f s since.held.0 since.held.1)
 
 pub leads_more : {P : BodyNode → Type 0} {n : Origin} {last : Standing} {ty : TyView} {a : Meaning} {m : ℕ} {heap : Heap} → m ≤ n.turns → Grows n.heap heap →
     Leads P n last ty a →
     Leads P (record { turns = m; heap = heap; known = n.known }) last ty a
-leads_more {heap = heap} le g h = record { falls = h.falls; sound = combining.later heap g h.sound; holds = h.holds }
+leads_more {heap = heap} le g h = record { falls = h.falls; sound = combining.later in_scopes heap g h.sound; holds = h.holds }
 
 -- one part, and then another that needs no value of it
 pub leads_then : {P : BodyNode → Type 0} {n : Origin} {between last : Standing} {tya ty : TyView} {a b : Meaning} → Leads P n between tya a →
     ((new : Heap) → Grows n.heap new → Leads P (after_it n new between) last ty b) → Leads P n last ty (a >>= λ u. b)
 leads_then {P = P} {n = n} {a = a} {b = b} h k = record {
   falls = falls_then a (λ u. b) h.falls (λ u. (k n.heap (grows_not n.heap)).falls);
-  sound = sound_then h.sound (λ new u g is. (k new g).sound);
+  sound = sound_then in_scopes h.sound (λ new u g is. (k new g).sound);
   holds = holds_then P a (λ u. b) h.holds (λ u literal. (k n.heap (grows_not n.heap)).holds);
 }
 

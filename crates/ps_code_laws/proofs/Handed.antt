@@ -12,6 +12,7 @@ use Rattle.ps_stepping.specs.ps_meaning.Meaning.{Frame, local_of}
 use Rattle.ps_stepping.specs.ps_meaning.Frames.{arguments_on, frame_of_call}
 use Rattle.ps_soundness.specs.Shapes.{IsOf, AreLocals}
 use Rattle.ps_soundness.proofs.Calling.{ValuesOf}
+use Rattle.ps_soundness.proofs.Standings.{by_rules}
 
 behind_front : (front : List Value) (v : Value) (rest : List Value) (other : Value) → get_or (front ++ v ∷ rest) (length front) other ≡ v
 behind_front [] v rest other = refl
@@ -84,7 +85,7 @@ none_passed params gives tree text line scope args =
 -- the locals in scope have the values of their types
 pub locals_handed : {env last : Env} {free behind : Free} {params : List Param} (heap : Heap) (frame : Frame) (args : List Value) →
     Takes env free params last behind → Passed free (arguments_on true params args) (arguments_on false params args) frame →
-    ValuesOf heap (types_of_params params) args → AreLocals heap frame env.locals → AreLocals heap frame last.locals
+    ValuesOf by_rules heap (types_of_params params) args → AreLocals heap frame env.locals → AreLocals heap frame last.locals
 unfolding arguments_on
 locals_handed heap frame args typed.Takes.no_more rows are known = known
 locals_handed heap frame [] (typed.Takes.as_local e rest) rows are known = absurd are

@@ -1,14 +1,14 @@
 -- What is touched, read and assigned over what the machine holds, is touched, read and assigned over what the meaning holds, compiled; and as much is
 -- counted, where code weighs what its unit does.
-use Rattle.std.proofs.Common.{◌≡◌, ℕ, zero, suc, ◌+◌, ℤ, Bool, List, [], ◌∷◌, ◌++◌, length, Option, Some, None, refl, sym, ap, ◌∙◌}
+use Rattle.std.proofs.Common.{◌≡◌, ℕ, zero, suc, ◌+◌, ℤ, List, [], ◌∷◌, ◌++◌, length, Option, Some, None, refl, ap, ◌∙◌}
 use Rattle.std.specs.Prelude.{if◌then◌else◌}
-use Rattle.ps_stepping.specs.ps_heap.Values.{Value, Num, Nil, Pointer, Procedure, Routine}
+use Rattle.ps_stepping.specs.ps_heap.Values.{Value, Pointer, Procedure, Routine}
 use Rattle.ps_stepping.specs.ps_heap.Tables.{Entry, without_keys, by_strings, by_ints}
 use Rattle.ps_stepping.specs.ps_heap.Objects.{Heap, Object, Structure, Elements, Scope, Keyed, object_at, id_of, place_of, vector_in, low_in, elements_in}
-use Rattle.ps_stepping.specs.ps_heap.Scopes.{parent_in, scope_out, name_in, with_kept_name, kept_name}
+use Rattle.ps_stepping.specs.ps_heap.Scopes.{parent_in, scope_out, with_kept_name, kept_name}
 use Rattle.ps_stepping.specs.ps_heap.References.{pointers, values_of}
 use Rattle.ps_stepping.specs.ps_heap.Weights.{text_weight, closure_weight, full_weight, value_weight, values_weight, whole_weight}
-use Rattle.ps_stepping.specs.ps_heap.Held.{Place, Part, Held, weight_at, is_first_touch, touched_with, touched_after, touched_weight, touching, denoted, reading, way_out, reading_name, place_or_first, element_place, places_with_name, assigned_name}
+use Rattle.ps_stepping.specs.ps_heap.Held.{Part, Held, weight_at, is_first_touch, touched_with, touched_after, touched_weight, touching, denoted, reading, way_out, reading_name, place_or_first, element_place, places_with_name, assigned_name}
 use Rattle.ps_code_laws.specs.Compiled.{compiled, compiled_all, compiled_object, compiled_heap, compiled_held, WeighsUnits}
 use Rattle.ps_code_laws.proofs.Compiling.{compiled_found, object_compiled, weight_compiled, found_compiled, place_compiled, parent_compiled, out_compiled, kept_name_compiled}
 

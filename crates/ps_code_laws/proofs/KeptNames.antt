@@ -16,11 +16,12 @@ use Rattle.ps_stepping.specs.Procedures.{of_scope}
 use Rattle.ps_typing_laws.specs.ps_typing.WellTyped.{At, IsOfType}
 use Rattle.ps_soundness.specs.Shapes.{IsScopeAt}
 use Rattle.ps_soundness.proofs.Fields.{form_at}
-use Rattle.ps_soundness.proofs.Scopes.{front_at, IsFound, IsName}
+use Rattle.ps_soundness.proofs.Scopes.{front_at, IsName}
 use Rattle.ps_code_laws.specs.Compiled.{compiled, compiled_all, compiled_heap}
 use Rattle.ps_code_laws.proofs.Clauses.{IsNum, IsRef}
 use Rattle.ps_code_laws.proofs.Compiling.{compiled_found, values_put, object_compiled, object_put, out_compiled}
 use Rattle.ps_code_laws.proofs.Attempts.{number_form, reference_form, kept_word}
+use Rattle.ps_soundness.proofs.Names.{IsFound}
 
 abbrev pub text_of : List Field → List ℕ
 text_of whole = class_text (codes "scope") whole

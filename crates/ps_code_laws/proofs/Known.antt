@@ -3,7 +3,7 @@ use Rattle.std.proofs.Common.{◌≡◌, ℕ, List, [], ◌∷◌, Some}
 use Rattle.ps_gen.specs.ps_base.TyView.{TyView}
 use Rattle.ps_type_text.specs.Texts.{Field}
 use Rattle.ps_typing_laws.specs.ps_typing.WellTyped.{At, IsOfType}
-use Rattle.ps_soundness.proofs.Combining.{Standing}
+use Rattle.ps_soundness.proofs.Standings.{Standing}
 
 -- A name of this type that a scope round a clause keeps: it has had its declaration, or it is the next of the current scope.
 pub record IsKept (known : Standing) (up position : ℕ) (ty : TyView) : Type 0 where

@@ -1,5 +1,5 @@
 -- A call of the library over what the machine holds answers what it answers over what the meaning holds, compiled.
-use Rattle.std.proofs.Common.{◌≡◌, ℕ, ◌+◌, pos, Bool, true, false, List, [], ◌∷◌, ◌++◌, length, set, Option, Some, None, refl, sym, ap, ◌∙◌}
+use Rattle.std.proofs.Common.{◌≡◌, ℕ, pos, Bool, true, false, List, [], ◌∷◌, ◌++◌, length, set, Option, Some, None, refl, sym, ap, ◌∙◌}
 use Rattle.std.specs.Prelude.{codes, suc, if◌then◌else◌}
 use Rattle.std.proofs.lemmas.List.{length-map, map-append}
 use Rattle.ps_gen.specs.ps_base.declared.trap.Trap.TheVariants.{Overflow}
@@ -11,13 +11,13 @@ use Rattle.ps_stepping.specs.ps_heap.Objects.{Heap, Object, Structure, Elements,
 use Rattle.ps_stepping.specs.ps_heap.Weights.{entry_weight, whole_weight}
 use Rattle.ps_stepping.specs.ps_heap.Databases.{Database, Numbered, Mode, Opening, Fault, Admission, Admits, Refuses, open_for_writing, create_fault, admission, directory_weight}
 use Rattle.ps_stepping.specs.ps_heap.Databases as database
-use Rattle.ps_stepping.specs.ps_heap.Held.{Under, Reply, Free, Busy, Stale, Held, counting, with_object, made, noted, reading, touching}
+use Rattle.ps_stepping.specs.ps_heap.Held.{Under, Reply, Free, Busy, Stale, Held, counting, made, noted, reading, touching}
 use Rattle.ps_stepping.specs.ps_heap.Commit.{Decision, NotWritable, NothingToDo, Saves, decision, is_empty}
 use Rattle.ps_stepping.specs.ps_heap.Events.{Event}
 use Rattle.ps_stepping.specs.ps_heap.Calls.{Answer, answer_of, new_table, then_try, is_new_entry, table_put, enter_call, lookup_call, number_answered, cardinality_call, error_record, refused, asks_to_create, asks_to_open, reply_in, replies_after, by_reply, if_replied, created_database, create_unless, create_answer, opened_database, open_as, open_by, open_answer, commit_by, commit_call}
 use Rattle.ps_stepping.specs.ps_heap.Library.{HeapProcedure, CreateDatabase, OpenDatabase, Commit, MakeTable, EnterString, LookUpString, EnterInt, LookUpInt, Cardinality, text_argument, then_answered, heap_call}
 use Rattle.ps_stepping.specs.ps_heap.Scans.{next_in_table, next_key}
-use Rattle.ps_code_laws.specs.Compiled.{compiled, compiled_all, compiled_object, compiled_heap, compiled_held, compiled_stored, compiled_event, compiled_events, WeighsUnits}
+use Rattle.ps_code_laws.specs.Compiled.{compiled, compiled_all, compiled_object, compiled_heap, compiled_held, compiled_event, compiled_events, WeighsUnits}
 use Rattle.ps_code_laws.proofs.Compiling.{word_compiled, value_compiled, compiled_attempt, compiled_found, object_compiled, object_put, new_compiled, object_held}
 use Rattle.ps_code_laws.proofs.HeldCompiling.{touching_compiled, id_compiled}
 use Rattle.ps_code_laws.proofs.CommitCompiling.{compiled_decision, decision_compiled}

@@ -1,37 +1,33 @@
 -- Calls of the library do what they mean: those over tables and databases, with what they ask and save, and those over texts and the input.
-use Rattle.std.proofs.Common.{◌≡◌, ℕ, ◌+◌, ◌<◌, ℤ, pos, Bool, List, [], ◌∷◌, ◌++◌, length, Option, Some, refl, sym, ap, ◌∙◌, subst, arith}
+use Rattle.std.proofs.Common.{◌≡◌, ℕ, ◌+◌, ℤ, pos, List, [], ◌∷◌, ◌++◌, length, Option, Some, refl, sym, ap, ◌∙◌, subst, arith}
 use Rattle.std.specs.Fmt.{signed_decimal}
 use Rattle.ps_gen.specs.ps_base.TyView.{TyView, TyViews}
 use Rattle.ps_gen.specs.ps_base.TyView as types
-use Rattle.ps_gen.specs.ps_base.Instr.{width_of}
 use Rattle.ps_gen.specs.ps_base.declared.line.Line.{Line}
 use Rattle.ps_gen.specs.ps_base.declared.instr.Instr.{Instr}
 use Rattle.ps_gen.specs.ps_base.declared.instr.Instr.TheVariants as instr
 use Rattle.ps_typing_laws.specs.ps_typing.Library.{one, two, three}
 use Rattle.ps_stepping.specs.ps_heap.Texts.{Attempt, Yields, Fails, line_read, behind_line, is_at_end}
-use Rattle.ps_stepping.specs.ps_heap.Values.{Value, Num, Flag, Text, Nil, Pointer, Nothing, word_of, number_of, bytes_of}
-use Rattle.ps_stepping.specs.ps_heap.Objects.{Heap, value_at}
-use Rattle.ps_stepping.specs.ps_heap.Held.{Held}
-use Rattle.ps_stepping.specs.ps_heap.Events.{Event}
+use Rattle.ps_stepping.specs.ps_heap.Values.{Value, Num, Text, word_of, number_of}
+use Rattle.ps_stepping.specs.ps_heap.Objects.{Heap}
 use Rattle.ps_stepping.specs.ps_heap.Calls.{Answer}
-use Rattle.ps_stepping.specs.ps_heap.Library.{HeapProcedure, CreateDatabase, OpenDatabase, Commit, MakeTable, EnterString, LookUpString, EnterInt, LookUpInt, Cardinality, LibraryProcedure, OnHeap, ReadLine, AtEnd, Length, IntText, library_procedure, text_argument, heap_call}
-use Rattle.ps_stepping.specs.ps_meaning.Meaning.{Frame, Store, State, Meaning, give, after, ◌>>=◌, attempt, put_answer, answered, made_text, with_input, put_input, on_held, on_input, stop}
+use Rattle.ps_stepping.specs.ps_heap.Library.{HeapProcedure, CreateDatabase, OpenDatabase, Commit, MakeTable, EnterString, LookUpString, EnterInt, LookUpInt, Cardinality, LibraryProcedure, OnHeap, ReadLine, AtEnd, Length, IntText, library_procedure, heap_call}
+use Rattle.ps_stepping.specs.ps_meaning.Meaning.{Frame, Store, State, give, after, ◌>>=◌, attempt, put_answer, answered, made_text, with_input, put_input, on_held, on_input, stop}
 use Rattle.ps_stepping.specs.ps_meaning.Operations.{read_line, at_end, lib_meant}
-use Rattle.ps_stepping.specs.Config.{Config, frame_words, code_in, frame_in, IsAt}
-use Rattle.ps_stepping.specs.Steps.{Step, Goes, attempted, pop_num, pop_text}
+use Rattle.ps_stepping.specs.Config.{Config, frame_words, frame_in}
+use Rattle.ps_stepping.specs.Steps.{Step, Goes, attempted}
 use Rattle.ps_stepping.specs.Machine.{act}
-use Rattle.ps_stepping.specs.Objects.{object_of, pop_object}
-use Rattle.ps_stepping.specs.Library.{answering, gives_nothing, gives_num, gives_ref, answered_by, call_on_heap, library_of}
+use Rattle.ps_stepping.specs.Library.{gives_nothing, gives_num, gives_ref, answered_by, call_on_heap, library_of}
 use Rattle.ps_soundness.specs.Shapes.{IsOf, AreOf}
 use Rattle.ps_soundness.proofs.HeapCalls.{taken_by, given_by}
 use Rattle.ps_soundness.proofs.Library.{parameters_of, type_given}
-use Rattle.ps_code_laws.specs.Compiled.{compiled, compiled_all, compiled_held, compiled_store, compiled_events}
+use Rattle.ps_code_laws.specs.Compiled.{compiled, compiled_all, compiled_events}
 use Rattle.ps_code_laws.specs.Meets.{nums_left, refs_left}
 use Rattle.ps_code_laws.proofs.Compiling.{word_compiled, compiled_attempt}
 use Rattle.ps_code_laws.proofs.LibraryCompiling.{compiled_answer, heap_call_compiled}
 use Rattle.ps_code_laws.proofs.Clauses.{fields_by}
 use Rattle.ps_code_laws.proofs.Standing.{AtBy}
-use Rattle.ps_code_laws.proofs.Doing.{Origin, IsSince, IsQuietly, Way, place, Comes, Room, Does, step, halt_there, if_lt, does_meant, push_goes}
+use Rattle.ps_code_laws.proofs.Doing.{Origin, IsQuietly, Way, place, Comes, Room, Does, step, halt_there, if_lt, does_meant, push_goes}
 use Rattle.ps_code_laws.proofs.Operands.{Stand}
 use Rattle.ps_code_laws.proofs.Attempts.{quiet_give, quiet_attempt, quiet_made_text, attempt_steps, text_steps, object_pops}
 use Rattle.ps_code_laws.proofs.RowForms.{pushed_nums, pushed_refs}

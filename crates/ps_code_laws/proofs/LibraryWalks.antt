@@ -1,11 +1,11 @@
 -- What calls over tables and databases keep: what code weighs, and that the heap has literals alone.
-use Rattle.std.proofs.Common.{◌≡◌, ℕ, suc, Bool, true, false, List, [], ◌∷◌, length, Option, Some, None, refl, set}
+use Rattle.std.proofs.Common.{◌≡◌, ℕ, suc, Bool, true, false, List, [], ◌∷◌, length, Option, Some, None, refl}
 use Rattle.std.specs.Prelude.{codes, pos, if◌then◌else◌}
 use Rattle.ps_gen.specs.ps_base.declared.line.Line.{Line}
 use Rattle.ps_gen.specs.ps_base.declared.trap.Trap.TheVariants.{Overflow}
 use Rattle.ps_gen.specs.ps_program.Node.{BodyNode}
 use Rattle.ps_stepping.specs.ps_heap.Operators.{is_int}
-use Rattle.ps_stepping.specs.ps_heap.Values.{Value, Num, Text, Nil, Pointer, Nothing, word_of}
+use Rattle.ps_stepping.specs.ps_heap.Values.{Value, Num, Nothing, word_of}
 use Rattle.ps_stepping.specs.ps_heap.Texts.{Attempt, Yields, Fails}
 use Rattle.ps_stepping.specs.ps_heap.Tables.{Key, string_key, int_key, Table, without_keys, on_yield, entered, looked_up, cardinality}
 use Rattle.ps_stepping.specs.ps_heap.Objects.{Keyed, table_of, id_of, object_of_value, value_of_object, value_at}
@@ -13,7 +13,7 @@ use Rattle.ps_stepping.specs.ps_heap.Databases.{Numbered, Mode, Reading, Writing
 use Rattle.ps_stepping.specs.ps_heap.Databases as database
 use Rattle.ps_stepping.specs.ps_heap.Held.{Reply, Free, Busy, Stale, Held, counting, touching, reading}
 use Rattle.ps_stepping.specs.ps_heap.Commit.{Decision, NotWritable, NothingToDo, Saves, decision, is_empty}
-use Rattle.ps_stepping.specs.ps_heap.Calls.{Answer, answer_of, then_try, new_table, table_put, enter_call, lookup_call, number_answered, cardinality_call, error_record, refused, asks_to_create, asks_to_open, reply_in, replies_after, by_reply, if_replied, created_database, create_unless, create_answer, opened_database, open_as, open_by, open_answer, commit_by, commit_call}
+use Rattle.ps_stepping.specs.ps_heap.Calls.{Answer, answer_of, then_try, new_table, table_put, enter_call, lookup_call, cardinality_call, error_record, refused, asks_to_create, asks_to_open, reply_in, replies_after, by_reply, if_replied, created_database, create_unless, create_answer, opened_database, open_as, open_by, open_answer, commit_by, commit_call}
 use Rattle.ps_stepping.specs.ps_heap.Library.{HeapProcedure, CreateDatabase, OpenDatabase, Commit, MakeTable, EnterString, LookUpString, EnterInt, LookUpInt, Cardinality, text_argument, heap_call}
 use Rattle.ps_stepping.specs.ps_meaning.Loops.{Scanning}
 use Rattle.ps_stepping.specs.ps_meaning.Evaluation.{Context, call_meant}

@@ -20,12 +20,12 @@ use Rattle.ps_stepping.specs.ps_heap.Ends.{Trapped}
 use Rattle.ps_stepping.specs.ps_heap.Values.{Value, Num, Nothing, word_of}
 use Rattle.ps_stepping.specs.ps_meaning.Meaning.{Frame, Store, State, Outcome, Value_is, Ends, Meaning, give, stop, after, ◌>>=◌, choose, in_scope, with_turns, spent, take_turn, with_local, change, set}
 use Rattle.ps_stepping.specs.ps_meaning.Loops.{Counting, goes_on, in_turn, for_turns, for_loop, for_meant}
-use Rattle.ps_stepping.specs.Config.{Config, code_in, constants_in, constant_at, frame_in, IsAt}
+use Rattle.ps_stepping.specs.Config.{Config, constants_in, constant_at, frame_in}
 use Rattle.ps_stepping.specs.Machine.{turn_to, started, counted, act}
 use Rattle.ps_code_laws.specs.Compiled.{compiled_store}
 use Rattle.ps_soundness.specs.Running.{IsScopeText}
 use Rattle.ps_soundness.specs.Shapes.{IsOf, Grows}
-use Rattle.ps_soundness.proofs.Combining.{Standing, Sound}
+use Rattle.ps_soundness.proofs.Combining.{Sound}
 use Rattle.ps_soundness.proofs.Growing.{grows_not, grows_then}
 use Rattle.ps_soundness.proofs.Loops.{goes_on_int}
 use Rattle.ps_code_laws.proofs.Known.{HasPlace, next, opened}
@@ -40,6 +40,7 @@ use Rattle.ps_code_laws.proofs.Doing.{Origin, IsSince, after_it, Leads, leads_mo
 use Rattle.ps_code_laws.proofs.From.{On, From, from_does, then_from, fewer_from}
 use Rattle.ps_code_laws.proofs.ScopeForms.{does_set_kept}
 use Rattle.ps_code_laws.proofs.Scoping.{from_scoped}
+use Rattle.ps_soundness.proofs.Standings.{Standing, in_scopes}
 
 same_local : (row : ℕ → Value) (slot : ℕ) (v : Value) → with_local row slot v slot ≡ v
 same_local row slot v = if_true (nat_eq slot slot) v (row slot) (eq-eqb slot slot refl)
@@ -362,7 +363,7 @@ module _ (w : Way) where
       (its : IsScopeText bytes) (are : n.known.wholes ≡ Some wholes) (at : IsNth (IsOfType types.Int) its.fields 0)
       (three : slot + 2 < (frame_in w.unit).nums) (few : ns ≤ need) (one : 1 ≤ need)
       (controls : Controls (opened n.known its.fields wholes) own (Kept 0 0)) (leads : Leads w.Body (after_it n n.heap own) own types.Void clause)
-      (sound : (z : ℤ) → is_int z ≡ true → Sound n.heap n.known n.known types.Void (turn_meant (Some bytes) (Kept 0 0) clause z))
+      (sound : (z : ℤ) → is_int z ≡ true → Sound in_scopes n.heap n.known n.known types.Void (turn_meant (Some bytes) (Kept 0 0) clause z))
       (stays : Stays clause) (scope_at : AtBy w.Allows w.unit turn (instr.Scope k))
       (named : constant_at (constants_in w.unit) k ≡ Some (text bytes)) (get_at : AtBy w.Allows w.unit (turn + 5) (instr.GetM slot))
       (keep_at : AtBy w.Allows w.unit (turn + 5 + 5) (instr.KeepM 0 0))

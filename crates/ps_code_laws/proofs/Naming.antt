@@ -14,7 +14,7 @@ use Rattle.ps_soundness.specs.Shapes.{type_of_body}
 use Rattle.ps_soundness.specs.Running.{RunsIn, AllRunIn, BodyRuns}
 use Rattle.ps_soundness.proofs.Valued.{valued_by, AreValued, declared_valued}
 use Rattle.ps_soundness.proofs.Declaring.{literal_is}
-use Rattle.ps_code_laws.specs.Literals.{BodiesAre, BodyIs, AllBodiesAre, ArmsBodiesAre, AreFieldsValued, AreScopesValued, Fits}
+use Rattle.ps_code_laws.specs.Literals.{BodiesAre, BodyIs, AllBodiesAre, ArmsBodiesAre, AreFieldsValued, AreScopesValued}
 use Rattle.ps_code_laws.proofs.Keeps.{each_left, each_right}
 use Rattle.ps_code_laws.proofs.Giving.{Stands, parts_stand, gives}
 

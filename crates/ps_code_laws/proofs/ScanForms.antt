@@ -6,7 +6,6 @@ use Rattle.std.proofs.lemmas.Bool.{eqb-false}
 use Rattle.ps_gen.specs.ps_program.Node.{BodyNode}
 use Rattle.ps_gen.specs.ps_base.TyView.{TyView}
 use Rattle.ps_gen.specs.ps_base.TyView as types
-use Rattle.ps_gen.specs.ps_base.Instr.{width_of}
 use Rattle.ps_gen.specs.ps_base.declared.line.Line.{Line}
 use Rattle.ps_gen.specs.ps_base.declared.trap.Trap.TheVariants.{Overflow}
 use Rattle.ps_gen.specs.ps_base.declared.instr.Instr.TheVariants as instr
@@ -15,31 +14,29 @@ use Rattle.ps_typing_laws.specs.ps_typing.Library.{caller, two}
 use Rattle.ps_stepping.specs.ps_heap.Operators.{is_int, is_same}
 use Rattle.ps_stepping.specs.ps_heap.Ends.{End, Trapped, OutOfTurns}
 use Rattle.ps_stepping.specs.ps_heap.Texts.{Attempt, Yields, Fails}
-use Rattle.ps_stepping.specs.ps_heap.Values.{Value, Num, Text, Nil, Pointer, Procedure, Nothing, as_written, word_of, bytes_of, is_one, flag_of}
+use Rattle.ps_stepping.specs.ps_heap.Values.{Value, Num, Text, Nil, Pointer, Procedure, as_written, word_of, bytes_of, is_one, flag_of}
 use Rattle.ps_stepping.specs.ps_heap.Tables.{Key, string_key, int_key}
 use Rattle.ps_stepping.specs.ps_heap.Objects.{Heap}
-use Rattle.ps_stepping.specs.ps_heap.Events.{Event}
-use Rattle.ps_stepping.specs.ps_heap.Held.{Held, touched_weight, touching}
+use Rattle.ps_stepping.specs.ps_heap.Held.{touched_weight, touching}
 use Rattle.ps_stepping.specs.ps_heap.Scans.{Found, most_scan_calls, next_key, shown_key, scan_arguments}
-use Rattle.ps_stepping.specs.ps_meaning.Meaning.{Frame, Store, State, Outcome, Value_is, Ends, Meaning, give, stop, after, ◌>>=◌, choose, attempt, with_heap, change, touch, on_held, take_turn, with_turns, spent, back_to, in_frame, with_local, frame_with, set}
+use Rattle.ps_stepping.specs.ps_meaning.Meaning.{Frame, Store, State, Outcome, Value_is, Ends, Meaning, give, stop, after, ◌>>=◌, choose, attempt, with_heap, change, on_held, take_turn, back_to, in_frame, with_local, frame_with, set}
 use Rattle.ps_stepping.specs.ps_meaning.Frames.{frame_of_call}
 use Rattle.ps_stepping.specs.ps_meaning.Evaluation.{Context, most_calls, call_meant}
-use Rattle.ps_stepping.specs.ps_meaning.Loops.{Scanning, set_last, scan_call, scan_next, scan_turns, begin_scan}
+use Rattle.ps_stepping.specs.ps_meaning.Loops.{Scanning, scan_call, scan_next, scan_turns, begin_scan}
 use Rattle.ps_gen.specs.ps_emitter.Choices as choice
-use Rattle.ps_stepping.specs.Config.{Config, frame_words, frame_in, code_in}
-use Rattle.ps_stepping.specs.Steps.{Step, Goes, Stops, Stuck, and_touched, on, attempted, with_num, with_ref}
-use Rattle.ps_stepping.specs.Machine.{act, back, turn_to}
-use Rattle.ps_stepping.specs.Objects.{having, object_of}
-use Rattle.ps_stepping.specs.Scans.{with_pushed, with_pushed_num, last_key, last_of, called_with, touched_now, scan_found, scan_on, one_more, scan_more}
-use Rattle.ps_soundness.specs.Shapes.{IsOf, AreOf, IsTypedHeap, Grows}
+use Rattle.ps_stepping.specs.Config.{Config, frame_words, frame_in}
+use Rattle.ps_stepping.specs.Steps.{Step, and_touched, on, attempted, with_num}
+use Rattle.ps_stepping.specs.Machine.{act, back}
+use Rattle.ps_stepping.specs.Objects.{object_of}
+use Rattle.ps_stepping.specs.Scans.{last_of, called_with, touched_now, scan_found, scan_on, one_more}
+use Rattle.ps_soundness.specs.Shapes.{IsOf, AreOf, Grows}
 use Rattle.ps_soundness.proofs.Operators.{OnYield}
 use Rattle.ps_soundness.proofs.Growing.{grows_not, grows_then, of_kept}
 use Rattle.ps_soundness.proofs.Calling.{ValuesOf}
 use Rattle.ps_soundness.proofs.Tables.{IsKeyOf, MayBeFound, next_key_typed}
-use Rattle.ps_soundness.proofs.Scans.{key_type, SparesAll, arguments_are, found_kept}
-use Rattle.ps_soundness.proofs.Combining.{Standing, Sound}
-use Rattle.ps_code_laws.specs.Compiled.{compiled, compiled_heap, compiled_held, compiled_store}
-use Rattle.ps_code_laws.specs.Meets.{nums_left, refs_left}
+use Rattle.ps_soundness.proofs.Scans.{key_type, SparesAll, arguments_are}
+use Rattle.ps_soundness.proofs.Combining.{Sound}
+use Rattle.ps_code_laws.specs.Compiled.{compiled, compiled_heap, compiled_held}
 use Rattle.ps_code_laws.proofs.HeldCompiling.{touches_weigh, touching_compiled}
 use Rattle.ps_code_laws.proofs.LibraryCompiling.{next_key_compiled}
 use Rattle.ps_code_laws.proofs.Literals.{IsLiteral, AreLiterals}
@@ -48,11 +45,12 @@ use Rattle.ps_code_laws.proofs.Falls.{Falls, calls_fall, falls_call, falls_set}
 use Rattle.ps_code_laws.proofs.Keeps.{on_refs, Same, Leaves, other_local}
 use Rattle.ps_code_laws.proofs.Clauses.{int, pntr, proc, IsScan, fields_by}
 use Rattle.ps_code_laws.proofs.RowForms.{pushed_nums, pushed_refs}
-use Rattle.ps_code_laws.proofs.Doing.{Origin, IsSince, since_more, since_left, after_it, Behind, IsLeft, Leads, leads_left, Way, place, Comes, Room, Does, step, quiet, halt, halt_there, less_room, if_true, if_false, if_lt, words_set, refs_set, with_words, jump_goes, turn_goes, push_goes, leads_more, later, does_set, does_set_ref}
+use Rattle.ps_code_laws.proofs.Doing.{Origin, IsSince, since_more, since_left, after_it, Behind, Leads, leads_left, Way, place, Comes, Room, Does, quiet, halt, halt_there, less_room, if_true, if_false, if_lt, words_set, refs_set, with_words, jump_goes, turn_goes, push_goes, leads_more, later, does_set, does_set_ref}
 use Rattle.ps_code_laws.proofs.From.{On, From, from_does, then_from, then_from_held}
 use Rattle.ps_code_laws.proofs.Operands.{context_in, Stand}
 use Rattle.ps_code_laws.proofs.Attempts.{object_pops, having_goes}
 use Rattle.ps_code_laws.proofs.Calls.{Entered, does_call}
+use Rattle.ps_soundness.proofs.Standings.{by_rules, in_scopes}
 
 -- After a call the frame is the one before.
 
@@ -153,7 +151,7 @@ literal_key P (int_key z) = tt
 
 arguments_of : (strings : Bool) (heap : Heap) (found : Found) → MayBeFound strings heap (Some found) →
     AreOf heap (fields_by (two (key_type strings) types.Pntr)) (scan_arguments found)
-arguments_of strings heap found h = let are = arguments_are strings heap found h in (are.0, (are.1.0, tt))
+arguments_of strings heap found h = let are = arguments_are by_rules strings heap found h in (are.0, (are.1.0, tt))
 
 references_are : (strings : Bool) → choice.references (two (key_type strings) types.Pntr) ≡ (if strings then 2 else 1)
 references_are true = refl
@@ -185,11 +183,11 @@ pub record Scans (w : Way) (n : Origin) (strings : Bool) (q s : ℕ) (line : Lin
   pub refs_fit : q + 2 < (frame_in w.unit).refs
   pub nums_fit : s + 2 < (frame_in w.unit).nums
   pub deep : 2 ≤ need
-  pub texts : SparesAll n.known types.Str q
-  pub ints : SparesAll n.known types.Int s
+  pub texts : SparesAll in_scopes n.known types.Str q
+  pub ints : SparesAll in_scopes n.known types.Int s
   pub answers : (heap : Heap) (procedure : Value) (args : List Value) → IsOf heap (caller (key_type strings)) procedure →
-      ValuesOf heap (two (key_type strings) types.Pntr) args →
-      Sound heap n.known n.known types.Bool (call_meant (context_in w n.turns) line procedure args)
+      ValuesOf by_rules heap (two (key_type strings) types.Pntr) args →
+      Sound in_scopes heap n.known n.known types.Bool (call_meant (context_in w n.turns) line procedure args)
   pub entered : Entered w n.turns
   pub scan_at : Stand w turn (choice.scan strings q s (turn + 17 + 9 + 9) line)
   pub call_at : Stand w (turn + 17) (instr.Call (if strings then 2 else 1) line)
@@ -277,7 +275,7 @@ module _ (w : Way) where
 
     -- a local that has another value
     since_set : {f : Frame} {t : State} (slot : ℕ) (ty : TyView) (v : Value) → IsLiteral w.Body v →
-        Sound t.store.held.objects n.known n.known types.Void (set (Plain slot) ty v) → IsSince w.Body n f t → IsSince w.Body n (frame_with f ty slot v) t
+        Sound in_scopes t.store.held.objects n.known n.known types.Void (set (Plain slot) ty v) → IsSince w.Body n f t → IsSince w.Body n (frame_with f ty slot v) t
     unfolding set
     since_set {f = f} {t = t} slot ty v literal sound since =
         let typed = sound.runs f t (grows_not t.store.held.objects) since.typed since.are in
@@ -383,7 +381,7 @@ module _ (w : Way) where
         let args = scan_arguments found in
         let c = context_in w n.turns in
         let tys = two (key_type strings) types.Pntr in
-        let now : IsOf heap (caller (key_type strings)) procedure = of_kept n.heap heap since.grows (caller (key_type strings)) procedure procedure_of in
+        let now : IsOf heap (caller (key_type strings)) procedure = of_kept by_rules n.heap heap since.grows (caller (key_type strings)) procedure procedure_of in
         let literals : AreLiterals w.Body args = (literal_key w.Body found.key, (tt, tt)) in
         let since_g = since_found found.key f t since in
         let since_origin : IsSince w.Body origin g t = record {
@@ -396,7 +394,7 @@ module _ (w : Way) where
         } in
         let leads : Leads w.Body origin n.known types.Bool (call_meant c line procedure args) = record {
           falls = falls_call c (calls_fall n.turns (length w.callers)) line procedure args;
-          sound = h.answers heap procedure args now (arguments_are strings heap found may);
+          sound = h.answers heap procedure args now (arguments_are by_rules strings heap found may);
           holds = holds_call w.Body c (calls_hold w.Body n.turns (length w.callers)) line procedure args literal literals;
         } in
         (does_call w origin (turn + 17) need line tys types.Bool procedure args (let deep = h.deep in omega arith) h.entered now literal
@@ -506,11 +504,11 @@ module _ (w : Way) where
     scan_does zero count last nums refs f t few low is room since reach =
         found_goes zero count (λ key. stop OutOfTurns) last nums refs f t (next_key strings t.store.held.objects table last) low
         (λ low_next key nums refs g x less at room since rest. absurd (omega arith))
-        (next_key_typed strings t.store.held.objects table last since.typed.0) is few room since (next_acts count last nums refs f t is since) reach
+        (next_key_typed by_rules strings t.store.held.objects table last since.typed.0) is few room since (next_acts count last nums refs f t is since) reach
     scan_does (suc m) count last nums refs f t few low is room since reach =
         found_goes (suc m) count (λ key. scan_turns m scan (Some key) (suc count)) last nums refs f t (next_key strings t.store.held.objects table last) low
         (λ low_next key nums refs g x less at room since rest. scan_does m (suc count) (Some key) nums refs g x (omega arith) low_next at room since rest)
-        (next_key_typed strings t.store.held.objects table last since.typed.0) is few room since (next_acts count last nums refs f t is since) reach
+        (next_key_typed by_rules strings t.store.held.objects table last since.typed.0) is few room since (next_acts count last nums refs f t is since) reach
 
   -- The beginning of a scan: the table and the procedure are kept in locals, and three numbers are 0.
 
@@ -628,7 +626,7 @@ module _ (w : Way) where
       record {
         by = λ nums refs f t so room since reach.
             scan_does (after_it n h7 n.known) strings q s line (pf + 5 + 5 + 5 + 5 + 5 + 5 + 5) need (scans h7) table procedure
-            (of_kept h1 h7 t7 types.Pntr table table_of) (of_kept h3 h7 k7 (caller (key_type strings)) procedure procedure_of) literal n.turns 0 None nums refs
+            (of_kept by_rules h1 h7 t7 types.Pntr table table_of) (of_kept by_rules h3 h7 k7 (caller (key_type strings)) procedure procedure_of) literal n.turns 0 None nums refs
             f t since.few (omega arith) so room since reach;
       }))))))) in
       record { by = λ nums refs f t room since reach. chain.by nums refs f t tt room since reach }

@@ -3,24 +3,20 @@ use Rattle.std.proofs.Common.{◌≡◌, ℕ, ◌+◌, List, [], ◌∷◌, Opti
 use Rattle.ps_gen.specs.ps_base.TyView.{TyView, TyViews}
 use Rattle.ps_gen.specs.ps_base.TyView as types
 use Rattle.ps_gen.specs.ps_base.CodeUnit.{ConstantView, text, literal}
-use Rattle.ps_gen.specs.ps_base.declared.line.Line.{Line}
 use Rattle.ps_gen.specs.ps_base.declared.instr.Instr.TheVariants as instr
 use Rattle.ps_gen.specs.ps_program.declared.place.Place.TheVariants.{Kept}
 use Rattle.ps_gen.specs.ps_program.Node.{BodyNode}
 use Rattle.ps_type_text.specs.Texts.{Field}
-use Rattle.ps_stepping.specs.ps_heap.Values.{Value, Num, Procedure, as_written, word_of, number_of}
+use Rattle.ps_stepping.specs.ps_heap.Values.{Value, Num, Procedure, as_written, word_of}
 use Rattle.ps_stepping.specs.ps_heap.Held.{reading_name, assigned_name}
-use Rattle.ps_stepping.specs.ps_heap.Texts.{line_read, behind_line, is_at_end}
-use Rattle.ps_stepping.specs.ps_heap.Objects.{Heap, new_number}
+use Rattle.ps_stepping.specs.ps_heap.Objects.{new_number}
 use Rattle.ps_stepping.specs.ps_heap.Scopes.{new_scope, kept_name}
-use Rattle.ps_stepping.specs.ps_meaning.Meaning.{Frame, Store, State, give, after, ◌>>=◌, made_text, made_procedure, with_input, put_input, enter, on_input, and_object, and_closure, change, get, set}
-use Rattle.ps_stepping.specs.ps_meaning.Operations.{read_line, at_end}
+use Rattle.ps_stepping.specs.ps_meaning.Meaning.{Frame, Store, State, give, made_procedure, enter, and_object, and_closure, change, get, set}
 use Rattle.ps_gen.specs.Units.{unit_of}
 use Rattle.ps_stepping.specs.Config.{constants_in, constant_at}
 use Rattle.ps_stepping.specs.Machine.{Step, on, push_num, push_ref}
 use Rattle.ps_stepping.specs.Objects.{holding, having}
 use Rattle.ps_stepping.specs.Procedures.{procedure_of}
-use Rattle.ps_soundness.proofs.Combining.{AreAround}
 use Rattle.ps_soundness.proofs.Scopes.{found}
 use Rattle.ps_code_laws.specs.Compiled.{compiled, compiled_routine, compiled_store}
 use Rattle.ps_code_laws.proofs.Known.{HasPlace, declared, next}
@@ -28,9 +24,10 @@ use Rattle.ps_code_laws.proofs.Clauses.{IsNum, IsRef}
 use Rattle.ps_code_laws.proofs.Compiling.{number_compiled, new_scope_compiled, and_object_compiled, kept_name_compiled, with_kept_name_compiled}
 use Rattle.ps_code_laws.proofs.HeldCompiling.{reading_name_compiled, assigned_name_compiled}
 use Rattle.ps_code_laws.proofs.KeptNames.{IsThere, declared_there, next_there, level_there, number_there, reference_there, word_kept}
-use Rattle.ps_code_laws.proofs.Doing.{Origin, IsSince, IsQuietly, Way, place, Does, does_meant, push_goes, push_ref_goes}
+use Rattle.ps_code_laws.proofs.Doing.{Origin, IsSince, IsQuietly, Way, place, Does, does_meant, push_ref_goes}
 use Rattle.ps_code_laws.proofs.Operands.{Stand}
-use Rattle.ps_code_laws.proofs.Attempts.{quiet_attempt, text_there, attempt_steps, text_steps, number_held, reference_held, held_steps}
+use Rattle.ps_code_laws.proofs.Attempts.{text_there, number_held, reference_held, held_steps}
+use Rattle.ps_soundness.proofs.Standings.{AreAround}
 
 pub there_of : {P : BodyNode → Type 0} {n : Origin} {up position : ℕ} {ty : TyView} (f : Frame) (s : State) → HasPlace n.known up position ty → IsSince P n f s →
     IsThere s.store.held.objects f.scope up position ty

@@ -17,7 +17,6 @@ use Rattle.ps_stepping.specs.Procedures.{of_scope}
 use Rattle.ps_soundness.specs.Running.{IsScopeText}
 use Rattle.ps_soundness.specs.Shapes.{AreScopes, IsTypedHeap, AreLocals, IsSameSort, Grows}
 use Rattle.ps_soundness.proofs.Growing.{grows_not, grows_then, grows_new, at_new, roots_kept, locals_kept}
-use Rattle.ps_soundness.proofs.Combining.{Standing, AreAround}
 use Rattle.ps_soundness.proofs.Scopes.{scope_made}
 use Rattle.ps_code_laws.specs.Compiled.{compiled_heap}
 use Rattle.ps_code_laws.specs.Meets.{nums_left, refs_left}
@@ -29,6 +28,7 @@ use Rattle.ps_code_laws.proofs.Operands.{Stand}
 use Rattle.ps_code_laws.proofs.From.{From, from_does}
 use Rattle.ps_code_laws.proofs.Holding.{holds_enter}
 use Rattle.ps_code_laws.proofs.ScopeForms.{does_enter}
+use Rattle.ps_soundness.proofs.Standings.{Standing, AreAround, by_rules}
 
 -- a scope keeps its text and its parent
 scope_kept : (bytes : List ℕ) (parent : Option ℕ) (names : List Value) (now : Object) → IsSameSort (Scope bytes parent names) now →
@@ -88,7 +88,7 @@ entered_since {P = P} n bytes wholes own f s are since =
       typed = (made.0, roots_kept old new (grows_new old (new_scope bytes f.scope)) s.store.held.directory since.typed.1);
       are = (
         locals_in new f (Some (new_number old)) n.known.locals
-            (locals_kept old new (grows_new old (new_scope bytes f.scope)) f n.known.locals since.are.0),
+            (locals_kept by_rules old new (grows_new old (new_scope bytes f.scope)) f n.known.locals since.are.0),
         made.1,
       );
       held = (held.1, held.2);

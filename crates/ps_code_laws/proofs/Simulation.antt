@@ -1,5 +1,5 @@
 -- The code of a clause does what the clause means.
-use Rattle.std.proofs.Common.{◌≡◌, ℕ, ◌+◌, ◌<◌, ◌≤◌, ℤ, Bool, true, false, not, List, [], ◌∷◌, ◌++◌, length, Option, Some, None, refl, sym, ap, ◌∙◌, subst, append_assoc, length-append, pos, arith as by_arith}
+use Rattle.std.proofs.Common.{◌≡◌, ℕ, ◌+◌, ◌<◌, ◌≤◌, ℤ, Bool, true, false, not, List, [], ◌∷◌, ◌++◌, length, Option, Some, None, refl, sym, ap, ◌∙◌, subst, append_assoc, length-append, arith as by_arith}
 use Rattle.std.specs.Prelude.{if◌then◌else◌}
 use Rattle.std.specs.List.{AllByRecursion}
 use Rattle.std.specs.Fmt.{signed_decimal}
@@ -27,11 +27,11 @@ use Rattle.ps_stepping.specs.ps_heap.Library.{LibraryProcedure, library_procedur
 use Rattle.ps_soundness.specs.Shapes.{IsOf, AreOf, Grows}
 use Rattle.ps_soundness.proofs.Library.{parameters_of, type_given}
 use Rattle.ps_soundness.proofs.Growing.{grows_not, grows_then, of_kept}
-use Rattle.ps_soundness.proofs.Combining.{Standing, sound_then}
+use Rattle.ps_soundness.proofs.Combining.{sound_then}
 use Rattle.ps_stepping.specs.ps_heap.Objects.{Heap}
 use Rattle.ps_stepping.specs.ps_heap.Ends.{Trapped}
-use Rattle.ps_stepping.specs.ps_heap.Values.{Value, Num, Flag, Text, Nil, Procedure, Nothing, as_written, number_of, word_of, flag_of, bytes_of, shown}
-use Rattle.ps_stepping.specs.ps_meaning.Meaning.{Frame, Store, State, Meaning, give, after, ◌>>=◌, choose, answer, made_text, made_procedure, written, and_closure, set}
+use Rattle.ps_stepping.specs.ps_heap.Values.{Value, Num, Flag, Text, Nil, Procedure, Nothing, as_written, number_of, word_of, flag_of, shown}
+use Rattle.ps_stepping.specs.ps_meaning.Meaning.{Frame, Store, State, Meaning, give, after, ◌>>=◌, choose, answer, made_procedure, written, and_closure, set}
 use Rattle.ps_stepping.specs.ps_meaning.Operations.{compares, join_meant, part_meant, make_meant, elements_meant, fill_meant, set_field_meant, element_meant, set_element_meant, lib_meant}
 use Rattle.ps_stepping.specs.ps_meaning.Evaluation.{call_meant, eval, eval_all, eval_each, eval_arms, eval_labels}
 use Rattle.ps_gen.specs.ps_emitter.Choices as choice
@@ -67,6 +67,7 @@ use Rattle.ps_code_laws.proofs.Branches.{does_label, does_chosen, does_default}
 use Rattle.ps_code_laws.proofs.Loops.{Stands, does_for, plain_stands, kept_stands}
 use Rattle.ps_code_laws.proofs.Calls.{Entered, does_call}
 use Rattle.ps_code_laws.proofs.ScanForms.{does_scan}
+use Rattle.ps_soundness.proofs.Standings.{Standing, by_rules, in_scopes}
 
 one_or_other : (b : Bool) (x y : ℕ) → (b ≡ true → 1 ≤ x) → (b ≡ false → 1 ≤ y) → 1 ≤ x + y
 one_or_other true x y h k = let l = h refl in omega by_arith
@@ -365,7 +366,7 @@ module _ (w : Way) where
         (omega by_arith) (omega by_arith) targs (omega by_arith) (front w.Allows w.unit q (emit_all args q (k + count f)) _ rest) names_args
         (call_meant (context_in w n.turns) line v)
         (λ last vs l are held. does_call w (after_it n last n.known) (q + size_all args) (depth whole) line tys ty v vs (omega by_arith) entered
-        (of_kept new last l (types.Proc tys ty) v is) fits are held at_call)))
+        (of_kept by_rules new last l (types.Proc tys ty) v is) fits are held at_call)))
     clause_does n entered at k (clause.library {code = code} {args = args} {line = line} {of = of} {ty = ty} is targs) h names =
         let whole = node.Lib code args line in
         let q = at + size_all args in
@@ -455,7 +456,7 @@ module _ (w : Way) where
         let leads_test : Leads w.Body n n.known types.Bool (eval (context_in w n.turns) a >>= λ u. eval (context_in w n.turns) c)
         = record {
           falls = falls_then (eval (context_in w n.turns) a) _ (falls_in w n.turns a) (λ u. falls_in w n.turns c);
-          sound = sound_then (sounds_in ta n.turns (length w.callers) n.heap) (λ new u g is. sounds_in tc n.turns (length w.callers) new);
+          sound = sound_then in_scopes (sounds_in ta n.turns (length w.callers) n.heap) (λ new u g is. sounds_in tc n.turns (length w.callers) new);
           holds = holds_then w.Body (eval (context_in w n.turns) a) _ (holds_in w n.turns a (bodies_in ta)) (λ u is. holds_in w n.turns c (bodies_in tc));
         } in
         to_end w (clause_at + size a + size c + 5) (at + size whole) (omega by_arith)
@@ -862,7 +863,7 @@ module _ (w : Way) where
         (let e = length-append (refs_left field.ty v) br in let few = refs_few field.ty v in omega by_arith)
         tail (omega by_arith) (after_clause w.Allows w.unit t at k _ h) (names_behind w.unit t k _ names) (λ vs. next (v ∷ vs))
         (λ final vs l are held. from_place w (at + (size t + size_all ts)) (at + size t + size_all ts) (omega by_arith)
-        (d final (v ∷ vs) (grows_then n.heap new final g l) (of_kept new final l field.ty v is, are) (literal, held))))
+        (d final (v ∷ vs) (grows_then n.heap new final g l) (of_kept by_rules new final l field.ty v is, are) (literal, held))))
 
     -- the values of elements
     does_items : (n : Origin) (entered : Entered w n.turns) (at k need before end : ℕ) {ts : Nodes} {of ty : TyView} (bn : List ℤ) (br : List Value) →
@@ -885,7 +886,7 @@ module _ (w : Way) where
         (let e = length-append (refs_left of v) br in let few = refs_few of v in omega by_arith)
         tail (omega by_arith) (after_clause w.Allows w.unit t at k _ h) (names_behind w.unit t k _ names) (λ vs. next (v ∷ vs))
         (λ final vs l are many. from_place w (at + (size t + size_all ts)) (at + size t + size_all ts) (omega by_arith)
-        (d final (v ∷ vs) (grows_then n.heap new final g l) (of_kept new final l of v is, are) (omega by_arith))))
+        (d final (v ∷ vs) (grows_then n.heap new final g l) (of_kept by_rules new final l of v is, are) (omega by_arith))))
 
     does_all : (n : Origin) (entered : Entered w n.turns) (at k need before : ℕ) {first ty : TyView} {ts : Nodes} (v : Value) →
         Items w.Body (nums_of w) (refs_of w) n.known first ts ty →
@@ -938,7 +939,7 @@ module _ (w : Way) where
         (λ new g. jump_does w jump_at next (omega by_arith) at_jump.0
         (does_arms (after_it n new n.known) entered next (names_a + count a) need (before + length (fold_all deepest label labels) + 1) end by v default
         others trest
-        (of_kept n.heap new g value v is) (omega by_arith) behind_a.1 (names_behind w.unit a names_a _ its_names) (omega by_arith)
+        (of_kept by_rules n.heap new g value v is) (omega by_arith) behind_a.1 (names_behind w.unit a names_a _ its_names) (omega by_arith)
         (λ last l. from_place w (at + size_arms (more_arms (arm labels a) rest)) (next + size_arms rest) (omega by_arith)
         (d last (grows_then n.heap new last g l)))))
 
@@ -971,7 +972,7 @@ module _ (w : Way) where
         (does n entered label_at k tl (front w.Allows w.unit label_at (emit l label_at k) _ of_label) (named_front w.unit k (constants l) _ names))
         rest_l.0 at_jump.0 (omega by_arith) found
         (λ new g. does_labels (after_it n new n.known) entered (q + 1 + 5) (k + count l) need (before + 1) chosen end by v next others trest
-        (of_kept n.heap new g value v is) (omega by_arith) at_jump.1 (names_behind w.unit l k _ names) (omega by_arith)
+        (of_kept by_rules n.heap new g value v is) (omega by_arith) at_jump.1 (names_behind w.unit l k _ names) (omega by_arith)
         (λ last l2. found last (grows_then n.heap new last g l2))
         (λ last l2. from_place w (at + size_labels (more l rest)) (q + 1 + 5 + size_labels rest) (omega by_arith)
         (missed last (grows_then n.heap new last g l2))))

@@ -1,18 +1,17 @@
 -- Instructions over texts do what is meant by the clauses that they stand for.
-use Rattle.std.proofs.Common.{ℕ, ◌+◌, pos, [], ◌∷◌, length}
-use Rattle.std.specs.Fmt.{signed_decimal}
+use Rattle.std.proofs.Common.{ℕ, ◌+◌, [], ◌∷◌}
 use Rattle.ps_gen.specs.ps_base.TyView as types
 use Rattle.ps_gen.specs.ps_base.declared.line.Line.{Line}
 use Rattle.ps_gen.specs.ps_base.declared.instr.Instr.TheVariants as instr
-use Rattle.ps_stepping.specs.ps_heap.Values.{Value, Num, Text, word_of, bytes_of}
+use Rattle.ps_stepping.specs.ps_heap.Values.{Value, Text, word_of}
 use Rattle.ps_stepping.specs.ps_heap.Texts.{join_of, part_of}
-use Rattle.ps_stepping.specs.ps_meaning.Meaning.{give, made_text}
+use Rattle.ps_stepping.specs.ps_meaning.Meaning.{made_text}
 use Rattle.ps_stepping.specs.ps_meaning.Operations.{join_meant, part_meant}
 use Rattle.ps_soundness.specs.Shapes.{IsOf}
 use Rattle.ps_code_laws.specs.Compiled.{compiled}
-use Rattle.ps_code_laws.proofs.Doing.{Origin, Way, Does, does_meant, push_goes}
+use Rattle.ps_code_laws.proofs.Doing.{Origin, Way, Does, does_meant}
 use Rattle.ps_code_laws.proofs.Operands.{Stand}
-use Rattle.ps_code_laws.proofs.Attempts.{quiet_give, quiet_attempt, quiet_made_text, attempt_steps, text_steps}
+use Rattle.ps_code_laws.proofs.Attempts.{quiet_attempt, quiet_made_text, attempt_steps, text_steps}
 
 module _ (w : Way) where
   pub does_join : (n : Origin) (p : ℕ) (line : Line) (v u : Value) → IsOf n.heap types.Str v → IsOf n.heap types.Str u → Stand w p (instr.Join line) →

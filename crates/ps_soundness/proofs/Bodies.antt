@@ -1,5 +1,5 @@
 -- Bodies that are called answer: by induction on the turns that may be left.
-use Rattle.std.proofs.Common.{◌≡◌, ℕ, zero, suc, ◌+◌, pos, Bool, true, false, List, [], ◌∷◌, ◌++◌, length, Option, Some, None, refl, sym, ap, ◌∙◌, subst, append_assoc, length-append}
+use Rattle.std.proofs.Common.{◌≡◌, ℕ, suc, ◌+◌, pos, Bool, true, false, List, [], ◌∷◌, ◌++◌, length, Option, Some, None, refl, sym, ap, ◌∙◌, subst, append_assoc, length-append}
 use Rattle.std.specs.Prelude.{get_or, not, if◌then◌else◌}
 use Rattle.ps_meaning.specs.ps_base.TyView.{TyView, TyViews}
 use Rattle.ps_meaning.specs.ps_base.TyView as types
@@ -10,7 +10,7 @@ use Rattle.ps_meaning.specs.ps_typing.WellTyped.{Env, Free, Local, next_slot, be
 use Rattle.ps_meaning.specs.ps_typing.WellTyped as typed
 use Rattle.ps_heap.specs.Values.{Value, Num, Nil}
 use Rattle.ps_heap.specs.Objects.{Heap}
-use Rattle.ps_meaning.specs.Meaning.{Frame, State, Outcome, Value_is, Ends, stop, local_of}
+use Rattle.ps_meaning.specs.Meaning.{Frame, State, Outcome, Value_is, Ends, local_of}
 use Rattle.ps_meaning.specs.Frames.{arguments_on, frame_of_call, keep, keep_all}
 use Rattle.ps_meaning.specs.Evaluation.{Context, eval}
 use Rattle.ps_meaning.specs.Calls.{body_meant, call_within, context}
@@ -18,11 +18,14 @@ use Rattle.ps_soundness.specs.Running.{ArePlaces, RunsIn, BodyRuns}
 use Rattle.ps_soundness.specs.Free.{AllBelow, AreBelow}
 use Rattle.ps_soundness.specs.Shapes.{IsOf, AreScopes, type_of_body, AreLocals, ComesToInside, IsTypedHeld}
 use Rattle.ps_soundness.proofs.Telling.{Told}
-use Rattle.ps_soundness.proofs.Growing.{grows_not, grows_then}
-use Rattle.ps_soundness.proofs.Combining.{stand, over, Comes, Sound, sound_then, sound_nothing, sound_turn, sound_touch_scope, narrowed}
-use Rattle.ps_soundness.proofs.Calling.{ValuesOf, values_kept, Answers, sound_opened}
+use Rattle.ps_soundness.proofs.Growing.{grows_not}
+use Rattle.ps_soundness.proofs.Combining.{Comes, Sound, sound_then, sound_nothing, narrowed}
+use Rattle.ps_soundness.proofs.Calling.{ValuesOf, values_kept, Answers}
 use Rattle.ps_soundness.proofs.Declaring.{climbs_one, below_climbs, below_one, declare_kept}
+use Rattle.ps_soundness.proofs.Within.{BodiesSound, bodies_answer}
 use Rattle.ps_soundness.proofs.Clauses.{sound}
+use Rattle.ps_soundness.proofs.Standings.{stand, over, by_rules, in_scopes}
+use Rattle.ps_soundness.proofs.InScopes.{sound_opened}
 
 -- The locals of a body lie below its free slots.
 takes_below : {env last : Env} {free behind : Free} {params : List Param} → Takes env free params last behind → AllBelow env.locals free →
@@ -35,19 +38,19 @@ takes_below (typed.Takes.as_kept {env = env} {free = free} {ty = ty} name scopes
 
 -- Arguments that a scope keeps are copied there.
 keep_sound : (told : Told) (wholes : List (List Field)) {env last : Env} {free behind : Free} {params : List Param} → Takes env free params last behind →
-    (locals : List Local) (args : List Value) → ArePlaces wholes params → (heap : Heap) → ValuesOf heap (types_of_params params) args →
-    Sound heap (record { locals = locals; wholes = Some wholes; scopes = env.scopes })
+    (locals : List Local) (args : List Value) → ArePlaces wholes params → (heap : Heap) → ValuesOf by_rules heap (types_of_params params) args →
+    Sound in_scopes heap (record { locals = locals; wholes = Some wholes; scopes = env.scopes })
     (record { locals = locals; wholes = Some wholes; scopes = last.scopes }) types.Void (keep_all params args)
 unfolding keep_all keep
-keep_sound told wholes typed.Takes.no_more locals args places heap are = sound_nothing
+keep_sound told wholes typed.Takes.no_more locals args places heap are = sound_nothing in_scopes
 keep_sound told wholes (typed.Takes.as_local e rest) locals [] places heap are = absurd are
 keep_sound told wholes (typed.Takes.as_local {ty = ty} {rest = params} e rest) locals (arg ∷ args) places heap are =
-    sound_then sound_nothing (λ new u g is.
-    keep_sound told wholes rest locals args places.1 new (values_kept heap new g (types_of_params params) args are.1))
+    sound_then in_scopes (sound_nothing in_scopes) (λ new u g is.
+    keep_sound told wholes rest locals args places.1 new (values_kept by_rules heap new g (types_of_params params) args are.1))
 keep_sound told wholes (typed.Takes.as_kept name scopes is rest) locals [] places heap are = absurd are
 keep_sound told wholes (typed.Takes.as_kept {position = position} {ty = ty} {rest = params} name scopes is rest) locals (arg ∷ args) places heap are =
-    sound_then (declare_kept told wholes position name ty arg scopes is places.0 are.0) (λ new u g done.
-    keep_sound told wholes rest locals args places.1 new (values_kept heap new g (types_of_params params) args are.1))
+    sound_then in_scopes (declare_kept told wholes position name ty arg scopes is places.0 are.0) (λ new u g done.
+    keep_sound told wholes rest locals args places.1 new (values_kept by_rules heap new g (types_of_params params) args are.1))
 
 -- Arguments stand in the locals of their stacks, in their order.
 behind_front : (front : List Value) (v : Value) (rest : List Value) (other : Value) → get_or (front ++ v ∷ rest) (length front) other ≡ v
@@ -58,19 +61,19 @@ one_longer : (front : List Value) (v : Value) (n : ℕ) → length front ≡ n �
 one_longer front v n e = length-append front (v ∷ []) ∙ ap (λ (k : ℕ). k + 1) e
 
 -- the rows of a frame, of which so much has been passed, and the rest is this
-record Rows (frame : Frame) (free : Free) (nums_left refs_left : List Value) : Type 0 where
-  nums_passed : List Value
-  refs_passed : List Value
-  nums_long : length nums_passed ≡ free.nums
-  refs_long : length refs_passed ≡ free.refs
-  nums_are : (slot : ℕ) → frame.nums slot ≡ get_or (nums_passed ++ nums_left) slot (Num (pos 0))
-  refs_are : (slot : ℕ) → frame.refs slot ≡ get_or (refs_passed ++ refs_left) slot Nil
+pub record Rows (frame : Frame) (free : Free) (nums_left refs_left : List Value) : Type 0 where
+  pub nums_passed : List Value
+  pub refs_passed : List Value
+  pub nums_long : length nums_passed ≡ free.nums
+  pub refs_long : length refs_passed ≡ free.refs
+  pub nums_are : (slot : ℕ) → frame.nums slot ≡ get_or (nums_passed ++ nums_left) slot (Num (pos 0))
+  pub refs_are : (slot : ℕ) → frame.refs slot ≡ get_or (refs_passed ++ refs_left) slot Nil
 
 passed : (row : ℕ → Value) (front : List Value) (v : Value) (rest : List Value) (other : Value) →
     ((slot : ℕ) → row slot ≡ get_or (front ++ v ∷ rest) slot other) → (slot : ℕ) → row slot ≡ get_or ((front ++ v ∷ []) ++ rest) slot other
 passed row front v rest other h slot = h slot ∙ ap (λ (vs : List Value). get_or vs slot other) (sym (append_assoc front (v ∷ []) rest))
 
-rows_next : (number : Bool) (frame : Frame) (free : Free) (v : Value) (nums refs : List Value) →
+pub rows_next : (number : Bool) (frame : Frame) (free : Free) (v : Value) (nums refs : List Value) →
     Rows frame free (if number then v ∷ nums else nums) (if not number then v ∷ refs else refs) →
     Rows frame (if number then record free { nums = free.nums + 1 } else record free { refs = free.refs + 1 }) nums refs
     × ((if number then frame.nums (if number then free.nums else free.refs) else frame.refs (if number then free.nums else free.refs)) ≡ v)
@@ -99,7 +102,7 @@ rows_next false frame free v nums refs h = (
 
 locals_handed : {env last : Env} {free behind : Free} {params : List Param} (heap : Heap) (frame : Frame) (args : List Value) →
     Takes env free params last behind →
-    Rows frame free (arguments_on true params args) (arguments_on false params args) → ValuesOf heap (types_of_params params) args →
+    Rows frame free (arguments_on true params args) (arguments_on false params args) → ValuesOf by_rules heap (types_of_params params) args →
     AreLocals heap frame env.locals → AreLocals heap frame last.locals
 unfolding arguments_on
 locals_handed heap frame args typed.Takes.no_more rows are known = known
@@ -114,25 +117,25 @@ locals_handed heap frame (arg ∷ args) (typed.Takes.as_kept {free = free} {ty =
     locals_handed heap frame args rest next.0 are.1 known
 
 -- what a body takes and gives
-abbrev taken : BodyNode → TyViews
+abbrev pub taken : BodyNode → TyViews
 taken (body params gives tree text line) = types_of_params params
 
-abbrev given : BodyNode → TyView
+abbrev pub given : BodyNode → TyView
 given (body params gives tree text line) = gives
 
-taken_is : (of : BodyNode) (ps : TyViews) (g : TyView) → types.Proc ps g ≡ type_of_body of → ps ≡ taken of
+pub taken_is : (of : BodyNode) (ps : TyViews) (g : TyView) → types.Proc ps g ≡ type_of_body of → ps ≡ taken of
 taken_is (body params gives tree text line) ps g e = cc
 
-given_is : (of : BodyNode) (ps : TyViews) (g : TyView) → types.Proc ps g ≡ type_of_body of → g ≡ given of
+pub given_is : (of : BodyNode) (ps : TyViews) (g : TyView) → types.Proc ps g ≡ type_of_body of → g ≡ given of
 given_is (body params gives tree text line) ps g e = cc
 
 -- What is known of a body that is called: the locals where its clause begins, and what it returns.
 record Called (of : BodyNode) (wholes scopes : List (List Field)) : Type 0 where
   locals : List Local
-  are_locals : (heap : Heap) (scope : Option ℕ) (args : List Value) → ValuesOf heap (taken of) args →
+  are_locals : (heap : Heap) (scope : Option ℕ) (args : List Value) → ValuesOf by_rules heap (taken of) args →
       AreLocals heap (frame_of_call of scope args) locals
-  sounds : (c : Context) → Answers c.call → (heap : Heap) (args : List Value) → ValuesOf heap (taken of) args →
-      Sound heap (record { locals = locals; wholes = Some wholes; scopes = scopes }) (over []) (given of) (body_meant c of args)
+  sounds : (c : Context) → Answers in_scopes c.call → (heap : Heap) (args : List Value) → ValuesOf by_rules heap (taken of) args →
+      Sound in_scopes heap (record { locals = locals; wholes = Some wholes; scopes = scopes }) (over []) (given of) (body_meant c of args)
 
 of_call : (of : BodyNode) (wholes scopes : List (List Field)) (told : Told) → IsBody scopes of → BodyRuns wholes of → Called of wholes scopes
 unfolding body_meant frame_of_call
@@ -144,8 +147,8 @@ of_call (body params gives tree None line) wholes scopes told (typed.of_params {
           (record { nums_passed = []; refs_passed = []; nums_long = refl; refs_long = refl; nums_are = λ slot. refl; refs_are = λ slot. refl })
           are tt;
       sounds = λ c calls heap args are.
-          sound_then (keep_sound told wholes takes env.locals args runs.0 heap are)
-          (λ new u k done. narrowed (λ now frame standing. (tt, tt)) (sound told (Some wholes) t below runs.1 c calls new));
+          sound_then in_scopes (keep_sound told wholes takes env.locals args runs.0 heap are)
+          (λ new u k done. narrowed in_scopes (λ now frame standing. (tt, tt)) (sound told (Some wholes) t below runs.1 c calls new));
     }
 of_call (body params gives tree (Some text) line) wholes scopes told (typed.of_params {env = env} {free = free} typed.scoped takes ended t) runs =
     let below = takes_below takes tt in
@@ -155,43 +158,39 @@ of_call (body params gives tree (Some text) line) wholes scopes told (typed.of_p
       are_locals = λ heap scope args are. locals_handed heap (frame_of_call (body params gives tree (Some text) line) scope args) args takes
           (record { nums_passed = []; refs_passed = []; nums_long = refl; refs_long = refl; nums_are = λ slot. refl; refs_are = λ slot. refl })
           are tt;
-      sounds = λ c calls heap args are. narrowed (λ now frame standing. (tt, tt)) (sound_opened text own (λ opened grown.
-          sound_then (keep_sound told (own.fields ∷ wholes) takes env.locals args runs.1 opened
-          (values_kept heap opened grown (types_of_params params) args are))
+      sounds = λ c calls heap args are. narrowed in_scopes (λ now frame standing. (tt, tt)) (sound_opened text own (λ opened grown.
+          sound_then in_scopes (keep_sound told (own.fields ∷ wholes) takes env.locals args runs.1 opened
+          (values_kept by_rules heap opened grown (types_of_params params) args are))
           (λ new u k done. sound told (Some (own.fields ∷ wholes)) t below runs.2 c calls new)));
     }
 
-scope_of_call : (of : BodyNode) (scope : Option ℕ) (args : List Value) → (frame_of_call of scope args).scope ≡ scope
+pub scope_of_call : (of : BodyNode) (scope : Option ℕ) (args : List Value) → (frame_of_call of scope args).scope ≡ scope
 unfolding frame_of_call
 scope_of_call (body params gives tree text line) scope args = refl
 
--- where no turn is left nothing is called, and else a turn is taken
-pub within_answers : (told : Told) (n depth : ℕ) → Answers (call_within n depth)
-unfolding call_within stop
-within_answers told zero depth = record {
-  answers = λ of scope args ps g state typed_heap is are. (grows_not state.store.held.objects, typed_heap);
-}
-within_answers told (suc n) depth = record {
-  answers = λ of scope args ps g state typed_heap is are.
-      let heap = state.store.held.objects in
-      let called = of_call of is.wholes is.scopes told is.typed is.runs in
-      let args_are = subst (λ (tys : TyViews). ValuesOf heap tys args) (taken_is of ps g is.ty_is) are in
-      let whole = sound_then (sound_turn {heap = heap}) (λ turned t k done. sound_then (sound_touch_scope {heap = turned}) (λ new u l touched.
-      called.sounds (context n depth) (within_answers told n (suc depth)) new args
-      (values_kept heap new (grows_then heap turned new k l) (taken of) args args_are))) in
-      subst (λ (ty : TyView). Comes heap (over []) ty (call_within (suc n) depth of args (frame_of_call of scope args) state))
-      (sym (given_is of ps g is.ty_is))
-      (whole.runs (frame_of_call of scope args) state (grows_not heap) typed_heap (
+within_answers_as : (told : Told) → BodiesSound in_scopes
+within_answers_as told c calls of scope args ps g heap is are =
+    let called = of_call of is.wholes is.scopes told is.typed is.runs in
+    let args_are = subst (λ (tys : TyViews). ValuesOf by_rules heap tys args) (taken_is of ps g is.ty_is) are in
+    record {
+      known = record { locals = called.locals; wholes = Some is.wholes; scopes = is.scopes };
+      stands = (
         called.are_locals heap scope args args_are,
         subst (λ (s : Option ℕ). AreScopes heap s is.wholes is.scopes) (sym (scope_of_call of scope args)) is.stand,
-      ));
-}
+      );
+      sounds = λ new grown.
+          subst (λ (ty : TyView). Sound in_scopes new (record { locals = called.locals; wholes = Some is.wholes; scopes = is.scopes }) (over []) ty (body_meant c of args))
+          (sym (given_is of ps g is.ty_is)) (called.sounds c calls new args (values_kept by_rules heap new grown (taken of) args args_are));
+    }
 
-comes_inside : (heap : Heap) (wholes : List (List Field)) (env : Env) (ty : TyView) (o : Outcome) → Comes heap (stand (Some wholes) env) ty o →
-    ComesToInside heap wholes env ty o
-comes_inside heap wholes env ty (Value_is v frame state) h =
+pub within_answers : (told : Told) (n depth : ℕ) → Answers in_scopes (call_within n depth)
+within_answers told n depth = bodies_answer in_scopes (within_answers_as told) n depth
+
+comes_inside : (before : State) (wholes : List (List Field)) (env : Env) (ty : TyView) (o : Outcome) → Comes in_scopes before (stand (Some wholes) env) ty o →
+    ComesToInside before.store.held.objects wholes env ty o
+comes_inside before wholes env ty (Value_is v frame state) h =
     (record { grows = h.grows; typed = h.typed; locals = h.are.0; value = h.value }, h.are.1)
-comes_inside heap wholes env ty (Ends e state) h = h
+comes_inside before wholes env ty (Ends e state) h = (h.0, h.1)
 
 pub comes_to_inside : (told : Told) (turns depth : ℕ) (wholes : List (List Field)) (env : Env) (free behind : Free) (clause : Node) (ty : TyView)
     (frame : Frame) (state : State) →
@@ -201,5 +200,5 @@ pub comes_to_inside : (told : Told) (turns depth : ℕ) (wholes : List (List Fie
 comes_to_inside told turns depth wholes env free behind clause ty frame state of runs below typed_heap are scopes =
     let heap = state.store.held.objects in
     let c = context turns depth in
-    comes_inside heap wholes env ty (eval c clause frame state)
+    comes_inside state wholes env ty (eval c clause frame state)
     ((sound told (Some wholes) of below runs c (within_answers told turns (suc depth)) heap).runs frame state (grows_not heap) typed_heap (are, scopes))

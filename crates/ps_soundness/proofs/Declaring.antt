@@ -21,8 +21,10 @@ use Rattle.ps_soundness.proofs.Telling.{Told}
 use Rattle.ps_soundness.proofs.Growing.{of_kept}
 use Rattle.ps_soundness.proofs.Places.{free_slot, slot_has}
 use Rattle.ps_soundness.proofs.Scopes.{scopes_less}
-use Rattle.ps_soundness.proofs.Combining.{Standing, AreAround, IsStanding, stand, Sound, sound_then, sound_set, narrowed}
-use Rattle.ps_soundness.proofs.Calling.{sound_declare_kept, sound_procedure, sound_declare_literal}
+use Rattle.ps_soundness.proofs.Combining.{Sound, sound_then, sound_set, narrowed}
+use Rattle.ps_soundness.proofs.Calling.{sound_procedure}
+use Rattle.ps_soundness.proofs.Standings.{Standing, AreAround, IsStanding, stand, by_rules, in_scopes}
+use Rattle.ps_soundness.proofs.InScopes.{sound_declare_kept, sound_declare_literal}
 
 -- no slot becomes free again
 pub record Climbs (free behind : Free) : Type 0 where
@@ -128,9 +130,9 @@ scope_same frame ty slot v = scope_in_row frame (is_number ty) slot v
 pub sound_set_local : {heap : Heap} {first last : List Local} {wholes : Option (List (List Field))} {scopes : List (List Field)} (slot : ℕ) (ty : TyView)
     (v : Value) →
     ((new : Heap) (frame : Frame) → Grows heap new → AreLocals new frame first → AreLocals new (frame_with frame ty slot v) last) →
-    Sound heap (record { locals = first; wholes = wholes; scopes = scopes }) (record { locals = last; wholes = wholes; scopes = scopes }) types.Void
+    Sound in_scopes heap (record { locals = first; wholes = wholes; scopes = scopes }) (record { locals = last; wholes = wholes; scopes = scopes }) types.Void
     (set (Plain slot) ty v)
-sound_set_local {wholes = wholes} {scopes = scopes} slot ty v h = sound_set slot ty v (λ new frame g are.
+sound_set_local {wholes = wholes} {scopes = scopes} slot ty v h = sound_set in_scopes slot ty v (λ new frame g are.
     (h new frame g are.0, subst (λ (scope : Option ℕ). AreAround new scope wholes scopes) (sym (scope_same frame ty slot v)) are.1))
 
 -- what is so of the innermost
@@ -141,23 +143,23 @@ innermost_at whole wholes P (inr h) = absurd (let e = h.1 in omega arith)
 pub declare_kept : (told : Told) {heap : Heap} {locals : List Local} (wholes : List (List Field)) {scopes around : List (List Field)} {fields : List Field}
     (position : ℕ) (name : List ℕ) (ty : TyView) (v : Value) → scopes ≡ fields ∷ around → position ≡ length fields →
     At (λ (whole : List Field). At (IsOfType ty) whole position) wholes 0 → IsOf heap ty v →
-    Sound heap (record { locals = locals; wholes = Some wholes; scopes = scopes })
+    Sound in_scopes heap (record { locals = locals; wholes = Some wholes; scopes = scopes })
     (record { locals = locals; wholes = Some wholes; scopes = and_kept fields name ty ∷ around }) types.Void (set (Kept 0 position) ty v)
 declare_kept told [] position name ty v e p at is = absurd at
 declare_kept told {heap = heap} {locals = locals} (whole ∷ wholes) {scopes = scopes} {around = around} {fields = fields} position name ty v e p at is =
     let first : List (List Field) → Standing = λ ss. record { locals = locals; wholes = Some (whole ∷ wholes); scopes = ss } in
     let last = first (and_kept fields name ty ∷ around) in
-    subst (λ (n : ℕ). Sound heap (first scopes) last types.Void (set (Kept 0 n) ty v)) (sym p)
-    (subst (λ (ss : List (List Field)). Sound heap (first ss) last types.Void (set (Kept 0 (length fields)) ty v)) (sym e)
+    subst (λ (n : ℕ). Sound in_scopes heap (first scopes) last types.Void (set (Kept 0 n) ty v)) (sym p)
+    (subst (λ (ss : List (List Field)). Sound in_scopes heap (first ss) last types.Void (set (Kept 0 (length fields)) ty v)) (sym e)
     (sound_declare_kept told name ty v (subst (At (IsOfType ty) whole) p (innermost_at whole wholes (λ (w : List Field). At (IsOfType ty) w position) at)) is))
 
 -- the initial value of a name is of its type
 pub declared_sound : (told : Told) (wholes : Option (List (List Field))) {env with_name : Env} {free behind : Free} {place : Place} {ty : TyView} →
     Declares env free place ty with_name behind → IsPlace wholes place ty → AllBelow env.locals free →
-    (heap : Heap) (v : Value) → IsOf heap ty v → Sound heap (stand wholes env) (stand wholes with_name) types.Void (set place ty v)
+    (heap : Heap) (v : Value) → IsOf heap ty v → Sound in_scopes heap (stand wholes env) (stand wholes with_name) types.Void (set place ty v)
 declared_sound told wholes (typed.as_local {env = env} {free = free} {slot = slot} {ty = ty} e) at below heap v h =
     sound_set_local slot ty v (λ new frame g are.
-    (slot_has new frame ty slot v (of_kept heap new g ty v h), free_slot new frame free ty slot v env.locals (omega (arith, e)) below are))
+    (slot_has by_rules new frame ty slot v (of_kept by_rules heap new g ty v h), free_slot by_rules new frame free ty slot v env.locals (omega (arith, e)) below are))
 declared_sound told None (typed.as_kept name scopes is) at below heap v h = absurd at
 declared_sound told (Some wholes) (typed.as_kept {position = position} {ty = ty} name scopes is) at below heap v h =
     declare_kept told wholes position name ty v scopes is at h
@@ -166,12 +168,12 @@ declared_sound told (Some wholes) (typed.as_kept {position = position} {ty = ty}
 pub sound_let : (told : Told) (wholes : Option (List (List Field))) {env with_name : Env} {free behind : Free} {place : Place} {ty last : TyView}
     {e : Meaning} {next : Value → Meaning} {heap : Heap} →
     Declares env free place ty with_name behind → IsPlace wholes place ty → AllBelow env.locals free →
-    Sound heap (stand wholes env) (stand wholes env) ty e →
-    ((new : Heap) (v : Value) → IsOf new types.Void v → Sound new (stand wholes with_name) (stand wholes with_name) last (next v)) →
-    Sound heap (stand wholes env) (stand wholes env) last ((e >>= λ v. set place ty v) >>= next)
+    Sound in_scopes heap (stand wholes env) (stand wholes env) ty e →
+    ((new : Heap) (v : Value) → IsOf new types.Void v → Sound in_scopes new (stand wholes with_name) (stand wholes with_name) last (next v)) →
+    Sound in_scopes heap (stand wholes env) (stand wholes env) last ((e >>= λ v. set place ty v) >>= next)
 sound_let told wholes declares at below h k =
-    narrowed (declared_less wholes declares)
-    (sound_then (sound_then h (λ h1 v g is. declared_sound told wholes declares at below h1 v is)) (λ h2 u g is. k h2 u is))
+    narrowed in_scopes (declared_less wholes declares)
+    (sound_then in_scopes (sound_then in_scopes h (λ h1 v g is. declared_sound told wholes declares at below h1 v is)) (λ h2 u g is. k h2 u is))
 
 -- A literal: its body is typed in the scopes round it.
 pub literal_is : {env : Env} {free behind : Free} {of : BodyNode} {ty : TyView} → IsTyped env free (node.Proc of) ty behind →
@@ -189,7 +191,7 @@ declare_literal : (told : Told) {heap : Heap} {locals : List Local} (wholes : Li
     {fields : List Field} (position : ℕ) (name : List ℕ) (ty : TyView) (of : BodyNode) → scopes ≡ fields ∷ around → position ≡ length fields →
     At (λ (whole : List Field). At (IsOfType ty) whole position) wholes 0 → ty ≡ type_of_body of → IsBody (and_kept fields name ty ∷ around) of →
     BodyRuns wholes of →
-    Sound heap (record { locals = locals; wholes = Some wholes; scopes = scopes })
+    Sound in_scopes heap (record { locals = locals; wholes = Some wholes; scopes = scopes })
     (record { locals = locals; wholes = Some wholes; scopes = and_kept fields name ty ∷ around }) types.Void
     (made_procedure of >>= λ v. set (Kept 0 position) ty v)
 declare_literal told [] position name ty of e p at ty_is is_body runs = absurd at
@@ -198,11 +200,11 @@ declare_literal told {heap = heap} {locals = locals} (whole ∷ wholes) {scopes 
     let of = body params gives tree text line in
     let known : List (List Field) → Standing = λ ss. record { locals = locals; wholes = Some (whole ∷ wholes); scopes = ss } in
     let own = types.Proc (types_of_params params) gives in
-    subst (λ (n : ℕ). Sound heap (known scopes) (known (and_kept fields name ty ∷ around)) types.Void
+    subst (λ (n : ℕ). Sound in_scopes heap (known scopes) (known (and_kept fields name ty ∷ around)) types.Void
     (made_procedure of >>= λ v. set (Kept 0 n) ty v)) (sym p)
-    (subst (λ (ss : List (List Field)). Sound heap (known ss) (known (and_kept fields name ty ∷ around)) types.Void
+    (subst (λ (ss : List (List Field)). Sound in_scopes heap (known ss) (known (and_kept fields name ty ∷ around)) types.Void
     (made_procedure of >>= λ v. set (Kept 0 (length fields)) ty v)) (sym e)
-    (subst (λ (t : TyView). Sound heap (known (fields ∷ around)) (known (and_kept fields name t ∷ around)) types.Void
+    (subst (λ (t : TyView). Sound in_scopes heap (known (fields ∷ around)) (known (and_kept fields name t ∷ around)) types.Void
     (made_procedure of >>= λ v. set (Kept 0 (length fields)) t v)) (sym ty_is)
     (sound_declare_literal told name params gives tree text line
     (subst (λ (t : TyView). At (IsOfType t) whole (length fields)) ty_is
@@ -212,10 +214,10 @@ declare_literal told {heap = heap} {locals = locals} (whole ∷ wholes) {scopes 
 pub literal_sound : (told : Told) (wholes : List (List Field)) {env with_name : Env} {free behind between : Free} {place : Place} {ty : TyView}
     {of : BodyNode} → Declares env free place ty with_name behind → IsTyped with_name behind (node.Proc of) ty between → BodyRuns wholes of →
     IsPlace (Some wholes) place ty → AllBelow env.locals free → (heap : Heap) →
-    Sound heap (stand (Some wholes) env) (stand (Some wholes) with_name) types.Void (made_procedure of >>= λ v. set place ty v)
+    Sound in_scopes heap (stand (Some wholes) env) (stand (Some wholes) with_name) types.Void (made_procedure of >>= λ v. set place ty v)
 literal_sound told wholes {of = of} (typed.as_local {env = env} {free = free} {ty = ty} e) te runs at below heap =
     let lit = literal_is te in
-    sound_then (sound_procedure of ty (λ now frame are. procedure_is now ty of frame.scope lit.1
+    sound_then in_scopes (sound_procedure in_scopes of ty (λ now frame are. procedure_is now ty of frame.scope lit.1
     (record { wholes = wholes; scopes = env.scopes; typed = lit.0; runs = runs; stand = are.1; ty_is = lit.1 })))
     (λ new v g is. declared_sound told (Some wholes) (typed.as_local {free = free} e) tt below new v is)
 literal_sound told wholes {of = of} (typed.as_kept {position = position} {ty = ty} name scopes is) te runs at below heap =

@@ -13,47 +13,48 @@ use Rattle.ps_heap.specs.Values.{Value, Num, Flag}
 use Rattle.ps_heap.specs.Objects.{Heap, value_at}
 use Rattle.ps_meaning.specs.Operations.{kept_as, kept_all, kept_elements}
 use Rattle.ps_soundness.specs.Running.{HasField}
-use Rattle.ps_soundness.specs.Shapes.{IsOf, AreOf, IsTypedStructure}
+use Rattle.ps_soundness.specs.Over.{IsOf, AreOf, IsTypedStructure}
+use Rattle.ps_soundness.proofs.Notion.{Kind}
 use Rattle.ps_soundness.proofs.Telling.{Told}
 
 -- a value of a type is kept as it is
-pub kept_by_type : (heap : Heap) (ty : TyView) (v : Value) → IsOf heap ty v → kept_as (Some (form_of_type ty)) v ≡ v
-kept_by_type heap types.Int (Num z) h = refl
-kept_by_type heap types.Int v h = absurd h
-kept_by_type heap types.Bool (Flag true) h = refl
-kept_by_type heap types.Bool (Flag false) h = refl
-kept_by_type heap types.Bool v h = absurd h
-kept_by_type heap types.Str v h = refl
-kept_by_type heap types.Pntr v h = refl
-kept_by_type heap types.Void v h = refl
-kept_by_type heap (types.Vector element) v h = refl
-kept_by_type heap (types.Proc parameters gives) v h = refl
+pub kept_by_type : (kind : Kind) (heap : Heap) (ty : TyView) (v : Value) → IsOf kind.asked heap ty v → kept_as (Some (form_of_type ty)) v ≡ v
+kept_by_type kind heap types.Int (Num z) h = refl
+kept_by_type kind heap types.Int v h = absurd h
+kept_by_type kind heap types.Bool (Flag true) h = refl
+kept_by_type kind heap types.Bool (Flag false) h = refl
+kept_by_type kind heap types.Bool v h = absurd h
+kept_by_type kind heap types.Str v h = refl
+kept_by_type kind heap types.Pntr v h = refl
+kept_by_type kind heap types.Void v h = refl
+kept_by_type kind heap (types.Vector element) v h = refl
+kept_by_type kind heap (types.Proc parameters gives) v h = refl
 
-kept_each : (heap : Heap) (fields : List Field) (values : List Value) → AreOf heap fields values → kept_all (map form_of_field fields) values ≡ values
+kept_each : (kind : Kind) (heap : Heap) (fields : List Field) (values : List Value) → AreOf kind.asked heap fields values → kept_all (map form_of_field fields) values ≡ values
 unfolding kept_all
-kept_each heap [] values h = refl
-kept_each heap (field ∷ fields) [] h = refl
-kept_each heap (field ∷ fields) (v ∷ vs) h =
-    ap (λ (w : Value). w ∷ kept_all (map form_of_field fields) vs) (kept_by_type heap field.ty v h.0)
-    ∙ ap (λ (ws : List Value). v ∷ ws) (kept_each heap fields vs h.1)
+kept_each kind heap [] values h = refl
+kept_each kind heap (field ∷ fields) [] h = refl
+kept_each kind heap (field ∷ fields) (v ∷ vs) h =
+    ap (λ (w : Value). w ∷ kept_all (map form_of_field fields) vs) (kept_by_type kind heap field.ty v h.0)
+    ∙ ap (λ (ws : List Value). v ∷ ws) (kept_each kind heap fields vs h.1)
 
 -- the values of a structure are kept as they are
-pub kept_in_class : (heap : Heap) (name : List ℕ) (fields : List Field) (values : List Value) → IsNamed name fields → AreOf heap fields values →
+pub kept_in_class : (kind : Kind) (heap : Heap) (name : List ℕ) (fields : List Field) (values : List Value) → IsNamed name fields → AreOf kind.asked heap fields values →
     kept_all (forms_of (class_text name fields)) values ≡ values
-kept_in_class heap name fields values named h =
-    ap (λ (forms : List Form). kept_all forms values) (class-told name fields named) ∙ kept_each heap fields values h
+kept_in_class kind heap name fields values named h =
+    ap (λ (forms : List Form). kept_all forms values) (class-told name fields named) ∙ kept_each kind heap fields values h
 
 -- and so are those of a vector
-pub kept_in_vector : (heap : Heap) (element : TyView) (v : Value) → IsOf heap element v →
+pub kept_in_vector : (kind : Kind) (heap : Heap) (element : TyView) (v : Value) → IsOf kind.asked heap element v →
     kept_as (Some (element_of (type_text (types.Vector element)))) v ≡ v
-kept_in_vector heap element v h = ap (λ (f : Form). kept_as (Some f) v) (element-told element) ∙ kept_by_type heap element v h
+kept_in_vector kind heap element v h = ap (λ (f : Form). kept_as (Some f) v) (element-told element) ∙ kept_by_type kind heap element v h
 
-pub all_kept_in_vector : (heap : Heap) (element : TyView) (values : List Value) → AllByRecursion (IsOf heap element) values →
+pub all_kept_in_vector : (kind : Kind) (heap : Heap) (element : TyView) (values : List Value) → AllByRecursion (IsOf kind.asked heap element) values →
     kept_elements (type_text (types.Vector element)) values ≡ values
-all_kept_in_vector heap element [] h = refl
-all_kept_in_vector heap element (v ∷ vs) h =
-    ap (λ (w : Value). w ∷ kept_elements (type_text (types.Vector element)) vs) (kept_in_vector heap element v h.0)
-    ∙ ap (λ (ws : List Value). v ∷ ws) (all_kept_in_vector heap element vs h.1)
+all_kept_in_vector kind heap element [] h = refl
+all_kept_in_vector kind heap element (v ∷ vs) h =
+    ap (λ (w : Value). w ∷ kept_elements (type_text (types.Vector element)) vs) (kept_in_vector kind heap element v h.0)
+    ∙ ap (λ (ws : List Value). v ∷ ws) (all_kept_in_vector kind heap element vs h.1)
 
 pub form_at : (fields : List Field) (position : ℕ) (ty : TyView) → At (IsOfType ty) fields position →
     form_in (map form_of_field fields) position ≡ Some (form_of_type ty)
@@ -65,46 +66,47 @@ form_at (field ∷ fields) (suc position) ty (inl h) = absurd (let e = h.0 in om
 form_at (field ∷ fields) (suc position) ty (inr (before, e, h)) =
     form_at fields position ty (subst (At (IsOfType ty) fields) (let same : before ≡ position = omega arith in same) h)
 
-field_value : (heap : Heap) (fields : List Field) (values : List Value) (position : ℕ) (ty : TyView) → At (IsOfType ty) fields position →
-    AreOf heap fields values → IsOf heap ty (value_at values position)
-field_value heap [] values position ty h are = absurd h
-field_value heap (field ∷ fields) [] position ty h are = absurd are
-field_value heap (field ∷ fields) (v ∷ vs) zero ty (inl h) are = subst (λ (t : TyView). IsOf heap t v) h.1 are.0
-field_value heap (field ∷ fields) (v ∷ vs) zero ty (inr h) are = absurd (let e = h.1 in omega arith)
-field_value heap (field ∷ fields) (v ∷ vs) (suc position) ty (inl h) are = absurd (let e = h.0 in omega arith)
-field_value heap (field ∷ fields) (v ∷ vs) (suc position) ty (inr (before, e, h)) are =
-    field_value heap fields vs position ty (subst (At (IsOfType ty) fields) (let same : before ≡ position = omega arith in same) h) are.1
+field_value : (kind : Kind) (heap : Heap) (fields : List Field) (values : List Value) (position : ℕ) (ty : TyView) → At (IsOfType ty) fields position →
+    AreOf kind.asked heap fields values → IsOf kind.asked heap ty (value_at values position)
+field_value kind heap [] values position ty h are = absurd h
+field_value kind heap (field ∷ fields) [] position ty h are = absurd are
+field_value kind heap (field ∷ fields) (v ∷ vs) zero ty (inl h) are = subst (λ (t : TyView). IsOf kind.asked heap t v) h.1 are.0
+field_value kind heap (field ∷ fields) (v ∷ vs) zero ty (inr h) are = absurd (let e = h.1 in omega arith)
+field_value kind heap (field ∷ fields) (v ∷ vs) (suc position) ty (inl h) are = absurd (let e = h.0 in omega arith)
+field_value kind heap (field ∷ fields) (v ∷ vs) (suc position) ty (inr (before, e, h)) are =
+    field_value kind heap fields vs position ty (subst (At (IsOfType ty) fields) (let same : before ≡ position = omega arith in same) h) are.1
 
-fields_set : (heap : Heap) (fields : List Field) (values : List Value) (position : ℕ) (ty : TyView) (v : Value) → At (IsOfType ty) fields position →
-    IsOf heap ty v → AreOf heap fields values → AreOf heap fields (set values position v)
-fields_set heap [] values position ty v h is are = absurd h
-fields_set heap (field ∷ fields) [] position ty v h is are = absurd are
-fields_set heap (field ∷ fields) (old ∷ vs) zero ty v (inl h) is are = (subst (λ (t : TyView). IsOf heap t v) (sym h.1) is, are.1)
-fields_set heap (field ∷ fields) (old ∷ vs) zero ty v (inr h) is are = absurd (let e = h.1 in omega arith)
-fields_set heap (field ∷ fields) (old ∷ vs) (suc position) ty v (inl h) is are = absurd (let e = h.0 in omega arith)
-fields_set heap (field ∷ fields) (old ∷ vs) (suc position) ty v (inr (before, e, h)) is are =
-    (are.0, fields_set heap fields vs position ty v (subst (At (IsOfType ty) fields) (let same : before ≡ position = omega arith in same) h) is are.1)
+fields_set : (kind : Kind) (heap : Heap) (fields : List Field) (values : List Value) (position : ℕ) (ty : TyView) (v : Value) → At (IsOfType ty) fields position →
+    IsOf kind.asked heap ty v → AreOf kind.asked heap fields values → AreOf kind.asked heap fields (set values position v)
+fields_set kind heap [] values position ty v h is are = absurd h
+fields_set kind heap (field ∷ fields) [] position ty v h is are = absurd are
+fields_set kind heap (field ∷ fields) (old ∷ vs) zero ty v (inl h) is are = (subst (λ (t : TyView). IsOf kind.asked heap t v) (sym h.1) is, are.1)
+fields_set kind heap (field ∷ fields) (old ∷ vs) zero ty v (inr h) is are = absurd (let e = h.1 in omega arith)
+fields_set kind heap (field ∷ fields) (old ∷ vs) (suc position) ty v (inl h) is are = absurd (let e = h.0 in omega arith)
+fields_set kind heap (field ∷ fields) (old ∷ vs) (suc position) ty v (inr (before, e, h)) is are =
+    (are.0, fields_set kind heap fields vs position ty v (subst (At (IsOfType ty) fields) (let same : before ≡ position = omega arith in same) h) is are.1)
 
 -- a field of a typed structure
-at_its_field : (told : Told) (heap : Heap) (class : List ℕ) (position : ℕ) (ty : TyView) (values : List Value) (h : HasField class position ty)
-    (s : IsTypedStructure heap class values) → At (IsOfType ty) s.fields position
-at_its_field told heap class position ty values h s =
+at_its_field : (kind : Kind) (told : Told) (heap : Heap) (class : List ℕ) (position : ℕ) (ty : TyView) (values : List Value) (h : HasField class position ty)
+    (s : IsTypedStructure kind.asked heap class values) → At (IsOfType ty) s.fields position
+at_its_field kind told heap class position ty values h s =
     let same = told.classes h.class.name s.name h.class.fields s.fields h.class.named s.named (sym h.class.text_is ∙ s.class_is) in
     subst (λ (fields : List Field). At (IsOfType ty) fields position) same.1 h.at
 
-pub typed_field : (told : Told) (heap : Heap) (class : List ℕ) (position : ℕ) (ty : TyView) (values : List Value) → HasField class position ty →
-    IsTypedStructure heap class values → IsOf heap ty (value_at values position)
-typed_field told heap class position ty values h s =
-    field_value heap s.fields values position ty (at_its_field told heap class position ty values h s) s.are
+pub typed_field : (kind : Kind) (told : Told) (heap : Heap) (class : List ℕ) (position : ℕ) (ty : TyView) (values : List Value) → HasField class position ty →
+    IsTypedStructure kind.asked heap class values → IsOf kind.asked heap ty (value_at values position)
+typed_field kind told heap class position ty values h s =
+    field_value kind heap s.fields values position ty (at_its_field kind told heap class position ty values h s) s.are
 
-pub typed_with_field : (told : Told) (heap : Heap) (class : List ℕ) (position : ℕ) (ty : TyView) (values : List Value) (v : Value) →
-    HasField class position ty → IsOf heap ty v → IsTypedStructure heap class values → IsTypedStructure heap class (set values position v)
-typed_with_field told heap class position ty values v h is s = record {
+pub typed_with_field : (kind : Kind) (told : Told) (heap : Heap) (class : List ℕ) (position : ℕ) (ty : TyView) (values : List Value) (v : Value) →
+    HasField class position ty → IsOf kind.asked heap ty v → IsTypedStructure kind.asked heap class values → IsTypedStructure kind.asked heap class (set values position v)
+typed_with_field kind told heap class position ty values v h is s = record {
   name = s.name;
   fields = s.fields;
   named = s.named;
   class_is = s.class_is;
-  are = fields_set heap s.fields values position ty v (at_its_field told heap class position ty values h s) is s.are;
+  nonvoid = s.nonvoid;
+  are = fields_set kind heap s.fields values position ty v (at_its_field kind told heap class position ty values h s) is s.are;
 }
 
 -- the form of a field of a class
@@ -115,12 +117,12 @@ form_in_field class position ty h =
     ∙ ap (λ (forms : List Form). form_in forms position) (class-told h.class.name h.class.fields h.class.named) ∙ form_at h.class.fields position ty
     h.at
 
-pub kept_in_field : (heap : Heap) (class : List ℕ) (position : ℕ) (ty : TyView) (v : Value) → HasField class position ty → IsOf heap ty v →
+pub kept_in_field : (kind : Kind) (heap : Heap) (class : List ℕ) (position : ℕ) (ty : TyView) (v : Value) → HasField class position ty → IsOf kind.asked heap ty v →
     kept_as (form_in (forms_of class) position) v ≡ v
-kept_in_field heap class position ty v h is =
+kept_in_field kind heap class position ty v h is =
     ap (λ (text : List ℕ). kept_as (form_in (forms_of text) position) v) h.class.text_is
     ∙ ap (λ (forms : List Form). kept_as (form_in forms position) v) (class-told h.class.name h.class.fields h.class.named)
-    ∙ ap (λ (f : Option Form). kept_as f v) (form_at h.class.fields position ty h.at) ∙ kept_by_type heap ty v is
+    ∙ ap (λ (f : Option Form). kept_as f v) (form_at h.class.fields position ty h.at) ∙ kept_by_type kind heap ty v is
 
 -- elements
 pub all_at : {A : Type 0} (P : A → Type 0) (values : List A) (n : ℕ) (other : A) → AllByRecursion P values → n < length values →

@@ -14,7 +14,9 @@ use Rattle.ps_heap.specs.Tables.{Entry, Table, without_keys, by_strings, by_ints
 use Rattle.ps_heap.specs.Databases.{Directory}
 use Rattle.ps_heap.specs.Objects.{Heap, Object, Structure, Elements, Scope, Keyed, object_at, with_object, with_new, new_number}
 use Rattle.ps_meaning.specs.Meaning.{Frame, local_of}
-use Rattle.ps_soundness.specs.Shapes.{is_given, HasValue, HaveValues, IsScopeAt, AreScopes, IsProcedure, AreNames, StayGiven, IsPointedAt, at_structure, at_table, IsVectorAt, IsTypedTable, AreRoots, IsOf, AreOf, IsTypedObject, IsTypedHeap, AreLocals, IsSameSort, Stays, Grows}
+use Rattle.ps_soundness.specs.Over.{AreNames, IsOf, AreOf, IsTypedObject, IsTypedHeap, AreLocals}
+use Rattle.ps_soundness.specs.Shapes.{is_given, HasValue, HaveValues, IsScopeAt, AreScopes, IsProcedure, StayGiven, IsPointedAt, at_structure, at_table, IsVectorAt, IsTypedTable, AreRoots, IsSameSort, Stays, Grows}
+use Rattle.ps_soundness.proofs.Notion.{Kind}
 
 object_in : Object → Option Object → Object
 object_in other (Some object) = object
@@ -39,7 +41,7 @@ stay_then (v ∷ vs) [] c h k = absurd h
 stay_then (v ∷ vs) (w ∷ ws) [] h k = absurd k
 stay_then (v ∷ vs) (w ∷ ws) (u ∷ us) h k = (λ e. k.0 (h.0 e), stay_then vs ws us h.1 k.1)
 
-value_stays : (ty : TyView) (v w : Value) → (is_given v ≡ true → is_given w ≡ true) → HasValue ty v → HasValue ty w
+pub value_stays : (ty : TyView) (v w : Value) → (is_given v ≡ true → is_given w ≡ true) → HasValue ty v → HasValue ty w
 value_stays types.Int v w s h = tt
 value_stays types.Bool v w s h = tt
 value_stays types.Pntr v w s h = tt
@@ -163,62 +165,74 @@ procedure_kept heap new g ty of scope h = record {
   ty_is = h.ty_is;
 }
 
-pub of_kept : (heap new : Heap) → Grows heap new → (ty : TyView) (v : Value) → IsOf heap ty v → IsOf new ty v
-of_kept heap new g types.Int (Num z) h = h
-of_kept heap new g types.Int v h = absurd h
-of_kept heap new g types.Bool (Flag b) h = h
-of_kept heap new g types.Bool v h = absurd h
-of_kept heap new g types.Str (Text bytes) h = h
-of_kept heap new g types.Str v h = absurd h
-of_kept heap new g types.Pntr Nil h = h
-of_kept heap new g types.Pntr (Pointer id) h = pointed_kept heap new g id h
-of_kept heap new g types.Pntr v h = absurd h
-of_kept heap new g (types.Vector element) (Vector id) h =
+pub of_kept : (kind : Kind) (heap new : Heap) → Grows heap new → (ty : TyView) (v : Value) → IsOf kind.asked heap ty v → IsOf kind.asked new ty v
+of_kept kind heap new g types.Int (Num z) h = h
+of_kept kind heap new g types.Int v h = absurd h
+of_kept kind heap new g types.Bool (Flag b) h = h
+of_kept kind heap new g types.Bool v h = absurd h
+of_kept kind heap new g types.Str (Text bytes) h = h
+of_kept kind heap new g types.Str v h = absurd h
+of_kept kind heap new g types.Pntr Nil h = h
+of_kept kind heap new g types.Pntr (Pointer id) h = pointed_kept heap new g id h
+of_kept kind heap new g types.Pntr v h = absurd h
+of_kept kind heap new g (types.Vector element) (Vector id) h =
     let stays = g id _ h.is in
     vector_kept new (types.Vector element) id h.low h.elements stays.now stays.is stays.sort
-of_kept heap new g (types.Vector element) v h = absurd h
-of_kept heap new g (types.Proc parameters gives) (Procedure (as_written of) scope) h = procedure_kept heap new g (types.Proc parameters gives) of scope h
-of_kept heap new g (types.Proc parameters gives) v h = absurd h
-of_kept heap new g types.Void Nothing h = h
-of_kept heap new g types.Void v h = absurd h
+of_kept kind heap new g (types.Vector element) v h = absurd h
+of_kept kind heap new g (types.Proc parameters gives) (Procedure (as_written of) scope) h = kind.kept heap new g (types.Proc parameters gives) of scope h
+of_kept kind heap new g (types.Proc parameters gives) v h = absurd h
+of_kept kind heap new g types.Void Nothing h = h
+of_kept kind heap new g types.Void v h = absurd h
 
-pub are_kept : (heap new : Heap) → Grows heap new → (fields : List Field) (values : List Value) → AreOf heap fields values → AreOf new fields values
-are_kept heap new g [] [] h = tt
-are_kept heap new g [] (v ∷ vs) h = absurd h
-are_kept heap new g (field ∷ fields) [] h = absurd h
-are_kept heap new g (field ∷ fields) (v ∷ vs) h = (of_kept heap new g field.ty v h.0, are_kept heap new g fields vs h.1)
+pub are_kept : (kind : Kind) (heap new : Heap) → Grows heap new → (fields : List Field) (values : List Value) → AreOf kind.asked heap fields values → AreOf kind.asked new fields values
+are_kept kind heap new g [] [] h = tt
+are_kept kind heap new g [] (v ∷ vs) h = absurd h
+are_kept kind heap new g (field ∷ fields) [] h = absurd h
+are_kept kind heap new g (field ∷ fields) (v ∷ vs) h = (of_kept kind heap new g field.ty v h.0, are_kept kind heap new g fields vs h.1)
 
-pub all_kept : (heap new : Heap) → Grows heap new → (ty : TyView) (values : List Value) → AllByRecursion (IsOf heap ty) values →
-    AllByRecursion (IsOf new ty) values
-all_kept heap new g ty [] h = tt
-all_kept heap new g ty (v ∷ vs) h = (of_kept heap new g ty v h.0, all_kept heap new g ty vs h.1)
+pub all_kept : (kind : Kind) (heap new : Heap) → Grows heap new → (ty : TyView) (values : List Value) → AllByRecursion (IsOf kind.asked heap ty) values →
+    AllByRecursion (IsOf kind.asked new ty) values
+all_kept kind heap new g ty [] h = tt
+all_kept kind heap new g ty (v ∷ vs) h = (of_kept kind heap new g ty v h.0, all_kept kind heap new g ty vs h.1)
 
-pub locals_kept : (heap new : Heap) → Grows heap new → (frame : Frame) (locals : List Local) → AreLocals heap frame locals →
-    AreLocals new frame locals
-locals_kept heap new g frame [] h = tt
-locals_kept heap new g frame (local ∷ locals) h =
-    (of_kept heap new g local.ty (local_of frame local.ty local.slot) h.0, locals_kept heap new g frame locals h.1)
+pub locals_kept : (kind : Kind) (heap new : Heap) → Grows heap new → (frame : Frame) (locals : List Local) → AreLocals kind.asked heap frame locals →
+    AreLocals kind.asked new frame locals
+locals_kept kind heap new g frame [] h = tt
+locals_kept kind heap new g frame (local ∷ locals) h =
+    (of_kept kind heap new g local.ty (local_of frame local.ty local.slot) h.0, locals_kept kind heap new g frame locals h.1)
 
-pub names_kept : (heap new : Heap) → Grows heap new → (fields : List Field) (names : List Value) → AreNames heap fields names → AreNames new fields names
-names_kept heap new g [] [] h = tt
-names_kept heap new g [] (v ∷ vs) h = absurd h
-names_kept heap new g (field ∷ fields) [] h = absurd h
-names_kept heap new g (field ∷ fields) (v ∷ vs) (inl is, h) = (inl (of_kept heap new g field.ty v is), names_kept heap new g fields vs h)
-names_kept heap new g (field ∷ fields) (v ∷ vs) (inr e, h) = (inr e, names_kept heap new g fields vs h)
+pub names_kept : (kind : Kind) (heap new : Heap) → Grows heap new → (fields : List Field) (names : List Value) → AreNames kind.asked heap fields names → AreNames kind.asked new fields names
+names_kept kind heap new g [] [] h = tt
+names_kept kind heap new g [] (v ∷ vs) h = absurd h
+names_kept kind heap new g (field ∷ fields) [] h = absurd h
+names_kept kind heap new g (field ∷ fields) (v ∷ vs) (inl is, h) = (inl (of_kept kind heap new g field.ty v is.0, is.1), names_kept kind heap new g fields vs h)
+names_kept kind heap new g (field ∷ fields) (v ∷ vs) (inr e, h) = (inr e, names_kept kind heap new g fields vs h)
 
-pub object_kept : (heap new : Heap) → Grows heap new → (object : Object) → IsTypedObject heap object → IsTypedObject new object
-object_kept heap new g (Structure class values) h =
-    record { name = h.name; fields = h.fields; named = h.named; class_is = h.class_is; are = are_kept heap new g h.fields values h.are }
-object_kept heap new g (Elements text low values) h = record {
+pub object_kept : (kind : Kind) (heap new : Heap) → Grows heap new → (object : Object) → IsTypedObject kind.asked heap object → IsTypedObject kind.asked new object
+object_kept kind heap new g (Structure class values) h = record {
+  name = h.name;
+  fields = h.fields;
+  named = h.named;
+  class_is = h.class_is;
+  nonvoid = h.nonvoid;
+  are = are_kept kind heap new g h.fields values h.are;
+}
+object_kept kind heap new g (Elements text low values) h = record {
   element = h.element;
+  nonvoid = h.nonvoid;
   text_is = h.text_is;
   low_is = h.low_is;
   fits = h.fits;
-  are = all_kept heap new g h.element values h.are;
+  are = all_kept kind heap new g h.element values h.are;
 }
-object_kept heap new g (Scope text parent names) h =
-    record { fields = h.fields; named = h.named; text_is = h.text_is; are = names_kept heap new g h.fields names h.are }
-object_kept heap new g (Keyed table) h = table_typed_kept heap new g table h
+object_kept kind heap new g (Scope text parent names) h = record {
+  fields = h.fields;
+  named = h.named;
+  text_is = h.text_is;
+  round = kind.round_kept heap new g parent h.round;
+  are = names_kept kind heap new g h.fields names h.are;
+}
+object_kept kind heap new g (Keyed table) h = (table_typed_kept heap new g table h.0, h.1)
 
 -- an object more
 at_old : (heap : Heap) (id : ℕ) (new object : Object) → object_at heap id ≡ Some object → object_at (heap ++ new ∷ []) id ≡ Some object
@@ -240,17 +254,17 @@ found_new [] (suc id) new object e = absurd (no_object object e)
 found_new (o ∷ os) zero new object e = inl e
 found_new (o ∷ os) (suc id) new object e = found_new os id new object e
 
-typed_found : (heap new : Heap) (made object : Object) → Grows heap new → IsTypedObject new made → (IsTypedObject heap object) ⊎ (object ≡ made) →
-    IsTypedObject new object
-typed_found heap new made object g h (inl k) = object_kept heap new g object k
-typed_found heap new made object g h (inr e) = subst (IsTypedObject new) (sym e) h
+typed_found : (kind : Kind) (heap new : Heap) (made object : Object) → Grows heap new → IsTypedObject kind.asked new made → (IsTypedObject kind.asked heap object) ⊎ (object ≡ made) →
+    IsTypedObject kind.asked new object
+typed_found kind heap new made object g h (inl k) = object_kept kind heap new g object k
+typed_found kind heap new made object g h (inr e) = subst (IsTypedObject kind.asked new) (sym e) h
 
-pub typed_new : (heap : Heap) (new : Object) → IsTypedHeap heap → IsTypedObject heap new → IsTypedHeap (with_new heap new)
-typed_new heap new typed h id object e =
-    typed_found heap (with_new heap new) new object (grows_new heap new) (object_kept heap (with_new heap new) (grows_new heap new) new h)
+pub typed_new : (kind : Kind) (heap : Heap) (new : Object) → IsTypedHeap kind.asked heap → IsTypedObject kind.asked heap new → IsTypedHeap kind.asked (with_new heap new)
+typed_new kind heap new typed h id object e =
+    typed_found kind heap (with_new heap new) new object (grows_new heap new) (object_kept kind heap (with_new heap new) (grows_new heap new) new h)
     (of (found_new heap id new object e))
   where
-    of : (object_at heap id ≡ Some object) ⊎ (object ≡ new) → (IsTypedObject heap object) ⊎ (object ≡ new)
+    of : (object_at heap id ≡ Some object) ⊎ (object ≡ new) → (IsTypedObject kind.asked heap object) ⊎ (object ≡ new)
     of (inl k) = inl (typed id object k)
     of (inr k) = inr k
 
@@ -279,16 +293,16 @@ found_set (o ∷ os) (suc id) zero new object e = inl e
 found_set (o ∷ os) (suc id) (suc at) new object e = found_set os id at new object e
 
 -- which is typed in the heap that it makes
-pub typed_with : (heap : Heap) (id : ℕ) (old new : Object) → object_at heap id ≡ Some old → IsSameSort old new → IsTypedHeap heap →
-    IsTypedObject (with_object heap id new) new → IsTypedHeap (with_object heap id new)
-typed_with heap id old new was sort typed h at object e =
-    typed_found heap (with_object heap id new) new object (grows_set heap id old new was sort) h (of (found_set heap id at new object e))
+pub typed_with : (kind : Kind) (heap : Heap) (id : ℕ) (old new : Object) → object_at heap id ≡ Some old → IsSameSort old new → IsTypedHeap kind.asked heap →
+    IsTypedObject kind.asked (with_object heap id new) new → IsTypedHeap kind.asked (with_object heap id new)
+typed_with kind heap id old new was sort typed h at object e =
+    typed_found kind heap (with_object heap id new) new object (grows_set heap id old new was sort) h (of (found_set heap id at new object e))
   where
-    of : (object_at heap at ≡ Some object) ⊎ (object ≡ new) → (IsTypedObject heap object) ⊎ (object ≡ new)
+    of : (object_at heap at ≡ Some object) ⊎ (object ≡ new) → (IsTypedObject kind.asked heap object) ⊎ (object ≡ new)
     of (inl k) = inl (typed at object k)
     of (inr k) = inr k
 
-pub typed_set : (heap : Heap) (id : ℕ) (old new : Object) → object_at heap id ≡ Some old → IsSameSort old new → IsTypedHeap heap →
-    IsTypedObject heap new → IsTypedHeap (with_object heap id new)
-typed_set heap id old new was sort typed h =
-    typed_with heap id old new was sort typed (object_kept heap (with_object heap id new) (grows_set heap id old new was sort) new h)
+pub typed_set : (kind : Kind) (heap : Heap) (id : ℕ) (old new : Object) → object_at heap id ≡ Some old → IsSameSort old new → IsTypedHeap kind.asked heap →
+    IsTypedObject kind.asked heap new → IsTypedHeap kind.asked (with_object heap id new)
+typed_set kind heap id old new was sort typed h =
+    typed_with kind heap id old new was sort typed (object_kept kind heap (with_object heap id new) (grows_set heap id old new was sort) new h)

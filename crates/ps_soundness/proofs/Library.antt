@@ -14,12 +14,12 @@ use Rattle.ps_heap.specs.Operators.{is_int}
 use Rattle.ps_heap.specs.Texts.{is_string}
 use Rattle.ps_heap.specs.Values.{Value, Num, word_of}
 use Rattle.ps_heap.specs.Objects.{Heap, value_at}
-use Rattle.ps_heap.specs.Held.{Held}
-use Rattle.ps_heap.specs.Library.{HeapProcedure, CreateDatabase, OpenDatabase, Commit, MakeTable, EnterString, LookUpString, EnterInt, LookUpInt, Cardinality, LibraryProcedure, OnHeap, ReadLine, AtEnd, Length, IntText, library_procedure, text_argument, heap_call}
+use Rattle.ps_heap.specs.Library.{CreateDatabase, OpenDatabase, Commit, MakeTable, EnterString, LookUpString, EnterInt, LookUpInt, Cardinality, LibraryProcedure, OnHeap, ReadLine, AtEnd, Length, IntText, library_procedure, text_argument, heap_call}
 use Rattle.ps_meaning.specs.Operations.{lib_meant}
+use Rattle.ps_soundness.proofs.Notion.{Kind, Notion}
 use Rattle.ps_soundness.proofs.Operators.{length_is_int, decimal_is_string}
 use Rattle.ps_soundness.proofs.Calling.{ValuesOf, values_kept, sound_read_line, sound_at_end}
-use Rattle.ps_soundness.proofs.Combining.{Standing, Sound, sound_give, sound_made_text, sound_answered}
+use Rattle.ps_soundness.proofs.Combining.{Sound, sound_give, sound_made_text, sound_answered}
 use Rattle.ps_soundness.proofs.HeapCalls.{taken_by, given_by, heap_call_typed}
 use Rattle.ps_soundness.proofs.Sequences.{int_of, text_of}
 
@@ -71,28 +71,28 @@ library_tells = (record { of = OnHeap CreateDatabase; by_number = refl; takes = 
 pub library_says : (code : ℕ) (tys : TyViews) (ty : TyView) (name : List ℕ) → lookup procedures name ≡ Some (library (plain code tys ty)) → Fits code tys ty
 library_says code tys ty name found = tells procedures name (library (plain code tys ty)) library_tells found
 
-first_text : (heap : Heap) (vs : List Value) → ValuesOf heap (one types.Str) vs → is_string (text_argument vs 0) ≡ true
-first_text heap [] h = absurd h
-first_text heap (v ∷ vs) h = text_of heap v h.0
+first_text : (kind : Kind) (heap : Heap) (vs : List Value) → ValuesOf kind heap (one types.Str) vs → is_string (text_argument vs 0) ≡ true
+first_text kind heap [] h = absurd h
+first_text kind heap (v ∷ vs) h = text_of kind heap v h.0
 
-first_int : (heap : Heap) (vs : List Value) → ValuesOf heap (one types.Int) vs → is_int (word_of (value_at vs 0)) ≡ true
-first_int heap [] h = absurd h
-first_int heap (v ∷ vs) h = int_of heap v h.0
+first_int : (kind : Kind) (heap : Heap) (vs : List Value) → ValuesOf kind heap (one types.Int) vs → is_int (word_of (value_at vs 0)) ≡ true
+first_int kind heap [] h = absurd h
+first_int kind heap (v ∷ vs) h = int_of kind heap v h.0
 
-sound_by_procedure : {heap : Heap} {known : Standing} (line : Line) (of : LibraryProcedure) (vs : List Value) → ValuesOf heap (parameters_of of) vs →
-    Sound heap known known (type_given of) (lib_meant line (Some of) vs)
-sound_by_procedure {heap = heap} line (OnHeap of) vs are =
-    sound_answered line (heap_call of vs) (λ held g typed. heap_call_typed of vs held typed (values_kept heap held.objects g (taken_by of) vs are))
-sound_by_procedure line ReadLine vs are = sound_read_line line
-sound_by_procedure line AtEnd vs are = sound_at_end
-sound_by_procedure {heap = heap} line Length vs are = sound_give (Num (pos (length (text_argument vs 0)))) (length_is_int (text_argument vs 0) (first_text heap vs are))
-sound_by_procedure {heap = heap} line IntText vs are =
-    sound_made_text (signed_decimal (word_of (value_at vs 0))) (decimal_is_string (word_of (value_at vs 0)) (first_int heap vs are))
+sound_by_procedure : (notion : Notion) {heap : Heap} {known : notion.Standing} (line : Line) (of : LibraryProcedure) (vs : List Value) → ValuesOf notion.kind heap (parameters_of of) vs →
+    Sound notion heap known known (type_given of) (lib_meant line (Some of) vs)
+sound_by_procedure notion {heap = heap} line (OnHeap of) vs are =
+    sound_answered notion line (heap_call of vs) (λ held g typed. heap_call_typed notion.kind of vs held typed (values_kept notion.kind heap held.objects g (taken_by of) vs are))
+sound_by_procedure notion line ReadLine vs are = sound_read_line notion line
+sound_by_procedure notion line AtEnd vs are = sound_at_end notion
+sound_by_procedure notion {heap = heap} line Length vs are = sound_give notion (Num (pos (length (text_argument vs 0)))) (length_is_int (text_argument vs 0) (first_text notion.kind heap vs are))
+sound_by_procedure notion {heap = heap} line IntText vs are =
+    sound_made_text notion (signed_decimal (word_of (value_at vs 0))) (decimal_is_string (word_of (value_at vs 0)) (first_int notion.kind heap vs are))
 
-pub sound_library : {heap : Heap} {known : Standing} (line : Line) (code : ℕ) (tys : TyViews) (ty : TyView) (name : List ℕ) (vs : List Value) →
-    lookup procedures name ≡ Some (library (plain code tys ty)) → ValuesOf heap tys vs → Sound heap known known ty (lib_meant line (library_procedure code) vs)
-sound_library {heap = heap} {known = known} line code tys ty name vs found are =
+pub sound_library : (notion : Notion) {heap : Heap} {known : notion.Standing} (line : Line) (code : ℕ) (tys : TyViews) (ty : TyView) (name : List ℕ) (vs : List Value) →
+    lookup procedures name ≡ Some (library (plain code tys ty)) → ValuesOf notion.kind heap tys vs → Sound notion heap known known ty (lib_meant line (library_procedure code) vs)
+sound_library notion {heap = heap} {known = known} line code tys ty name vs found are =
     let told = library_says code tys ty name found in
-    subst (λ (t : TyView). Sound heap known known t (lib_meant line (library_procedure code) vs)) (sym told.gives_it)
-    (subst (λ (of : Option LibraryProcedure). Sound heap known known (type_given told.of) (lib_meant line of vs)) (sym told.by_number)
-    (sound_by_procedure line told.of vs (subst (λ (ts : TyViews). ValuesOf heap ts vs) told.takes are)))
+    subst (λ (t : TyView). Sound notion heap known known t (lib_meant line (library_procedure code) vs)) (sym told.gives_it)
+    (subst (λ (of : Option LibraryProcedure). Sound notion heap known known (type_given told.of) (lib_meant line of vs)) (sym told.by_number)
+    (sound_by_procedure notion line told.of vs (subst (λ (ts : TyViews). ValuesOf notion.kind heap ts vs) told.takes are)))

@@ -62,12 +62,12 @@ pointer_to_a_table : IsOf with_a_table types.Pntr (Pointer 1)
 pointer_to_a_table = at_table (by_strings (record { key = codes "k"; object = 0 } ∷ [])) refl
 
 table_is_typed : IsTypedObject with_a_table (Keyed (by_strings (record { key = codes "k"; object = 0 } ∷ [])))
-table_is_typed = ((refl, at_structure box (Num (pos 3) ∷ Nil ∷ []) refl), tt)
+table_is_typed = (((refl, at_structure box (Num (pos 3) ∷ Nil ∷ []) refl), tt), tt)
 
 -- what is under a key is there
 nothing_under_a_key : IsTypedObject with_a_table (Keyed (by_ints (record { key = pos 1; object = 2 } ∷ []))) → ⊥
-nothing_under_a_key ((e, at_structure class values is), rest) = cc
-nothing_under_a_key ((e, at_table table is), rest) = cc
+nothing_under_a_key (((e, at_structure class values is), rest), tabled) = cc
+nothing_under_a_key (((e, at_table table is), rest), tabled) = cc
 
 vector : IsOf heap (types.Vector types.Int) (Vector 1)
 vector = record { low = pos 5; elements = Num (pos 4) ∷ Num (pos 9) ∷ []; is = refl }
@@ -81,9 +81,9 @@ named = record { class = (refl, (refl, (refl, tt))); each = ((refl, tt), ((refl,
 
 typed_heap : IsTypedHeap heap
 typed_heap zero object e = subst (IsTypedObject heap) (one_object a_box object e)
-    (record { name = codes "box"; fields = fields; named = named; class_is = refl; are = (refl, (tt, tt)) })
+    (record { name = codes "box"; fields = fields; named = named; class_is = refl; nonvoid = (refl, (refl, tt)); are = (refl, (tt, tt)) })
 typed_heap (suc zero) object e = subst (IsTypedObject heap) (one_object two_ints object e)
-    (record { element = types.Int; text_is = refl; low_is = refl; fits = refl; are = (refl, (refl, tt)) })
+    (record { element = types.Int; nonvoid = refl; text_is = refl; low_is = refl; fits = refl; are = (refl, (refl, tt)) })
 typed_heap (suc (suc id)) object e = absurd cc
 
 box_class : IsClassText box

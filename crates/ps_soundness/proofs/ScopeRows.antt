@@ -37,7 +37,7 @@ begun = Scope (codes "scope(int n;string s)") None (Num (pos 3) ∷ Nil ∷ [])
 
 a_typed_scope : IsTypedHeap (begun ∷ [])
 a_typed_scope zero object e = subst (IsTypedObject (begun ∷ [])) (one_object begun object e)
-    (record { fields = names; named = names_are_named; text_is = refl; are = (inl refl, (inr refl, tt)) })
+    (record { fields = names; named = names_are_named; text_is = refl; round = tt; are = (inl (refl, tt), (inr refl, tt)) })
 a_typed_scope (suc id) object e = absurd cc
 
 first_has_its_value : AreScopes (begun ∷ []) (Some 0) (names ∷ []) ((record { ty = types.Int; name = codes "n" } ∷ []) ∷ [])
@@ -100,7 +100,7 @@ f_is_of = record {
 a_typed_procedure : IsTypedHeap (of_f ∷ [])
 unfolding f_is_of
 a_typed_procedure zero object e = subst (IsTypedObject (of_f ∷ [])) (one_object of_f object e)
-    (record { fields = f; named = f_is_named; text_is = refl; are = (inl f_is_of, tt) })
+    (record { fields = f; named = f_is_named; text_is = refl; round = tt; are = (inl (f_is_of, tt), tt) })
 a_typed_procedure (suc id) object e = absurd cc
 
 -- { let n = 1; let f = proc( -> int); n; write f() }

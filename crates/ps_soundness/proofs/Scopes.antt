@@ -1,21 +1,22 @@
 -- Scopes of a typed heap: what their names hold, what a new value of a name leaves, and a new scope.
-use Rattle.std.proofs.Common.{◌≡◌, ◌⊎◌, ℕ, zero, suc, pos, true, false, List, [], ◌∷◌, ◌++◌, map, length, set, Option, Some, inl, inr, refl, sym, ap, ◌∙◌, subst, arith}
+use Rattle.std.proofs.Common.{◌≡◌, ℕ, zero, suc, true, List, [], ◌∷◌, ◌++◌, map, length, set, Option, Some, inl, inr, refl, sym, ap, ◌∙◌, subst, arith}
 use Rattle.std.specs.Prelude.{codes}
 use Rattle.ps_meaning.specs.ps_base.TyView.{TyView}
-use Rattle.ps_meaning.specs.ps_base.TyView as types
 use Rattle.ps_type_text.specs.Texts.{Field, class_text, IsNamed}
 use Rattle.ps_meaning.specs.text_forms.declared.forms.Form.{Form}
-use Rattle.ps_meaning.specs.text_forms.Classes.{form_of_type, form_of_field}
-use Rattle.ps_meaning.specs.text_forms.Forms.{forms_of, form_in}
+use Rattle.ps_meaning.specs.text_forms.Classes.{form_of_type}
+use Rattle.ps_meaning.specs.text_forms.Forms.{forms_of}
 use Rattle.ps_heap.proofs.of_text_forms.ClassForms.{class-told}
 use Rattle.ps_meaning.specs.ps_typing.WellTyped.{At, IsOfType}
-use Rattle.ps_heap.specs.Values.{Value, Num, Flag, Text, Nil, Pointer, Vector, Procedure, as_written, Nothing}
-use Rattle.ps_heap.specs.Objects.{Heap, Object, Scope, object_at, with_object, with_new, new_number, value_at, kept_as}
-use Rattle.ps_heap.specs.Scopes.{first_value, new_scope, scope_at, parent_in, names_in, scope_out, name_in, with_name_in, with_name, kept_name, with_kept_name}
-use Rattle.ps_soundness.specs.Shapes.{IsOf, is_given, HasValue, HaveValues, IsPrefix, IsScopeAt, AreScopes, AreNames, IsTypedHeap, StayGiven, Grows}
+use Rattle.ps_heap.specs.Values.{Value}
+use Rattle.ps_heap.specs.Objects.{Heap, Object, Scope, with_new, new_number, value_at, kept_as}
+use Rattle.ps_heap.specs.Scopes.{first_value, new_scope, scope_at, parent_in, names_in, scope_out, name_in, kept_name, with_kept_name}
+use Rattle.ps_soundness.specs.Shapes.{IsOf, is_given, HasValue, HaveValues, IsPrefix, IsScopeAt, AreScopes, AreNames, IsTypedHeap, Grows}
 use Rattle.ps_soundness.proofs.Telling.{Told}
-use Rattle.ps_soundness.proofs.Growing.{grows_new, grows_set, at_new, typed_new, typed_with, of_kept, names_kept, scopes_kept}
-use Rattle.ps_soundness.proofs.Fields.{form_at, kept_by_type}
+use Rattle.ps_soundness.proofs.Growing.{grows_new, at_new, typed_new, of_kept, scopes_kept}
+use Rattle.ps_soundness.proofs.Fields.{kept_by_type}
+use Rattle.ps_soundness.proofs.Names.{Holds, value_of, given_as, given_then, name_holds, IsFound, names_are, after_set, set_is, set_grows, set_typed, at_set, first_names}
+use Rattle.ps_soundness.proofs.Standings.{by_rules}
 
 -- Names of the types of the first ones of others.
 pub front_less : (fields : List Field) (next : Field) (whole : List Field) → IsPrefix (fields ++ next ∷ []) whole → IsPrefix fields whole
@@ -40,66 +41,6 @@ front_at (field ∷ fields) [] position ty front h = absurd front
 front_at (field ∷ fields) (other ∷ others) position ty front (inl h) = inl (h.0, sym front.0 ∙ h.1)
 front_at (field ∷ fields) (other ∷ others) position ty front (inr (before, e, h)) = inr (before, e, front_at fields others before ty front.1 h)
 
--- What a name holds: a value of its type, or what it held at first.
-abbrev pub Holds : Heap → TyView → Value → Type 0
-Holds heap ty v = IsOf heap ty v ⊎ (v ≡ first_value (form_of_type ty))
-
-nil_given : (v : Value) → is_given v ≡ true → v ≡ Nil → ⊥
-nil_given v h e = let given : is_given Nil ≡ true = ap is_given (sym e) ∙ h in cc
-
--- where it has its value, this is one of its type
-value_of : (heap : Heap) (ty : TyView) (v : Value) → Holds heap ty v → HasValue ty v → IsOf heap ty v
-value_of heap ty v (inl is) h = is
-value_of heap types.Int v (inr e) h = subst (IsOf heap types.Int) (sym e) refl
-value_of heap types.Bool v (inr e) h = subst (IsOf heap types.Bool) (sym e) tt
-value_of heap types.Pntr v (inr e) h = subst (IsOf heap types.Pntr) (sym e) tt
-value_of heap types.Str v (inr e) h = absurd (nil_given v h e)
-value_of heap types.Void v (inr e) h = absurd (nil_given v h e)
-value_of heap (types.Vector element) v (inr e) h = absurd (nil_given v h e)
-value_of heap (types.Proc parameters gives) v (inr e) h = absurd (nil_given v h e)
-
--- and a value of its type is one that it has
-pub has_value : (heap : Heap) (ty : TyView) (v : Value) → IsOf heap ty v → HasValue ty v
-has_value heap types.Int v h = tt
-has_value heap types.Bool v h = tt
-has_value heap types.Pntr v h = tt
-has_value heap types.Str (Text bytes) h = refl
-has_value heap types.Str v h = absurd h
-has_value heap types.Void Nothing h = refl
-has_value heap types.Void v h = absurd h
-has_value heap (types.Vector element) (Vector id) h = refl
-has_value heap (types.Vector element) v h = absurd h
-has_value heap (types.Proc parameters gives) (Procedure (as_written of) scope) h = refl
-has_value heap (types.Proc parameters gives) v h = absurd h
-
--- a value that is given gives way to one only
-given_first : (ty : TyView) (v : Value) → v ≡ first_value (form_of_type ty) → is_given v ≡ true → ⊥
-given_first types.Int v e h = let given : is_given (Num (pos 0)) ≡ true = ap is_given (sym e) ∙ h in cc
-given_first types.Bool v e h = let given : is_given (Flag false) ≡ true = ap is_given (sym e) ∙ h in cc
-given_first types.Str v e h = nil_given v h e
-given_first types.Pntr v e h = nil_given v h e
-given_first types.Void v e h = nil_given v h e
-given_first (types.Vector element) v e h = nil_given v h e
-given_first (types.Proc parameters gives) v e h = nil_given v h e
-
--- a value that a name may have takes the place of a given one
-given_as : (heap : Heap) (ty : TyView) (old v : Value) → Holds heap ty old → HasValue ty v → is_given old ≡ true → is_given v ≡ true
-given_as heap ty old v (inr e) has given = absurd (given_first ty old e given)
-given_as heap types.Int (Num z) v (inl h) has given = absurd cc
-given_as heap types.Int old v (inl h) has given = absurd h
-given_as heap types.Bool (Flag b) v (inl h) has given = absurd cc
-given_as heap types.Bool old v (inl h) has given = absurd h
-given_as heap types.Pntr Nil v (inl h) has given = absurd cc
-given_as heap types.Pntr (Pointer id) v (inl h) has given = absurd cc
-given_as heap types.Pntr old v (inl h) has given = absurd h
-given_as heap types.Str old v (inl h) has given = has
-given_as heap types.Void old v (inl h) has given = has
-given_as heap (types.Vector element) old v (inl h) has given = has
-given_as heap (types.Proc parameters gives) old v (inl h) has given = has
-
-pub given_then : (heap now : Heap) (ty : TyView) (old v : Value) → Holds heap ty old → IsOf now ty v → is_given old ≡ true → is_given v ≡ true
-given_then heap now ty old v holds is given = given_as heap ty old v holds (has_value now ty v is) given
-
 -- The name at a position.
 name_value : (heap : Heap) (fields whole : List Field) (names : List Value) (position : ℕ) (ty : TyView) → IsPrefix fields whole →
     AreNames heap whole names →
@@ -109,42 +50,12 @@ name_value heap (field ∷ fields) [] names position ty front are have at = absu
 name_value heap (field ∷ fields) (other ∷ others) [] position ty front are have at = absurd are
 name_value heap (field ∷ fields) (other ∷ others) (v ∷ vs) zero ty front are have (inl h) =
     subst (λ (t : TyView). IsOf heap t v) h.1
-    (value_of heap field.ty v (subst (λ (t : TyView). Holds heap t v) (sym front.0) are.0) have.0)
+    (value_of by_rules heap field.ty v (subst (λ (t : TyView). Holds by_rules heap t v) (sym front.0) (elim are.0 [ inl is ↦ inl is.0 | inr e ↦ inr e ])) have.0)
 name_value heap (field ∷ fields) (other ∷ others) (v ∷ vs) zero ty front are have (inr h) = absurd (let e = h.1 in omega arith)
 name_value heap (field ∷ fields) (other ∷ others) (v ∷ vs) (suc position) ty front are have (inl h) = absurd (let e = h.0 in omega arith)
 name_value heap (field ∷ fields) (other ∷ others) (v ∷ vs) (suc position) ty front are have (inr (before, e, h)) =
     name_value heap fields others vs position ty front.1 are.1 have.1
     (subst (At (IsOfType ty) fields) (let same : before ≡ position = omega arith in same) h)
-
-pub name_holds : (heap : Heap) (whole : List Field) (names : List Value) (position : ℕ) (ty : TyView) → AreNames heap whole names →
-    At (IsOfType ty) whole position → Holds heap ty (value_at names position)
-name_holds heap [] names position ty are at = absurd at
-name_holds heap (field ∷ fields) [] position ty are at = absurd are
-name_holds heap (field ∷ fields) (v ∷ vs) zero ty are (inl h) = subst (λ (t : TyView). Holds heap t v) h.1 are.0
-name_holds heap (field ∷ fields) (v ∷ vs) zero ty are (inr h) = absurd (let e = h.1 in omega arith)
-name_holds heap (field ∷ fields) (v ∷ vs) (suc position) ty are (inl h) = absurd (let e = h.0 in omega arith)
-name_holds heap (field ∷ fields) (v ∷ vs) (suc position) ty are (inr (before, e, h)) =
-    name_holds heap fields vs position ty are.1 (subst (At (IsOfType ty) fields) (let same : before ≡ position = omega arith in same) h)
-
-names_set : (heap : Heap) (whole : List Field) (names : List Value) (position : ℕ) (ty : TyView) (v : Value) → AreNames heap whole names →
-    At (IsOfType ty) whole position → IsOf heap ty v → AreNames heap whole (set names position v)
-names_set heap [] names position ty v are at is = absurd at
-names_set heap (field ∷ fields) [] position ty v are at is = absurd are
-names_set heap (field ∷ fields) (old ∷ vs) zero ty v are (inl h) is = (inl (subst (λ (t : TyView). IsOf heap t v) (sym h.1) is), are.1)
-names_set heap (field ∷ fields) (old ∷ vs) zero ty v are (inr h) is = absurd (let e = h.1 in omega arith)
-names_set heap (field ∷ fields) (old ∷ vs) (suc position) ty v are (inl h) is = absurd (let e = h.0 in omega arith)
-names_set heap (field ∷ fields) (old ∷ vs) (suc position) ty v are (inr (before, e, h)) is =
-    (are.0, names_set heap fields vs position ty v are.1 (subst (At (IsOfType ty) fields) (let same : before ≡ position = omega arith in same) h) is)
-
-stay_same : (names : List Value) → StayGiven names names
-stay_same [] = tt
-stay_same (v ∷ vs) = (λ e. e, stay_same vs)
-
-stay_set : (names : List Value) (position : ℕ) (v : Value) → (is_given (value_at names position) ≡ true → is_given v ≡ true) →
-    StayGiven names (set names position v)
-stay_set [] position v h = tt
-stay_set (old ∷ vs) zero v h = (h, stay_same vs)
-stay_set (old ∷ vs) (suc position) v h = (λ e. e, stay_set vs position v h)
 
 -- the next name has its value
 have_next : (heap : Heap) (fields whole : List Field) (next : Field) (names : List Value) (v : Value) → IsPrefix (fields ++ next ∷ []) whole →
@@ -161,14 +72,6 @@ have_less : (fields : List Field) (next : Field) (names : List Value) → HaveVa
 have_less [] next names h = tt
 have_less (field ∷ fields) next [] h = absurd h
 have_less (field ∷ fields) next (v ∷ vs) h = (h.0, have_less fields next vs h.1)
-
--- a scope with all of these names, so many levels out from another one
-pub record IsFound (heap : Heap) (scope : Option ℕ) (up : ℕ) (whole : List Field) (names : List Value) : Type 0 where
-  pub id : ℕ
-  pub out : scope_out heap scope up ≡ Some id
-  pub parent : Option ℕ
-  pub is : object_at heap id ≡ Some (Scope (class_text (codes "scope") whole) parent names)
-  pub named : IsNamed (codes "scope") whole
 
 -- the name at a place
 pub record IsName (heap : Heap) (scope : Option ℕ) (up position : ℕ) (ty : TyView) : Type 0 where
@@ -217,14 +120,6 @@ found heap (whole ∷ wholes) (fields ∷ scopes) scope (suc up) position ty (in
       at = further.at;
     }
 
--- the names of a scope of a typed heap
-names_are : (told : Told) (heap : Heap) (scope : Option ℕ) (up : ℕ) (whole : List Field) (names : List Value) → IsTypedHeap heap →
-    IsFound heap scope up whole names → AreNames heap whole names
-names_are told heap scope up whole names typed f =
-    let t = typed f.id (Scope (class_text (codes "scope") whole) f.parent names) f.is in
-    let same = told.classes (codes "scope") (codes "scope") whole t.fields f.named t.named t.text_is in
-    subst (λ (fields : List Field). AreNames heap fields names) (sym same.1) t.are
-
 -- what is read
 pub name_read : (told : Told) (heap : Heap) (scope : Option ℕ) (up position : ℕ) (ty : TyView) → IsTypedHeap heap →
     IsName heap scope up position ty → IsOf heap ty (kept_name heap scope up position)
@@ -234,47 +129,7 @@ name_read told heap scope up position ty typed n =
     let is : name_in heap (scope_out heap scope up) position ≡ value_at n.names position =
     ap (λ (o : Option ℕ). name_in heap o position) s.out ∙ ap (λ (o : Option Object). value_at (names_in o) position) s.is in
     subst (IsOf heap ty) (sym is)
-    (name_value heap n.fields n.whole n.names position ty n.front (names_are told heap scope up n.whole n.names typed s) n.have n.at)
-
--- what is written: the scope with another value of the name
-abbrev pub after_set : (heap : Heap) (scope : Option ℕ) (up : ℕ) (whole : List Field) (names : List Value) → IsFound heap scope up whole names →
-    ℕ → Value → Heap
-after_set heap scope up whole names f position v =
-    with_object heap f.id (Scope (class_text (codes "scope") whole) f.parent (set names position v))
-
-pub set_is : (heap : Heap) (scope : Option ℕ) (up position : ℕ) (whole : List Field) (names : List Value) (ty : TyView) (v : Value)
-    (f : IsFound heap scope up whole names) → At (IsOfType ty) whole position → kept_as (Some (form_of_type ty)) v ≡ v →
-    with_kept_name heap scope up position v ≡ after_set heap scope up whole names f position v
-unfolding with_name
-set_is heap scope up position whole names ty v f at kept =
-    let text = class_text (codes "scope") whole in
-    let form_is : form_in (forms_of text) position ≡ Some (form_of_type ty) =
-    ap (λ (forms : List Form). form_in forms position) (class-told (codes "scope") whole f.named) ∙ form_at whole position ty at in
-    ap (λ (o : Option ℕ). with_name heap o position v) f.out
-    ∙ ap (λ (o : Option Object). with_name_in heap f.id o position v) f.is
-    ∙ ap (λ (w : Value). with_object heap f.id (Scope text f.parent (set names position w)))
-    (ap (λ (form : Option Form). kept_as form v) form_is ∙ kept)
-
--- it leaves the heap typed, and grown
-pub set_grows : (heap : Heap) (scope : Option ℕ) (up position : ℕ) (whole : List Field) (names : List Value) (v : Value)
-    (f : IsFound heap scope up whole names) → (is_given (value_at names position) ≡ true → is_given v ≡ true) →
-    Grows heap (after_set heap scope up whole names f position v)
-set_grows heap scope up position whole names v f held =
-    let text = class_text (codes "scope") whole in
-    grows_set heap f.id (Scope text f.parent names) (Scope text f.parent (set names position v)) f.is (refl, refl, stay_set names position v held)
-
-pub set_typed : (told : Told) (heap : Heap) (scope : Option ℕ) (up position : ℕ) (whole : List Field) (names : List Value) (ty : TyView) (v : Value)
-    (f : IsFound heap scope up whole names) → (is_given (value_at names position) ≡ true → is_given v ≡ true) → IsTypedHeap heap →
-    At (IsOfType ty) whole position → IsOf (after_set heap scope up whole names f position v) ty v →
-    IsTypedHeap (after_set heap scope up whole names f position v)
-set_typed told heap scope up position whole names ty v f held typed at is =
-    let text = class_text (codes "scope") whole in
-    let new = after_set heap scope up whole names f position v in
-    let grows = set_grows heap scope up position whole names v f held in
-    let are = names_kept heap new grows whole names (names_are told heap scope up whole names typed f) in
-    typed_with heap f.id (Scope text f.parent names) (Scope text f.parent (set names position v)) f.is
-    (refl, refl, stay_set names position v held) typed
-    (record { fields = whole; named = f.named; text_is = refl; are = names_set new whole names position ty v are at is })
+    (name_value heap n.fields n.whole n.names position ty n.front (names_are by_rules told heap scope up n.whole n.names typed s) n.have n.at)
 
 -- The innermost scope, in which the next name gets its value.
 abbrev pub innermost : {heap : Heap} {scope : Option ℕ} {whole fields : List Field} (s : IsScopeAt heap scope whole fields) →
@@ -289,17 +144,12 @@ pub name_put : (told : Told) (heap : Heap) (scope : Option ℕ) (up position : �
 name_put told heap scope up position ty v typed n is =
     let f = n.at_scope in
     let at = front_at n.fields n.whole position ty n.front n.at in
-    let holds = name_holds heap n.whole n.names position ty (names_are told heap scope up n.whole n.names typed f) at in
-    let held = given_then heap heap ty (value_at n.names position) v holds is in
+    let holds = name_holds by_rules heap n.whole n.names position ty (names_are by_rules told heap scope up n.whole n.names typed f) at in
+    let held = given_then by_rules heap heap ty (value_at n.names position) v holds is in
     let grows = set_grows heap scope up position n.whole n.names v f held in
     let new = after_set heap scope up n.whole n.names f position v in
-    subst (λ (h : Heap). Grows heap h × IsTypedHeap h) (sym (set_is heap scope up position n.whole n.names ty v f at (kept_by_type heap ty v is)))
-    (grows, set_typed told heap scope up position n.whole n.names ty v f held typed at (of_kept heap new grows ty v is))
-
-at_set : (heap : Heap) (id : ℕ) (old new : Object) → object_at heap id ≡ Some old → object_at (with_object heap id new) id ≡ Some new
-at_set [] id old new e = absurd cc
-at_set (o ∷ os) zero old new e = refl
-at_set (o ∷ os) (suc id) old new e = at_set os id old new e
+    subst (λ (h : Heap). Grows heap h × IsTypedHeap h) (sym (set_is heap scope up position n.whole n.names ty v f at (kept_by_type by_rules heap ty v is)))
+    (grows, set_typed by_rules told heap scope up position n.whole n.names ty v f held typed at tt (of_kept by_rules heap new grows ty v is))
 
 -- the next name of the innermost scope gets its value, which may be a procedure that names it
 pub name_declared : (told : Told) (heap : Heap) (scope : Option ℕ) (whole : List Field) (wholes : List (List Field)) (fields : List Field)
@@ -314,8 +164,8 @@ name_declared told heap scope whole wholes fields scopes next v typed (s, rest) 
     let position = length fields in
     let front = front_more fields next whole s.front at in
     let text = class_text (codes "scope") whole in
-    let are = names_are told heap scope 0 whole s.names typed f in
-    let held = held_by (name_holds heap whole s.names position next.ty are at) in
+    let are = names_are by_rules told heap scope 0 whole s.names typed f in
+    let held = held_by (name_holds by_rules heap whole s.names position next.ty are at) in
     let grows = set_grows heap scope 0 position whole s.names v f held in
     let new = after_set heap scope 0 whole s.names f position v in
     let inner : IsScopeAt new scope whole (fields ++ next ∷ []) = record {
@@ -333,14 +183,10 @@ name_declared told heap scope whole wholes fields scopes next v typed (s, rest) 
     let of = is new grows around in
     subst (λ (h : Heap). Grows heap h × IsTypedHeap h × AreScopes h scope (whole ∷ wholes) ((fields ++ next ∷ []) ∷ scopes))
     (sym (set_is heap scope 0 position whole s.names next.ty v f at kept))
-    (grows, set_typed told heap scope 0 position whole s.names next.ty v f held typed at of, around)
+    (grows, set_typed by_rules told heap scope 0 position whole s.names next.ty v f held typed at tt of, around)
   where
-    held_by : Holds heap next.ty (value_at s.names (length fields)) → is_given (value_at s.names (length fields)) ≡ true → is_given v ≡ true
-    held_by holds given = given_as heap next.ty (value_at s.names (length fields)) v holds has given
-
-first_names : (heap : Heap) (fields : List Field) → AreNames heap fields (map first_value (map form_of_field fields))
-first_names heap [] = tt
-first_names heap (field ∷ fields) = (inr refl, first_names heap fields)
+    held_by : Holds by_rules heap next.ty (value_at s.names (length fields)) → is_given (value_at s.names (length fields)) ≡ true → is_given v ≡ true
+    held_by holds given = given_as by_rules heap next.ty (value_at s.names (length fields)) v holds has given
 
 -- a new scope: none of its names has had its declaration
 pub scope_made : (heap : Heap) (scope : Option ℕ) (whole : List Field) (wholes scopes : List (List Field)) → IsNamed (codes "scope") whole →
@@ -353,8 +199,8 @@ scope_made heap scope whole wholes scopes named typed stand =
     let object = new_scope text scope in
     let new = with_new heap object in
     let are = subst (λ (forms : List Form). AreNames heap whole (map first_value forms)) (sym (class-told (codes "scope") whole named))
-    (first_names heap whole) in (
-      typed_new heap object typed (record { fields = whole; named = named; text_is = refl; are = are }),
+    (first_names by_rules heap whole) in (
+      typed_new by_rules heap object typed (record { fields = whole; named = named; text_is = refl; round = tt; are = are }),
       (
         record {
           id = new_number heap;

@@ -7,13 +7,15 @@ use Rattle.std.specs.declared.cmp.Ordering.{Ordering}
 use Rattle.std.specs.declared.cmp.Ordering.TheVariants.{Less, Equal, Greater}
 use Rattle.ps_heap.specs.avl_trees.Rising.{pick, find, above, enter, without}
 use Rattle.ps_heap.specs.Operators.{is_int}
-use Rattle.ps_heap.specs.Texts.{Attempt, Yields, Fails, is_string, order_of}
+use Rattle.ps_heap.specs.Texts.{Attempt, is_string, order_of}
 use Rattle.ps_heap.specs.Values.{Value, Num, Flag, Text, Nil, Pointer, Vector, Procedure, Nothing}
-use Rattle.ps_heap.specs.Tables.{Key, string_key, int_key, Entry, entry_of, with_entry_object, Table, without_keys, by_strings, by_ints, seek, found_under, with_under, first_of, next_of, entered, looked_up, next_string, next_int}
+use Rattle.ps_heap.specs.Tables.{Key, string_key, int_key, Entry, entry_of, with_entry_object, Table, without_keys, by_strings, by_ints, seek, with_under, next_of, entered, looked_up, next_string, next_int}
 use Rattle.ps_heap.specs.Objects.{Heap, Object, Structure, Elements, Scope, Keyed, object_at, table_in, table_of}
 use Rattle.ps_heap.specs.Calls.{then_try}
 use Rattle.ps_heap.specs.Scans.{Found, found_of, last_string, last_int, next_in_table, next_key}
-use Rattle.ps_soundness.specs.Shapes.{IsPointedAt, IsTypedTable, IsTypedHeap}
+use Rattle.ps_soundness.specs.Over.{IsTypedHeap}
+use Rattle.ps_soundness.specs.Shapes.{IsPointedAt, IsTypedTable}
+use Rattle.ps_soundness.proofs.Notion.{Kind}
 use Rattle.ps_soundness.proofs.Operators.{OnYield}
 use Rattle.ps_soundness.proofs.Growing.{grows_set, typed_set}
 use Rattle.ps_soundness.proofs.Combining.{IsNext}
@@ -146,12 +148,12 @@ next_typed false heap last (by_ints entries) h =
 next_typed false heap last (by_strings entries) h = tt
 
 -- what goes on with the table that a value denotes
-pub on_table : {B : Type 0} (P : B → Type 0) (heap : Heap) (v : Value) (next : Table → Attempt B) → IsTypedHeap heap →
-    ((id : ℕ) (table : Table) → v ≡ Pointer id → object_at heap id ≡ Some (Keyed table) → IsTypedTable heap table → OnYield P (next table)) →
+pub on_table : (kind : Kind) {B : Type 0} (P : B → Type 0) (heap : Heap) (v : Value) (next : Table → Attempt B) → IsTypedHeap kind.asked heap →
+    ((id : ℕ) (table : Table) → v ≡ Pointer id → object_at heap id ≡ Some (Keyed table) → IsTypedTable heap table × kind.asked.tabled table → OnYield P (next table)) →
     OnYield P (then_try (table_of heap v) next)
 unfolding table_of
-on_table P heap Nil next typed h = tt
-on_table P heap (Pointer id) next typed h = of (object_at heap id) refl
+on_table kind P heap Nil next typed h = tt
+on_table kind P heap (Pointer id) next typed h = of (object_at heap id) refl
   where
     of : (found : Option Object) → object_at heap id ≡ found → OnYield P (then_try (table_in found) next)
     of None e = tt
@@ -159,20 +161,21 @@ on_table P heap (Pointer id) next typed h = of (object_at heap id) refl
     of (Some (Elements ty low elements)) e = tt
     of (Some (Scope text parent names)) e = tt
     of (Some (Keyed table)) e = h id table refl e (typed id (Keyed table) e)
-on_table P heap (Num z) next typed h = tt
-on_table P heap (Flag b) next typed h = tt
-on_table P heap (Text bytes) next typed h = tt
-on_table P heap (Vector id) next typed h = tt
-on_table P heap (Procedure does scope) next typed h = tt
-on_table P heap Nothing next typed h = tt
+on_table kind P heap (Num z) next typed h = tt
+on_table kind P heap (Flag b) next typed h = tt
+on_table kind P heap (Text bytes) next typed h = tt
+on_table kind P heap (Vector id) next typed h = tt
+on_table kind P heap (Procedure does scope) next typed h = tt
+on_table kind P heap Nothing next typed h = tt
 
-pub next_key_typed : (strings : Bool) (heap : Heap) (v : Value) (last : Option Key) → IsTypedHeap heap →
+pub next_key_typed : (kind : Kind) (strings : Bool) (heap : Heap) (v : Value) (last : Option Key) → IsTypedHeap kind.asked heap →
     OnYield (MayBeFound strings heap) (next_key strings heap v last)
 unfolding next_key
-next_key_typed strings heap v last typed =
-    on_table (MayBeFound strings heap) heap v (next_in_table strings last) typed (λ id table v_is is of. next_typed strings heap last table of)
+next_key_typed kind strings heap v last typed =
+    on_table kind (MayBeFound strings heap) heap v (next_in_table strings last) typed (λ id table v_is is of. next_typed strings heap last table of.0)
 
 -- a table with other entries
-pub table_put_typed : (heap : Heap) (id : ℕ) (old new : Table) → object_at heap id ≡ Some (Keyed old) → IsTypedHeap heap → IsTypedTable heap new →
-    IsNext heap (set heap id (Keyed new))
-table_put_typed heap id old new was typed h = (grows_set heap id (Keyed old) (Keyed new) was tt, typed_set heap id (Keyed old) (Keyed new) was tt typed h)
+pub table_put_typed : (kind : Kind) (heap : Heap) (id : ℕ) (old new : Table) → object_at heap id ≡ Some (Keyed old) → IsTypedHeap kind.asked heap → IsTypedTable heap new → kind.asked.tabled new →
+    IsNext kind heap (set heap id (Keyed new))
+table_put_typed kind heap id old new was typed h tabled =
+    (grows_set heap id (Keyed old) (Keyed new) was tt, typed_set kind heap id (Keyed old) (Keyed new) was tt typed (h, tabled))

@@ -1,5 +1,5 @@
 -- What each typed clause that runs gives is of a type that has values, or void.
-use Rattle.std.proofs.Common.{◌≡◌, ◌⊎◌, ℕ, true, List, [], ◌∷◌, Some, inl, inr, sym, subst}
+use Rattle.std.proofs.Common.{◌≡◌, ℕ, true, List, [], ◌∷◌, Some, inl, inr, sym, subst}
 use Rattle.std.specs.List.{AllByRecursion}
 use Rattle.ps_meaning.specs.ps_base.TyView.{TyView, TyViews}
 use Rattle.ps_meaning.specs.ps_base.TyView as types

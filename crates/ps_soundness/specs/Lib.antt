@@ -1,5 +1,6 @@
 pub mod Valued
 pub mod Running
+pub mod Over
 pub mod Shapes
 pub mod Free
 pub use Rattle.ps_type_text.specs as ps_type_text

@@ -22,7 +22,7 @@ use Rattle.obj_store.specs.Opening.{IsOpened}
 use Rattle.obj_store.specs.Spaces.{space_of, words_of}
 use Rattle.obj_store.specs.Store.{Store}
 use Rattle.ps_reports.specs.declared.report.Report.{Report}
-use Rattle.ps_volumes.specs.Attaching.{HasVolume, KeepsHeld, KeepsVolume, CallsFew, IsStored, IsUnattached, attaching_calls, report_for}
+use Rattle.ps_volumes.specs.Attaching.{HasVolume, KeepsHeld, KeepsVolume, AttachesInFew, IsStored, IsUnattached, attaching_calls, report_for}
 use Rattle.ps_volumes.proofs.Refused.{unattached_by}
 use Rattle.ps_volumes.proofs.Settled.{from_then, held_from}
 
@@ -127,7 +127,7 @@ module _ (a b : Outside (List ℕ)) (is_image : (bytes : List ℕ) → b.content
   maps_found outside store opened was now is at = same_maps was now is ∙ maps_opened store.table.committed now (opened.found now at)
 
   opened_calls : {H : Type 0} (outside : H → Outside (List ℕ)) (store : Store H) → IsOpened outside b store → (committed : Bool) → IsMigrated a b committed
-      → ((bytes : List ℕ) → a.contents bytes → committed ≡ lacks_index bytes) → CallsFew a (outside store.host)
+      → ((bytes : List ℕ) → a.contents bytes → committed ≡ lacks_index bytes) → AttachesInFew a (outside store.host)
   opened_calls outside store opened committed is when = record {
     told = λ bytes at.
         let now = is.still bytes at in

@@ -39,7 +39,7 @@ abbrev pub attaching_calls : Bool → ℕ → ℕ
 attaching_calls moved maps = moving_calls moved maps + (maps + 8)
 
 -- It is called as often for the map pages of what a read gives at the start; and never more than for the 488 of the largest volume.
-pub record CallsFew (old new : Outside (List ℕ)) : Type 0 where
+pub record AttachesInFew (old new : Outside (List ℕ)) : Type 0 where
   pub told : (bytes : List ℕ) → old.contents bytes → new.device_calls ≤ old.device_calls + attaching_calls (lacks_index bytes) (maps_held (held_in bytes))
   pub most : new.device_calls ≤ old.device_calls + attaching_calls true 488
 
@@ -57,7 +57,7 @@ pub record IsStored {H : Type 0} (outside : H → Outside (List ℕ)) (old : Out
   pub told : TellsNothing old (outside store.host)
   -- the file that a read gives now is of the last form: it has an index page, where it has 88 pages
   pub moved : (bytes : List ℕ) → (outside store.host).contents bytes → lacks_index bytes ≡ false
-  pub calls : CallsFew old (outside store.host)
+  pub calls : AttachesInFew old (outside store.host)
   pub counts : old.device_faults ≤ (outside store.host).device_faults
   pub output : (outside store.host).output_faults ≡ old.output_faults
   pub live : store.live ≡ true

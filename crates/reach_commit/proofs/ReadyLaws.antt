@@ -9,7 +9,8 @@ use Rattle.swizzle.specs.obj_layout.declared.kind.Kind.TheVariants as kind
 use Rattle.swizzle.specs.obj_layout.declared.reference.Reference.{Reference}
 use Rattle.swizzle.specs.obj_layout.declared.reference.Reference.TheVariants.{Nil, Local}
 use Rattle.swizzle.specs.Heap.{Heap, IsHeap, IsHeld, IsListed, AreOnce, nothing, object_at, header_at, ref_at, num_at, is_reached}
-use Rattle.swizzle.proofs.KeptLaws.{held_is}
+use Rattle.swizzle.proofs.KeptLaws.{held_is, inside_kept}
+use Rattle.swizzle.specs.Joint.{name_of}
 use Rattle.swizzle.proofs.ImageLaws.{refs-long}
 use Rattle.reaching.specs.Reaching.{IsIn, at_start}
 use Rattle.commit_walk.specs.Walk.{Goes, May, IsAt, StartsAt, Finds, has_home}
@@ -328,7 +329,7 @@ module _ (old mid new : Heap) (writing : List Source) (directory : Option ℕ) (
   goes-there : (x slot to : ℕ) → IsHeld old x → get_or (object_at new x).refs slot Nil ≡ Local to → Goes old x to
   goes-there x slot to held e =
       let was : ref_at old x slot ≡ Local to = sym (remains.refs x slot) ∙ e in
-      record { slot = slot; below = subst (λ n. slot < n) (refs-long old x v.heap_old held) (slot-below (object_at old x).refs slot to was); is = was }
+      record { slot = slot; below = subst (λ n. slot < n) (refs-long old x v.heap_old held) (slot-below (object_at old x).refs slot to was); names = record { held = inside_kept old x v.heap_old held slot to was; is = ap (name_of old) was } }
 
   -- what the walk may go to is listed, and has a PID now
   has-pid : (to : ℕ) → (May old to → IsIn to mid.reached) → 1 ≤ (header_at new to).pid

@@ -44,11 +44,11 @@ use Rattle.commit_images.proofs.StagingLaws.{becomes-as}
 use Rattle.commit_images.proofs.StoreLaws.{none-or-one, one-object}
 use Rattle.reach_commit.specs.Committing.{Remains, Commits, Saves, BreaksOff, pid_of}
 use Rattle.reach_commit.specs.Ready.{IsReady}
-use Rattle.reach_commit.specs.Telling.{IsTold, Moved, Tells}
+use Rattle.reach_commit.specs.Telling.{after_step, IsTold, Moved, Tells}
 use Rattle.reach_commit.proofs.ReadyLaws.{none-or-some, slot-below}
 use Rattle.reach_commit.proofs.RehomeLaws.{steady-rehomes}
 use Rattle.reach_commit.proofs.MoveLaws.{moved-given, moved-same}
-use Rattle.reach_commit.proofs.GivenLaws.{IsBut, numbered-alike, words-alike}
+use Rattle.reach_commit.proofs.GivenLaws.{IsBut, remade-none, numbered-alike, words-alike}
 use Rattle.reach_commit.proofs.ClearLaws.{Clears, same-names, image-same, image-cleared}
 use Rattle.reach_commit.proofs.TellLaws.{stored-below, image-stored, stored-space, holds-here, holds-stays, cut-after, same-away}
 
@@ -395,7 +395,7 @@ module _ (old mid new : Heap) (writing : List Source) (directory : Option ℕ) (
         | inl none ↦
             let image : image_of mid x ≡ image_of old x = kept-image old mid x h k held_old held_mid r.commits.remains (r.commits.homes.others x not_fresh) (stored-pids old before x (header_at old x).pid h held_old s) in
             let whole : image_of new x ≡ image_of old x = same.images x ∙ image in
-            let after_is : IsStored after (header_at old x).pid (image_of old x) = record { there = stays-after t (header_at old x).pid (image_of old x) none s.there; header = s.header; far = s.far } in
+            let after_is : IsStored after (header_at old x).pid (image_of old x) = record { there = stays-after t (header_at old x).pid (image_of old x) none s.there; header = s.header; far = s.far; clean = s.clean } in
             subst (λ p. IsStored after p (image_of new x)) (sym (same.pids x ∙ pid)) (subst (λ (w : List ℕ). IsStored after (header_at old x).pid w) (sym whole) after_is)
       ]
 
@@ -439,17 +439,33 @@ module _ (old mid new : Heap) (writing : List Source) (directory : Option ℕ) (
         tells = tells;
       }
 
+clears-none : (heap : Heap) → Clears heap heap
+clears-none heap = record { remade = remade-none heap; pids = λ y. refl; seen_same = λ holds. record { grows = λ n it j. j; no_more = λ n it j. j } }
+
+-- what is held after a step
+held-step : (outside : Outside Space) (step : Space → Space) → Becomes outside (after_step outside step) step
+held-step outside step = record { told = λ space held. record { from = space; was = held; by = refl }; no_other = λ after held. (held.from, held.was, held.by) }
+
 -- A commit that broke off has given PIDs.
-pub breaks-off : {S : Type 0} (old mid : Heap) (writing : List Source) (directory : Option ℕ) (before after : Outside Space) (used most : ℕ) (fault : VaultFault) → IsReady old mid writing directory used
+pub breaks-off : {S : Type 0} (old mid : Heap) (writing : List Source) (directory : Option ℕ) (used named most : ℕ) (before after : Outside Space) (fault : VaultFault) → IsHeap old → IsHeap mid
+    → IsReady old mid writing directory used → Moved old mid before before → ((space : Space) → before.contents space → IsSpace used named space)
+    → ((a b : Space) → before.contents a → before.contents b → a ≡ b)
     → Settles {T = S} before after (saving mid (new_in mid used) (changed_in mid used) (used + words_of mid (new_in mid used))) (saved mid (new_in mid used) (changed_in mid used) (pid_of mid directory)) (Err fault)
     → FailsSave mid (new_in mid used) (changed_in mid used) before after used most fault → BreaksOff old mid writing directory before after used most fault
-breaks-off old mid writing directory before after used most fault r settles fails = record {
-  fresh = new_in mid used;
-  changed = changed_in mid used;
-  commits = r.commits;
-  settles = settles-as-err before after (saving mid (new_in mid used) (changed_in mid used) (used + words_of mid (new_in mid used))) (saved mid (new_in mid used) (changed_in mid used) (pid_of mid directory)) fault settles;
-  fails = fails;
-}
+breaks-off old mid writing directory used named most before after fault h k r moved spaces one settles fails =
+    let step = saved mid (new_in mid used) (changed_in mid used) (pid_of mid directory) in
+    record {
+      fresh = new_in mid used;
+      changed = changed_in mid used;
+      commits = r.commits;
+      settles = settles-as-err before after (saving mid (new_in mid used) (changed_in mid used) (used + words_of mid (new_in mid used))) step fault settles;
+      fails = fails;
+      whole = elim fails.whole [
+        | inl same ↦ inl same
+        | inr there ↦
+            inr (tells old mid mid writing directory used named before (after_step before step) h k r moved (clears-none mid) spaces one (held-step before step) there)
+      ];
+    }
 
 pub held-still : (old new : Heap) (at : Option ℕ) → Remains old new → IfSome at (IsHeld old) → IfSome at (IsHeld new)
 held-still old new None r held = tt

@@ -31,7 +31,7 @@ pub image-stored : (outside : Outside Space) (heap : Heap) (x : ℕ) → IsHeap 
 unfolding image_of
 image-stored outside heap x h ready held =
     let r = ready x (inl refl) in
-    record { there = held; header = (far_object heap x).header; far = image-far heap x h r.0 r.1 }
+    record { there = held; header = (far_object heap x).header; far = image-far heap x h r.0 r.1; clean = record { flags = refl; pid = refl; chain = refl } }
 
 module _ (heap : Heap) (fresh changed : List ℕ) (directory used : ℕ) (before after : Outside Space)
     (h : IsHeap heap)
@@ -87,9 +87,9 @@ module _ (heap : Heap) (fresh changed : List ℕ) (directory used : ℕ) (before
   same-away range low = record {
     forth = λ pid words away s.
         let r = range pid words s in
-        record { there = holds-stays pid words (λ x l e. local x pid (again x l).0 e r.0 away) s.there; header = s.header; far = s.far };
+        record { there = holds-stays pid words (λ x l e. local x pid (again x l).0 e r.0 away) s.there; header = s.header; far = s.far; clean = s.clean };
     back = λ pid words away s. elim (holds-cases pid words s.there) [
-      | inl old ↦ record { there = old.1; header = s.header; far = s.far }
+      | inl old ↦ record { there = old.1; header = s.header; far = s.far; clean = s.clean }
       | inr image ↦ absurd (local image.at pid (listed-held image.at image.listed) (sym image.pid_is) (low pid words s.there) away)
     ];
   }

@@ -38,7 +38,7 @@ Stores old new writing directory before after used now most named (Err (Vault fa
 Stores old new writing directory before after used now most named (Err (AreaFull top wanted size)) = ⊥
 
 -- pages are lacked only beside snapshots, and where those that are held and those that are wanted are more than there are
-abbrev pub Lacks : Access → Result CommitAnswer SwizzleFault → Type 0
+abbrev pub Lacks : {L : Type 0} → Access L → Result CommitAnswer SwizzleFault → Type 0
 Lacks access (Ok answer) = Unit {0}
 Lacks access (Err (Vault fault)) = (held wanted pages : ℕ) → fault ≡ NoPages held wanted pages → (access.alone ≡ false) × (pages < held + wanted)
 Lacks access (Err (AreaFull top wanted size)) = Unit {0}

@@ -1,10 +1,10 @@
 -- What a commit does that stores.
 use Rattle.std.specs.Prelude.{◌≡◌, ◌⊎◌, ℕ, ◌+◌, ◌≤◌, true, List, [], length, Option, Some, None, Ok, Err}
-use Rattle.swizzle.specs.obj_layout.ps_outside.Outside.{Outside}
+use Rattle.swizzle.specs.obj_layout.ps_outside.Outside.{Outside, LeavesSame}
 use Rattle.swizzle.specs.obj_layout.declared.kind.Kind.TheVariants.{Node}
 use Rattle.swizzle.specs.obj_layout.declared.vault.VaultFault.{VaultFault}
 use Rattle.swizzle.specs.obj_layout.Stored.{Space}
-use Rattle.swizzle.specs.obj_layout.Storing.{Becomes, Settles}
+use Rattle.swizzle.specs.obj_layout.Storing.{unfiled, Becomes, Settles}
 use Rattle.swizzle.specs.Heap.{Heap, IsHeld, AreOnce, top_of, header_at, ref_at, num_at}
 use Rattle.reaching.specs.Reaching.{IsIn}
 use Rattle.commit_walk.specs.Walk.{has_home}
@@ -13,7 +13,7 @@ use Rattle.commit_images.specs.Images.{words_of}
 use Rattle.commit_images.specs.Stored.{AreNumbered}
 use Rattle.commit_images.specs.Saved.{saved, saving, FailsSave}
 use Rattle.reach_commit.specs.Becoming.{IsReached, HaveHomes}
-use Rattle.reach_commit.specs.Telling.{Tells}
+use Rattle.reach_commit.specs.Telling.{after_step, Tells}
 
 -- An assigned object is written anew: it was stored, and has a home or is a node that was reached.
 pub record IsChanged (heap : Heap) (writing : List Source) (directory : Option ℕ) (y : ℕ) : Type 0 where
@@ -70,10 +70,12 @@ pub record Saves (old new : Heap) (writing : List Source) (directory : Option �
   pub settles : Settles {T = Unit {0}} before after (saving new fresh changed now) (saved new fresh changed (pid_of new directory)) (Ok tt)
   pub tells : Tells old new before after fresh changed (pid_of new directory)
 
--- A commit that broke off: the area has the new PIDs already; a crash leaves what it could leave before, or all that was to be stored.
+-- A commit that broke off: the area has the new PIDs already; a crash leaves what it could leave before, or all that was to be stored. Either it leaves nothing
+-- but what it could leave before, or a vault that had all that was to be stored would tell it.
 pub record BreaksOff (old new : Heap) (writing : List Source) (directory : Option ℕ) (before after : Outside Space) (used most : ℕ) (fault : VaultFault) : Type 0 where
   pub fresh : List ℕ
   pub changed : List ℕ
   pub commits : Commits old new writing directory used fresh changed
   pub settles : Settles {T = Unit {0}} before after (saving new fresh changed (used + words_of new fresh)) (saved new fresh changed (pid_of new directory)) (Err fault)
   pub fails : FailsSave new fresh changed before after used most fault
+  pub whole : LeavesSame (unfiled before) (unfiled after) ⊎ Tells old new before (after_step before (saved new fresh changed (pid_of new directory))) fresh changed (pid_of new directory)

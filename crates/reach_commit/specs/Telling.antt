@@ -1,6 +1,6 @@
 -- What is seen of area and vault together, and what the vault holds, before a commit and after it.
 use Rattle.std.specs.Prelude.{◌≡◌, ◌⊎◌, ℕ, ◌≤◌, List, map, Option}
-use Rattle.swizzle.specs.obj_layout.ps_outside.Outside.{Outside}
+use Rattle.swizzle.specs.obj_layout.ps_outside.Outside.{Outside, After}
 use Rattle.swizzle.specs.obj_layout.Stored.{Space, Holds}
 use Rattle.swizzle.specs.obj_layout.declared.reference.Reference.{Reference}
 use Rattle.swizzle.specs.obj_layout.declared.reference.Reference.TheVariants.{Nil, Pid}
@@ -27,6 +27,10 @@ pub record IsTold (heap : area.Heap) (outside : Outside Space) : Type 0 where
   pub cut : (space : Space) → outside.contents space → IsCut space
   pub there : (x : ℕ) → IsHeld heap x → 1 ≤ (header_at heap x).pid → (words : List ℕ) × Holds outside (header_at heap x).pid words
   pub whole : (x : ℕ) → IsHeld heap x → IsWhole heap x
+
+-- an outside that holds what this one holds, after a step
+abbrev pub after_step : Outside Space → (Space → Space) → Outside Space
+after_step outside step = record outside { contents = λ space. After outside.contents (λ a b. step a ≡ b) space }
 
 -- What was seen under a name before: the same object, but for its name, those in its places, and its home.
 pub record WasSeen (old : Seen) (to : Reference → Reference) (name : Reference) (it : Shown) : Type 0 where

@@ -1,6 +1,7 @@
 //! The commit.
-ghost use Rattle.std.specs.Prelude.{◌≡◌, ◌⊎◌, ◌+◌, ◌≤◌, [], true, length, IfSome, OnOk, OnErr};
+ghost use Rattle.std.specs.Prelude.{◌≡◌, ◌⊎◌, ◌+◌, ◌≤◌, [], true, false, length, IfSome, OnOk, OnErr};
 ghost use Rattle.swizzle.specs.Heap.{IsHeld};
+ghost use Rattle.swizzle.specs.obj_layout.Storing.{SameUsers};
 ghost use Rattle.new_pids.specs.Giving.{AreBelow};
 ghost use Rattle.reach_commit.specs.Becoming.{AreNewRoots};
 ghost use Rattle.reach_commit.specs.Answers.{Decides, LeavesAll, Stores, Lacks};
@@ -46,7 +47,8 @@ pub fn commit<V: Vault>(
     ensures still { LeavesAll sw.old sw.new vault.old vault.new result }
     ensures stores { Stores sw.old sw.new writing.now directory (V.outside vault.old) (V.outside vault.new) (V.used_words vault.old) (V.used_words vault.new) (V.most_words vault.old) (V.directory_at vault.new) result }
     ensures most { V.most_words vault.new ≡ V.most_words vault.old }
-    ensures access { V.access vault.new ≡ V.access vault.old }
+    ensures users { SameUsers (V.access vault.old) (V.access vault.new) }
+    ensures unstaged { OnOk result ((V.access vault.old).staged ≡ false → V.access vault.new ≡ V.access vault.old) }
     ensures pages { Lacks (V.access vault.old) result }
     ensures alive { OnOk result (V.alive vault.new) }
     ensures dead { OnErr result (V.alive vault.new → ⊥) }

@@ -1,6 +1,6 @@
 //! Stores what a commit stores.
 ghost use Rattle.std.specs.Prelude.{◌≡◌, ◌+◌, ◌≤◌, [], true, length, IfSome, OnOk, MatchResult};
-ghost use Rattle.swizzle.specs.obj_layout.Storing.{DeadIfErr, LacksPages};
+ghost use Rattle.swizzle.specs.obj_layout.Storing.{DeadIfErr, SameUsers, all_settled, LacksPages};
 ghost use Rattle.swizzle.specs.Heap.{IsHeap, IsHeld};
 ghost use Rattle.new_pids.specs.Giving.{AreBelow};
 ghost use Rattle.reach_commit.specs.Deciding.{AreWritable};
@@ -75,7 +75,8 @@ pub fn store<V: Vault>(
         (λ saved. Saves sw.old sw.new writing.now directory (V.outside vault.old) (V.outside vault.new) (V.used_words vault.old) (V.used_words vault.new) (V.most_words vault.old) (V.directory_at vault.new) saved.fresh saved.rewritten)
         (BreaksOff sw.old sw.new writing.now directory (V.outside vault.old) (V.outside vault.new) (V.used_words vault.old) (V.most_words vault.old)) }
     ensures most { V.most_words vault.new ≡ V.most_words vault.old }
-    ensures access { V.access vault.new ≡ V.access vault.old }
+    ensures users { SameUsers (V.access vault.old) (V.access vault.new) }
+    ensures unstaged { OnOk result (V.access vault.new ≡ all_settled (V.access vault.old)) }
     ensures pages { LacksPages (V.access vault.old) result }
     ensures alive { OnOk result (V.alive vault.new) }
     ensures dead { DeadIfErr (V.alive vault.new) result }

@@ -69,7 +69,7 @@ module _ (ks : Keys) (old m m1 m2 : Place) (at : ℕ) (root : Option ℕ) (count
   module _ (is : List (I ks)) (u : Tree (I ks)) (stands : Stands (rows_of ks m1) u) (here : IsPlace m1) (linked : IsLinked m1.heap root (root_of u)) (others : StayBeside ks m m1 is) (rising : IsRising (order_by ks) u) (balanced : IsBalanced u) (values : AllByRecursion HasValue (items u)) (counted : count ≡ length (items u)) where
     stands_now : Stands (rows_of ks m2) u
     stands_now = Rattle.table_nodes.proofs.of_avl_trees.Standing.stands_grown (rows_of ks m1) (rows_of ks m2)
-        (λ n row r. subst (λ o. Rattle.table_nodes.specs.Nodes.rows_in ks m2.heap o n row) (sym outside) (rows_stay ks m1.heap m2.heap m1.outside at here.heap shape1 (wrote.others here.single) n row r)) u stands
+        (λ n row r. subst (λ o. Rattle.table_nodes.specs.Nodes.rows_in ks m2.heap o n row) (sym outside) (rows_stay ks m1.heap m2.heap m1.outside at here.heap wrote.heap shape1 wrote.lasts (wrote.others here.single) n row r)) u stands
 
     pub has_now : HasNow ks old m2 at is u
     has_now = record {
@@ -138,13 +138,13 @@ module _ (T : Type 0) (ks : Keys) (old new : Place) (table : Option ℕ) (key : 
   enters_refused fault (Some value) o = uses_refused ks old table _ _ fault o
 
   module _ (opened : Opened) (o : Opens ks old.heap table (Ok opened)) where
-    put_into : (value : Reference) (at : ℕ) (t : Tree (I ks)) (result : Result T SwizzleFault) → MatchResult result (λ done. EntersPair ks old new at (items t) key value) (IsEnterFault old.outside)
-        → MatchResult (lifted result) (λ done. EntersPair ks old new at (items t) key value) (Rattle.table_lib.specs.Entries.IsOpEnterFault old.outside)
+    put_into : (value : Reference) (at : ℕ) (t : Tree (I ks)) (result : Result T SwizzleFault) → MatchResult result (λ done. EntersPair ks old new at (items t) key value) (IsEnterFault old.heap old.outside)
+        → MatchResult (lifted result) (λ done. EntersPair ks old new at (items t) key value) (Rattle.table_lib.specs.Entries.IsOpEnterFault old.heap old.outside)
     put_into value at t (Ok x) w = w
     put_into value at t (Err fault) w = w
 
-    take_from : (at : ℕ) (t : Tree (I ks)) (result : Result T SwizzleFault) → MatchResult result (λ done. TakesKey ks old new at (items t) key) (IsFetchFault old.outside)
-        → MatchResult (lifted result) (λ done. TakesKey ks old new at (items t) key) (Rattle.table_lib.specs.Operations.IsOpFetchFault old.outside)
+    take_from : (at : ℕ) (t : Tree (I ks)) (result : Result T SwizzleFault) → MatchResult result (λ done. TakesKey ks old new at (items t) key) (IsFetchFault old.heap old.outside)
+        → MatchResult (lifted result) (λ done. TakesKey ks old new at (items t) key) (Rattle.table_lib.specs.Operations.IsOpFetchFault old.heap old.outside)
     take_from at t (Ok x) w = w
     take_from at t (Err fault) w = w
 
@@ -154,7 +154,7 @@ module _ (T : Type 0) (ks : Keys) (old new : Place) (table : Option ℕ) (key : 
         go : (b : Bool) → opened.used ≡ b → Enters ks old new table key (Some value) (lifted result)
         go true e = uses_used ks old table _ _ opened e o (lifted result) (λ t h p low. put_into (name_at old.heap value) opened.at t result (puts t p (Rattle.table_lib.proofs.RootLaws.pairs_of ks old opened.at t h) low))
         go false e = uses_unused ks old table _ _ opened e o (lifted result)
-            (λ at f p. subst (λ i. MatchResult (lifted result) (λ done. EntersPair ks old new i [] key (name_at old.heap value)) (Rattle.table_lib.specs.Entries.IsOpEnterFault old.outside)) (one_table table opened.at at o.at_is f)
+            (λ at f p. subst (λ i. MatchResult (lifted result) (λ done. EntersPair ks old new i [] key (name_at old.heap value)) (Rattle.table_lib.specs.Entries.IsOpEnterFault old.heap old.outside)) (one_table table opened.at at o.at_is f)
             (put_into (name_at old.heap value) opened.at leaf result (puts leaf p (no_pairs ks old opened.at (o.never e)) (omega arith))))
 
     stays_unused : (at : ℕ) → opened.at ≡ at → opened.used ≡ false → IsPlace old → (result : Result T SwizzleFault) → MatchResult result (λ done. MarksTable old.heap new.heap old.outside new.outside opened.at) (λ fault. ⊥)

@@ -1,5 +1,5 @@
 -- Why a call on a table failed, one step after another.
-use Rattle.std.proofs.Common.{◌≡◌, ◌⊎◌, ℕ, Option, Some, Result, Ok, Err, IfErr, inl, inr}
+use Rattle.std.proofs.Common.{◌≡◌, ℕ, Option, Some, Result, Ok, Err, IfErr, inl, inr}
 use Rattle.table_nodes.specs.heap_places.ps_outside.Outside.{Outside}
 use Rattle.table_nodes.specs.heap_places.obj_layout.Stored.{Space}
 use Rattle.table_nodes.specs.heap_places.swizzle.declared.fault.SwizzleFault.{SwizzleFault}

@@ -13,13 +13,14 @@ use Rattle.table_nodes.specs.heap_places.obj_layout.declared.reference.Reference
 use Rattle.table_nodes.specs.heap_places.swizzle.declared.fault.SwizzleFault.{SwizzleFault}
 use Rattle.table_nodes.specs.heap_places.heap_texts.declared.fault.OpFault.{OpFault}
 use Rattle.table_nodes.specs.heap_places.heap_texts.declared.fault.OpFault.TheVariants.{Swizzle}
-use Rattle.table_nodes.specs.Nodes.{IsLinked, IsFetchFault}
+use Rattle.table_nodes.specs.heap_places.swizzle.Changes.{IsKnown}
+use Rattle.table_nodes.specs.Nodes.{IsLinked, IsFetchFault, seen}
 use Rattle.table_nodes.specs.node_rows.Nodes.{I, HasValue}
 use Rattle.table_nodes.specs.Steps.{Place, rows_of, Touches}
 use Rattle.table_nodes.specs.Searching.{IsTree}
 use Rattle.table_nodes.specs.Following.{item_name}
 use Rattle.table_nodes.proofs.KeyLaws.{total}
-use Rattle.table_nodes.proofs.NodeLaws.{fetch_back}
+use Rattle.table_nodes.proofs.SeenLaws.{fetch_back, grown_seen}
 use Rattle.table_lib.specs.Nexts.{after_key, IsNodeOf, FindsNode, FindsPair, IsPairOf, ReadsPair}
 use Rattle.table_lib.proofs.UseLaws.{err_same}
 
@@ -60,7 +61,7 @@ module _ {P : Type 0} (ks : Keys) (is : P → I ks → Type 0) (old m : Place) (
     class = λ at e ne. ap Err (err_same fault _ (Err fault) refl (o.class at e ne));
     other = λ at other t ne e h. ap Err (err_same fault _ (Err fault) refl (o.other at other t ne e h));
     unused_is = λ at e h. (let f = o.unused_is at e h in absurd (cc));
-    used_is = λ at t e h. o.used_is at t e h;
+    used_is = λ at t e h all. o.used_is at t e h;
   }
 
   pub pairs_none : FindsNode ks old m table (after_key ks after) (Ok None) → FindsPair ks is old table after (Ok None)
@@ -95,9 +96,12 @@ module _ {P : Type 0} (ks : Keys) (is : P → I ks → Type 0) (old m : Place) (
     class = λ at e ne. (let f = o.class at e ne in absurd (cc));
     other = λ at other t ne e h. (let f = o.other at other t ne e h in absurd (cc));
     unused_is = λ at e h. (let f = o.unused_is at e h in absurd (cc));
-    used_is = λ at t e h. go (above (after_key ks after) (items t)) (o.used_is at t e h);
+    used_is = λ at t e h all.
+        go (above (after_key ks after) (items t)) (o.used_is at t e h) (above_all (λ a. IsKnown (seen old.heap old.outside) a.entry.value) (after_key ks after) (items t) all);
   }
     where
-      go : (item : Option (I ks)) → IsNodeOf ks m (Some node) item → IsFetchFault old.outside fault
-      go None h = absurd h
-      go (Some a) h = fetch_back old.outside m.outside fault grows.leaves.contents (reads a h.0 h.1 h.2)
+      go : (item : Option (I ks)) → IsNodeOf ks m (Some node) item → IfSome item (λ a. IsKnown (seen old.heap old.outside) a.entry.value) → IsFetchFault old.heap old.outside fault
+      go None h k = absurd h
+      go (Some a) h k =
+          fetch_back old.heap m.heap old.outside m.outside fault grows
+          (reads a h.0 h.1 h.2 (record { it = k.it; is = grown_seen old.heap m.heap old.outside m.outside grows a.entry.value k.it k.is }))

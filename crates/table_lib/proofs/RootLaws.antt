@@ -1,5 +1,5 @@
 -- The tree of a table, from its root on.
-use Rattle.std.proofs.Common.{refl, ◌≡◌, ℕ, ◌+◌, ◌*◌, ◌^◌, ◌<◌, length, Option, Some, sym, ap, ◌∙◌, subst, arith}
+use Rattle.std.proofs.Common.{refl, ◌≡◌, ℕ, ◌+◌, ◌*◌, ◌^◌, ◌<◌, List, [], ◌∷◌, length, Option, Some, sym, ap, ◌∙◌, subst, arith}
 use Rattle.table_nodes.specs.heap_places.obj_layout.declared.reference.Reference.{Reference}
 use Rattle.table_nodes.specs.heap_places.obj_layout.declared.reference.Reference.TheVariants.{Nil, Pid, Local}
 use Rattle.table_nodes.specs.heap_places.swizzle.Heap.{Heap, num_at}
@@ -15,8 +15,9 @@ use Rattle.table_nodes.specs.node_rows.Keys.{Keys, KeyOf, order_by}
 use Rattle.table_nodes.specs.Nodes.{IsLinked}
 use Rattle.table_nodes.specs.node_rows.Nodes.{I}
 use Rattle.table_nodes.specs.Steps.{Place, rows_of, Touches}
-use Rattle.table_nodes.specs.Searching.{IsTree}
+use Rattle.table_nodes.specs.Searching.{AreSeen, IsTree}
 use Rattle.table_nodes.proofs.KeyLaws.{total}
+use Rattle.table_nodes.proofs.SeenLaws.{grown_seen}
 use Rattle.table_lib.specs.Tables.{HasPairs, IsTable}
 
 -- a reference that names nothing is nil
@@ -54,3 +55,9 @@ found_items ks key p at t h = lookup_items (under (order_by ks)) (seek (order_by
 -- the table that was opened is that of the call
 pub one_table : (table : Option ℕ) (here at : ℕ) → table ≡ Some here → table ≡ Some at → here ≡ at
 one_table table here at e f = cc
+
+-- values that are seen are seen after touches
+pub values_grown : (ks : Keys) (old new : Place) (is : List (I ks)) → Touches old new → AreSeen ks old.heap old.outside is → AreSeen ks new.heap new.outside is
+values_grown ks old new [] grows k = tt
+values_grown ks old new (a ∷ is) grows k =
+    (record { it = k.0.it; is = grown_seen old.heap new.heap old.outside new.outside grows a.entry.value k.0.it k.0.is }, values_grown ks old new is grows k.1)

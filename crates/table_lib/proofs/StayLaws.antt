@@ -17,7 +17,9 @@ use Rattle.table_nodes.specs.node_rows.Keys.{Keys, by_ints, by_texts, KeyOf, ord
 use Rattle.table_nodes.specs.node_rows.Nodes.{Seat, link_of, I}
 use Rattle.table_nodes.specs.Steps.{Place, IsPlace, rows_of}
 use Rattle.table_nodes.proofs.KeyLaws.{total}
+use Rattle.table_nodes.specs.Nodes.{seen}
 use Rattle.table_nodes.proofs.NodeLaws.{joint_one}
+use Rattle.table_nodes.proofs.SeenLaws.{seen_from, seen_joint}
 use Rattle.table_nodes.proofs.Sparing.{unlike}
 use Rattle.table_lib.specs.Tables.{HasPairs, IsTable}
 use Rattle.table_lib.specs.Entries.{AreApart, EntersPair, HasNow, IsOpen, SparesBut, TakesKey}
@@ -45,23 +47,29 @@ module _ (ks other : Keys) (old new : Place) (at b : ℕ) (t : Tree (I ks)) (v :
   text_apart : (n : Reference) (it : Shown) → it.kind ≡ Text → joint old.heap old.outside n it → IsApart n (items t)
   text_apart n it is there =
       all_map (Has (rows_of ks old)) (λ a. a.name ≢ n)
-      (λ a r e. let same = joint_one old.heap old.outside p.heap p.single n r.there.it it (subst (λ m. joint old.heap old.outside m r.there.it) e r.there.there) there in let kind = ap (λ (x : Shown). x.kind) same in absurd (cc (kind, is, r.there.is.kind)))
+      (λ a r e. let same = joint_one old.heap old.outside p.heap p.single n r.there.it it (subst (λ m. joint old.heap old.outside m r.there.it) e (seen_joint old.heap old.outside a.name r.there.it r.there.there)) there in let kind = ap (λ (x : Shown). x.kind) same in absurd (cc (kind, is, r.there.is.kind)))
       (items t) (all_have (rows_of ks old) t pairs.stands)
 
   module _ (u : Tree (I ks)) (now : HasNow ks old new at (items t) u) where
     row_kept : (n : Reference) (row : Seat other) → IsApart n (items t) → rows_of other old n row → rows_of other new n row
     row_kept n row beside r = record {
       it = r.it;
-      there = now.others n r.it (unlike old.heap old.outside at n r.it p.heap pairs.shape.held (λ e. (let k = pairs.shape.kind in let m = r.is.kind in absurd (cc (e, k, m)))) r.there) beside r.there;
+      there = stays n r.it (λ e. (let k = pairs.shape.kind in let m = r.is.kind in absurd (cc (e, k, m)))) beside r.there;
       is = record { kind = r.is.kind; refs = r.is.refs; nums = r.is.nums; left = r.is.left; right = r.is.right; key = key other row.entry.key r.is.key; value = r.is.value; height = r.is.height };
     }
       where
-        key : (kind : Keys) (k : KeyOf kind) → IsKey kind (joint old.heap old.outside) r.it k → IsKey kind (joint new.heap new.outside) r.it k
+        stays : (m : Reference) (it : Shown) → it.kind ≢ (shown_at old.heap at).kind → IsApart m (items t) → seen old.heap old.outside m it → seen new.heap new.outside m it
+        stays m it ne beside there =
+            let held = seen_joint old.heap old.outside m it there in
+            seen_from old.heap new.heap old.outside new.outside now.here.heap spares.lasts spares.contents m it there
+            (now.others m it (unlike old.heap old.outside at m it p.heap pairs.shape.held ne held) beside held)
+
+        key : (kind : Keys) (k : KeyOf kind) → IsKey kind (seen old.heap old.outside) r.it k → IsKey kind (seen new.heap new.outside) r.it k
         key by_ints k is = is
         key by_texts k is = record {
           it = is.it;
-          there = now.others (slot_of r.it 2) is.it (unlike old.heap old.outside at (slot_of r.it 2) is.it p.heap pairs.shape.held (λ e. (let f = pairs.shape.kind in let m = is.kind in absurd (cc (e, f, m)))) is.there)
-              (text_apart (slot_of r.it 2) is.it is.kind is.there) is.there;
+          there = stays (slot_of r.it 2) is.it (λ e. (let f = pairs.shape.kind in let m = is.kind in absurd (cc (e, f, m))))
+              (text_apart (slot_of r.it 2) is.it is.kind (seen_joint old.heap old.outside (slot_of r.it 2) is.it is.there)) is.there;
           kind = is.kind;
           bytes_are = is.bytes_are;
         }
@@ -82,7 +90,7 @@ module _ (ks other : Keys) (old new : Place) (at b : ℕ) (t : Tree (I ks)) (v :
     table_stays w.tree w.now,
     all_two (λ a. IsApart a.name (items t)) (Has (rows_of other old)) (λ a. IsApart a.name (items w.tree))
         (λ a beside has. subst (IsApart a.name) (sym w.pairs)
-        (entered_all (order_by ks) (total ks) key value w.fresh (λ x. x.name ≢ a.name) (items t) (λ e. w.is_fresh has.there.it (subst (λ n. joint old.heap old.outside n has.there.it) (sym e) has.there.there)) (λ x f ne. ne) beside))
+        (entered_all (order_by ks) (total ks) key value w.fresh (λ x. x.name ≢ a.name) (items t) (λ e. w.is_fresh has.there.it (subst (λ n. joint old.heap old.outside n has.there.it) (sym e) (seen_joint old.heap old.outside a.name has.there.it has.there.there))) (λ x f ne. ne) beside))
         (items v) names (all_have (rows_of other old) v table.stands),
   )
 

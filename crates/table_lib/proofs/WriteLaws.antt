@@ -1,12 +1,12 @@
 -- A table's words are written, and all else stays.
-use Rattle.std.proofs.Common.{◌≡◌, ◌⊎◌, ℕ, List, length, set, Option, Some, None, IfSome, refl, sym, ap, ◌∙◌, subst, arith, inl, inr}
+use Rattle.std.proofs.Common.{◌≡◌, ◌≢◌, ◌⊎◌, ℕ, List, length, set, Option, Some, None, IfSome, refl, sym, ap, ◌∙◌, subst, arith, inl, inr}
 use Rattle.std.proofs.lemmas.Bool.{cases_eq}
 use Rattle.std.proofs.lemmas.List.{get_or-set_same, get_or-set_other}
 use Rattle.table_nodes.specs.heap_places.ps_outside.Outside.{Outside}
 use Rattle.table_nodes.specs.heap_places.obj_layout.Stored.{Space, Holds}
 use Rattle.table_nodes.specs.heap_places.obj_layout.declared.reference.Reference.{Reference}
 use Rattle.table_nodes.specs.heap_places.obj_layout.declared.reference.Reference.TheVariants.{Nil}
-use Rattle.table_nodes.specs.heap_places.swizzle.Heap.{Heap, IsHeap, IsHeld, IsListed, Stands, reference_to, ref_at, with_mark, with_num, with_ref}
+use Rattle.table_nodes.specs.heap_places.swizzle.Heap.{Heap, IsHeap, IsHeld, IsListed, Stands, header_at, reference_to, ref_at, with_mark, with_num, with_ref}
 use Rattle.table_nodes.specs.heap_places.swizzle.Joint.{Shown, shown_at, name_at, name_of}
 use Rattle.table_nodes.specs.heap_places.swizzle.Changes.{Same, ChangedAt}
 use Rattle.table_nodes.specs.heap_places.swizzle.Reading.{joint}
@@ -18,17 +18,18 @@ use Rattle.table_nodes.proofs.of_heap_places.of_swizzle.NameLaws.{shown-counts}
 use Rattle.table_nodes.proofs.of_heap_places.PlaceLaws.{slot-name}
 use Rattle.table_nodes.specs.node_rows.Keys.{Keys, by_ints, by_texts, KeyOf, IsKey}
 use Rattle.table_nodes.specs.node_rows.Nodes.{Seat}
-use Rattle.table_nodes.specs.Nodes.{IsNode, OthersStay, rows_in}
+use Rattle.table_nodes.specs.Nodes.{IsNode, IsStored, OthersStay, rows_in, seen}
+use Rattle.table_nodes.proofs.SeenLaws.{seen_from, seen_joint}
 use Rattle.table_nodes.specs.Sparing.{Lasts, IsNoted, Spares}
 use Rattle.table_nodes.proofs.NodeLaws.{shown_now, single_kept, stand_nodes, stand_named}
-use Rattle.table_nodes.proofs.Sparing.{WritesOne, node_lasts, lasts_then, beside_ref, beside_num, beside_then, writes_one, shown_marked, unlike}
+use Rattle.table_nodes.proofs.Sparing.{kinds_kept, WritesOne, node_lasts, lasts_then, beside_ref, beside_num, beside_then, writes_one, shown_marked, unlike}
 use Rattle.table_lib.specs.Tables.{key_number, IsTableAt}
 use Rattle.table_lib.specs.Entries.{IsOpen, SparesBut, WritesTable, MarksTable}
 
 -- What a call spares, step by step.
 
-pub but_written : (a c : Heap) (outside : Outside Space) (at : ℕ) → IsHeap a → WritesOne a c outside at → SparesBut at a c outside outside
-but_written a c outside at h w = record {
+pub but_written : (a c : Heap) (outside : Outside Space) (at : ℕ) → IsHeap a → IsHeld a at → WritesOne a c outside at → SparesBut at a c outside outside
+but_written a c outside at h held w = record {
   lasts = w.lasts;
   kept = λ j there. elim (cases_eq j at) [
     | inl same ↦ inr (inl same, subst (λ i. IsListed i c.assigned) (sym same) w.listed)
@@ -37,6 +38,11 @@ but_written a c outside at h w = record {
   noted = w.noted;
   only = λ j l. elim (w.only j l) [ inl m ↦ inl m | inr d ↦ inr (inl d) ];
   others = λ single n it ne nt k. w.others single n it nt k;
+  kinds = λ single n it k. kinds_kept a c outside at h held w.lasts (w.others single) n it k;
+  flags = λ j there. elim (cases_eq j at) [ inl same ↦ inr (inl same) | inr apart ↦ inl (w.place.flags j apart) ];
+  homes = λ j there. w.place.homes j;
+  size = w.place.size;
+  top = omega (arith, w.place.top);
   contents = record { kept = λ x k. k; no_other = λ x k. k };
 }
 
@@ -51,6 +57,13 @@ module _ (at : ℕ) (a b c : Heap) (x y z : Outside Space) (held : IsHeld a at) 
   only_but j (inl l) = elim (s.only j l) [ inl m ↦ inl m | inr n ↦ inr (inr (node_lasts b c j (t.lasts j n.held) n)) ]
   only_but j (inr o) = inr o
 
+  flags_but : (j : ℕ) → IsHeld b j → ((header_at b j).flags ≡ (header_at a j).flags) ⊎ IsNode b j → ((header_at c j).flags ≡ (header_at b j).flags) ⊎ IsOpen at c j
+      → ((header_at c j).flags ≡ (header_at a j).flags) ⊎ IsOpen at c j
+  flags_but j h (inl e) (inl d) = inl (d ∙ e)
+  flags_but j h (inr n) (inl d) = inr (inr (node_lasts b c j (t.lasts j h) n))
+  flags_but j h (inl e) (inr o) = inr o
+  flags_but j h (inr n) (inr o) = inr o
+
   pub but_then : SparesBut at a c x z
   but_then = record {
     lasts = λ j h. (let f = s.lasts j h in lasts_then a b c j f (t.lasts j f.held));
@@ -58,6 +71,14 @@ module _ (at : ℕ) (a b c : Heap) (x y z : Outside Space) (held : IsHeld a at) 
     noted = λ j l. t.noted j (s.noted j l);
     only = λ j l. only_but j (t.only j l);
     others = λ single n it ne nt k. t.others (single_kept x y s.contents single) n it ne (λ e. nt (e ∙ (s.lasts at held).name)) (s.others single n it ne k);
+    kinds = λ single n it k.
+        (let f = s.kinds single n it k in
+        let m = t.kinds (single_kept x y s.contents single) n f.it f.there in
+        record { it = m.it; there = m.there; kind_is = m.kind_is ∙ f.kind_is });
+    flags = λ j h. (let there = (s.lasts j h).held in flags_but j there (s.flags j h) (t.flags j there));
+    homes = λ j h. t.homes j (s.lasts j h).held ∙ s.homes j h;
+    size = t.size ∙ s.size;
+    top = omega (arith, s.top, t.top);
     contents = record { kept = λ k h. t.contents.kept k (s.contents.kept k h); no_other = λ k h. s.contents.no_other k (t.contents.no_other k h) };
   }
 
@@ -77,16 +98,21 @@ words_spared a b x y at s t = go (s.kept at t.held)
     go (inr n) = let k = (s.lasts at t.held).kind ∙ t.kind in absurd (cc (k, n.0.kind))
 
 -- Nodes have their rows where a table is written.
-pub rows_stay : (ks : Keys) (a c : Heap) (outside : Outside Space) (at : ℕ) → IsHeap a → IsTableAt a at → OthersStay a c outside at → (n : Reference) (row : Seat ks) → rows_in ks a outside n row → rows_in ks c outside n row
-rows_stay ks a c outside at h table others n row r = record {
+pub rows_stay : (ks : Keys) (a c : Heap) (outside : Outside Space) (at : ℕ) → IsHeap a → IsHeap c → IsTableAt a at → ((j : ℕ) → IsHeld a j → Lasts a c j) → OthersStay a c outside at → (n : Reference) (row : Seat ks) → rows_in ks a outside n row → rows_in ks c outside n row
+rows_stay ks a c outside at h now table lasts others n row r = record {
   it = r.it;
-  there = others n r.it (unlike a outside at n r.it h table.held (λ e. (let k = table.kind in let m = r.is.kind in absurd (cc (e, k, m)))) r.there) r.there;
+  there = stays n r.it (λ e. (let k = table.kind in let m = r.is.kind in absurd (cc (e, k, m)))) r.there;
   is = record { kind = r.is.kind; refs = r.is.refs; nums = r.is.nums; left = r.is.left; right = r.is.right; key = key ks row.entry.key r.is.key; value = r.is.value; height = r.is.height };
 }
   where
-    key : (ks : Keys) (k : KeyOf ks) → IsKey ks (joint a outside) r.it k → IsKey ks (joint c outside) r.it k
+    stays : (m : Reference) (it : Shown) → it.kind ≢ (shown_at a at).kind → seen a outside m it → seen c outside m it
+    stays m it ne there =
+        let held = seen_joint a outside m it there in
+        seen_from a c outside outside now lasts (record { kept = λ x k. k; no_other = λ x k. k }) m it there (others m it (unlike a outside at m it h table.held ne held) held)
+
+    key : (ks : Keys) (k : KeyOf ks) → IsKey ks (seen a outside) r.it k → IsKey ks (seen c outside) r.it k
     key by_ints k is = is
-    key by_texts k is = record { it = is.it; there = others (slot_of r.it 2) is.it (unlike a outside at (slot_of r.it 2) is.it h table.held (λ e. (let f = table.kind in let m = is.kind in absurd (cc (e, f, m)))) is.there) is.there; kind = is.kind; bytes_are = is.bytes_are }
+    key by_texts k is = record { it = is.it; there = stays (slot_of r.it 2) is.it (λ e. (let f = table.kind in let m = is.kind in absurd (cc (e, f, m)))) is.there; kind = is.kind; bytes_are = is.bytes_are }
 
 module _ (h0 h1 h2 h3 h4 : Heap) (outside : Outside Space) (at : ℕ) (root : Option ℕ) (ks : Keys) (number count : ℕ) (is_number : number ≡ key_number ks) (table : IsTableAt h0 at) (roots : IfSome root (IsNode h0)) (i0 : IsHeap h0) (i1 : IsHeap h1) (i2 : IsHeap h2) (i3 : IsHeap h3) (i4 : IsHeap h4)
     (e1 : h1 ≡ with_ref h0 at 0 (reference_to root)) (e2 : h2 ≡ with_num h1 at 1 number) (e3 : h3 ≡ with_num h2 at 2 count) (e4 : h4 ≡ with_mark h3 at) (s1 : Stands h0 h1) (s2 : Stands h1 h2) (s3 : Stands h2 h3) (s4 : Stands h3 h4) where
@@ -108,14 +134,14 @@ module _ (h0 h1 h2 h3 h4 : Heap) (outside : Outside Space) (at : ℕ) (root : Op
   abbrev it3 : Shown
   it3 = record (shown_at h2 at) { nums = set (shown_at h2 at).nums 2 count }
 
-  c1 : ChangedAt (joint h0 outside) (name_at h0 at) it1 (joint h1 outside)
-  c1 = subst (λ x. ChangedAt (joint h0 outside) (name_at h0 at) it1 (joint x outside)) (sym e1) (joint-ref h0 (Holds outside) at 0 (reference_to root) i0 table.held)
+  c1 : ChangedAt (seen h0 outside) (name_at h0 at) it1 (seen h1 outside)
+  c1 = subst (λ x. ChangedAt (seen h0 outside) (name_at h0 at) it1 (seen x outside)) (sym e1) (joint-ref h0 (IsStored outside) at 0 (reference_to root) i0 table.held)
 
-  c2 : ChangedAt (joint h1 outside) (name_at h1 at) it2 (joint h2 outside)
-  c2 = subst (λ x. ChangedAt (joint h1 outside) (name_at h1 at) it2 (joint x outside)) (sym e2) (joint-num h1 (Holds outside) at 1 number i1 held1)
+  c2 : ChangedAt (seen h1 outside) (name_at h1 at) it2 (seen h2 outside)
+  c2 = subst (λ x. ChangedAt (seen h1 outside) (name_at h1 at) it2 (seen x outside)) (sym e2) (joint-num h1 (IsStored outside) at 1 number i1 held1)
 
-  c3 : ChangedAt (joint h2 outside) (name_at h2 at) it3 (joint h3 outside)
-  c3 = subst (λ x. ChangedAt (joint h2 outside) (name_at h2 at) it3 (joint x outside)) (sym e3) (joint-num h2 (Holds outside) at 2 count i2 held2)
+  c3 : ChangedAt (seen h2 outside) (name_at h2 at) it3 (seen h3 outside)
+  c3 = subst (λ x. ChangedAt (seen h2 outside) (name_at h2 at) it3 (seen x outside)) (sym e3) (joint-num h2 (IsStored outside) at 2 count i2 held2)
 
   shows1 : shown_at h1 at ≡ it1
   shows1 = shown_now h0 h1 outside at it1 i1 table.held s1 c1
@@ -143,7 +169,7 @@ module _ (h0 h1 h2 h3 h4 : Heap) (outside : Outside Space) (at : ℕ) (root : Op
 
   pub wrote_one : WritesOne h0 h4 outside at
   wrote_one = writes_one h0 h3 h4 outside at i3 i4 table.held
-      (beside_then h0 h2 h3 outside at table.held (beside_then h0 h1 h2 outside at table.held (beside_ref h0 h1 outside at 0 (reference_to root) i0 i1 table.held e1 s1) (beside_num h1 h2 outside at 1 number i1 i2 held1 e2 s2)) (beside_num h2 h3 outside at 2 count i2 i3 held2 e3 s3))
+      (beside_then h0 h2 h3 outside at table.held (beside_then h0 h1 h2 outside at table.held (beside_ref h0 h1 outside at 0 (reference_to root) i0 i1 table.held e1 s1) (beside_num h1 h2 outside at 1 number (λ e. cc) i1 i2 held1 e2 s2)) (beside_num h2 h3 outside at 2 count (λ e. cc) i2 i3 held2 e3 s3))
       e4 s4
 
   same_name : (side : Option ℕ) → IfSome side (IsNode h0) → name_of h0 (reference_to side) ≡ name_of h4 (reference_to side)
@@ -158,6 +184,7 @@ module _ (h0 h1 h2 h3 h4 : Heap) (outside : Outside Space) (at : ℕ) (root : Op
     home = ap (λ (is : List ℕ). Rattle.std.specs.Prelude.slice_index is 0) nums_are ∙ (get_or-set_other (set (shown_at h0 at).nums 1 number) 2 0 count 0 (omega arith) ∙ get_or-set_other (shown_at h0 at).nums 1 0 number 0 (omega arith));
     noted = wrote_one.listed;
     heap = i4;
+    lasts = wrote_one.lasts;
     holds = record { nodes = λ j m. stand_nodes h3 h4 s4 j (stand_nodes h2 h3 s3 j (stand_nodes h1 h2 s2 j (stand_nodes h0 h1 s1 j m))); named = λ j n m. stand_named h3 h4 s4 j n (stand_named h2 h3 s3 j n (stand_named h1 h2 s2 j n (stand_named h0 h1 s1 j n m))) };
     others = wrote_one.others;
   }
@@ -168,7 +195,7 @@ module _ (a b : Heap) (outside : Outside Space) (at : ℕ) (table : IsTableAt a 
   same_words = shown_marked a b at ha hb table.held s e at table.held
 
   pub marked_one : WritesOne a b outside at
-  marked_one = writes_one a a b outside at ha hb table.held (record { stands = λ j h. record { held = h; kind = refl; refs = refl; nums = refl; bytes = refl; pid = refl }; list = refl; shows = λ j h ne. refl; others = λ n it ne k. k }) e s
+  marked_one = writes_one a a b outside at ha hb table.held (record { stands = λ j h. record { held = h; kind = refl; refs = refl; nums = refl; bytes = refl; pid = refl }; list = refl; shows = λ j h ne. refl; others = λ n it ne k. k; place = record { size = refl; top = refl; flags = λ j ne. refl; homes = λ j. refl } }) e s
 
   no_root : (to : Reference) → name_of b to ≡ Nil → to ≡ Nil
   no_root to f = Rattle.table_lib.proofs.RootLaws.nil_named b to f

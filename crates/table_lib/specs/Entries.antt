@@ -1,11 +1,11 @@
 -- What is done to a table where a value is entered under a key, or a key is taken out.
-use Rattle.std.specs.Prelude.{◌≡◌, ◌≢◌, ◌⊎◌, ℕ, ◌-◌, ◌^◌, ◌<◌, List, [], length, Option, Some, None, Result, MatchResult}
+use Rattle.std.specs.Prelude.{◌≡◌, ◌≢◌, ◌⊎◌, ℕ, ◌-◌, ◌^◌, ◌≤◌, ◌<◌, List, [], length, Option, Some, None, Result, MatchResult}
 use Rattle.std.specs.List.{AllByRecursion}
 use Rattle.table_nodes.specs.heap_places.ps_outside.Outside.{Outside, SameContents}
 use Rattle.table_nodes.specs.heap_places.obj_layout.Stored.{Space}
 use Rattle.table_nodes.specs.heap_places.obj_layout.declared.kind.Kind.TheVariants.{Node}
 use Rattle.table_nodes.specs.heap_places.obj_layout.declared.reference.Reference.{Reference}
-use Rattle.table_nodes.specs.heap_places.swizzle.Heap.{Heap, IsHeap, IsHeld, IsListed, num_at, ref_at, reference_to}
+use Rattle.table_nodes.specs.heap_places.swizzle.Heap.{Heap, IsHeap, IsHeld, IsListed, header_at, num_at, ref_at, reference_to, top_of}
 use Rattle.table_nodes.specs.heap_places.swizzle.Joint.{Shown, shown_at, name_at, name_of}
 use Rattle.table_nodes.specs.heap_places.swizzle.Reading.{joint}
 use Rattle.table_nodes.specs.heap_places.heap_texts.declared.fault.OpFault.{OpFault}
@@ -18,7 +18,7 @@ use Rattle.table_nodes.specs.node_rows.Keys.{Keys, KeyOf, order_by}
 use Rattle.table_nodes.specs.Nodes.{IsNode, IsSingle, IsFetchFault, OthersStay}
 use Rattle.table_nodes.specs.node_rows.Nodes.{I}
 use Rattle.table_nodes.specs.Steps.{Place, IsPlace, Holds}
-use Rattle.table_nodes.specs.Sparing.{Lasts}
+use Rattle.table_nodes.specs.Sparing.{IsOfKind, Lasts}
 use Rattle.table_nodes.specs.Entering.{IsEnterFault}
 use Rattle.table_lib.specs.Tables.{HasKeys, HasPairs, IsTable, IsUnused}
 use Rattle.table_lib.specs.Operations.{Uses, IsOpFetchFault}
@@ -28,13 +28,19 @@ abbrev pub IsOpen : ℕ → Heap → ℕ → Type 0
 IsOpen at heap j = (j ≡ at) ⊎ IsNode heap j
 
 -- What a call on a table spares, whatever its nodes are: each object of the area lasts, and shows as it did, or it is the table or a node, and is noted as
--- assigned. None but these are noted that weren't. What is seen of an object that is neither stays, and the vault holds what it held.
+-- assigned. None but these are noted that weren't, and all others keep their flags. Each object of the area keeps its home. What is seen of an object that is
+-- neither stays, and each object that is seen keeps its kind; the area doesn't shrink, and the vault holds what it held.
 pub record SparesBut (at : ℕ) (old new : Heap) (before after : Outside Space) : Type 0 where
   pub lasts : (j : ℕ) → IsHeld old j → Lasts old new j
   pub kept : (j : ℕ) → IsHeld old j → (shown_at new j ≡ shown_at old j) ⊎ (IsOpen at new j × IsListed j new.assigned)
   pub noted : (j : ℕ) → IsListed j old.assigned → IsListed j new.assigned
   pub only : (j : ℕ) → IsListed j new.assigned → IsListed j old.assigned ⊎ IsOpen at new j
   pub others : IsSingle before → (n : Reference) (it : Shown) → it.kind ≢ Node → n ≢ name_at old at → joint old before n it → joint new after n it
+  pub kinds : IsSingle before → (n : Reference) (it : Shown) → joint old before n it → IsOfKind new after n it.kind
+  pub flags : (j : ℕ) → IsHeld old j → ((header_at new j).flags ≡ (header_at old j).flags) ⊎ IsOpen at new j
+  pub homes : (j : ℕ) → IsHeld old j → num_at new j 0 ≡ num_at old j 0
+  pub size : new.size ≡ old.size
+  pub top : top_of old ≤ top_of new
   pub contents : SameContents before after
 
 -- A table's words were written, and it was noted as assigned; its home stays, and all else is seen as it was.
@@ -46,6 +52,7 @@ pub record WritesTable (ks : Keys) (old new : Heap) (outside : Outside Space) (a
   pub noted : IsListed at new.assigned
   pub heap : IsHeap new
   pub holds : Holds old new
+  pub lasts : (j : ℕ) → IsHeld old j → Lasts old new j
   pub others : IsSingle outside → OthersStay old new outside at
 
 -- A table without keys was noted as assigned, and stays one; all is seen as it was.
@@ -92,25 +99,25 @@ pub record StaysUnused (old new : Place) (at : ℕ) : Type 0 where
   pub others : (n : Reference) (it : Shown) → joint old.heap old.outside n it → joint new.heap new.outside n it
 
 -- a reference's object couldn't be fetched, or there was no room for a node
-abbrev pub IsOpEnterFault : Outside Space → OpFault → Type 0
-IsOpEnterFault outside (Trap trap) = ⊥
-IsOpEnterFault outside (Swizzle fault) = IsEnterFault outside fault
+abbrev pub IsOpEnterFault : Heap → Outside Space → OpFault → Type 0
+IsOpEnterFault heap outside (Trap trap) = ⊥
+IsOpEnterFault heap outside (Swizzle fault) = IsEnterFault heap outside fault
 
 -- A value was put under a key into the tree of a table.
 abbrev pub PutsPair : {T : Type 0} → (ks : Keys) → Place → Place → ℕ → KeyOf ks → Reference → Result T SwizzleFault → Type 0
 PutsPair ks old new at key value result = (t : Tree (I ks)) → IsPlace old → HasPairs ks old at t → length (items t) < 2 ^ 64 - 1
-    → MatchResult result (λ done. EntersPair ks old new at (items t) key value) (IsEnterFault old.outside)
+    → MatchResult result (λ done. EntersPair ks old new at (items t) key value) (IsEnterFault old.heap old.outside)
 
 -- A key was taken out of the tree of a table.
 abbrev pub TakesPair : {T : Type 0} → (ks : Keys) → Place → Place → ℕ → KeyOf ks → Result T SwizzleFault → Type 0
-TakesPair ks old new at key result = (t : Tree (I ks)) → IsPlace old → HasPairs ks old at t → MatchResult result (λ done. TakesKey ks old new at (items t) key) (IsFetchFault old.outside)
+TakesPair ks old new at key result = (t : Tree (I ks)) → IsPlace old → HasPairs ks old at t → MatchResult result (λ done. TakesKey ks old new at (items t) key) (IsFetchFault old.heap old.outside)
 
 -- What entering a value under a key answers and does; with no value the key is taken out. A table that never had a key gets the kind of the first that
 -- is entered with a value.
 abbrev pub Enters : {T : Type 0} → (ks : Keys) → Place → Place → Option ℕ → KeyOf ks → Option ℕ → Result T OpFault → Type 0
 Enters ks old new table key (Some to) result = Uses ks old table
-    (λ r. (at : ℕ) → table ≡ Some at → IsPlace old → MatchResult r (λ done. EntersPair ks old new at [] key (name_at old.heap to)) (IsOpEnterFault old.outside))
-    (λ at t r. IsPlace old → length (items t) < 2 ^ 64 - 1 → MatchResult r (λ done. EntersPair ks old new at (items t) key (name_at old.heap to)) (IsOpEnterFault old.outside)) result
+    (λ r. (at : ℕ) → table ≡ Some at → IsPlace old → MatchResult r (λ done. EntersPair ks old new at [] key (name_at old.heap to)) (IsOpEnterFault old.heap old.outside))
+    (λ at t r. IsPlace old → length (items t) < 2 ^ 64 - 1 → MatchResult r (λ done. EntersPair ks old new at (items t) key (name_at old.heap to)) (IsOpEnterFault old.heap old.outside)) result
 Enters ks old new table key None result = Uses ks old table
     (λ r. (at : ℕ) → table ≡ Some at → IsPlace old → MatchResult r (λ done. StaysUnused old new at) (λ fault. ⊥))
-    (λ at t r. IsPlace old → MatchResult r (λ done. TakesKey ks old new at (items t) key) (IsOpFetchFault old.outside)) result
+    (λ at t r. IsPlace old → MatchResult r (λ done. TakesKey ks old new at (items t) key) (IsOpFetchFault old.heap old.outside)) result

@@ -15,14 +15,14 @@ use Rattle.table_nodes.specs.node_rows.Keys.{Keys, KeyOf, order_by}
 use Rattle.table_nodes.specs.Nodes.{IsLinked, IsFetchFault}
 use Rattle.table_nodes.specs.node_rows.Nodes.{I}
 use Rattle.table_nodes.specs.Steps.{Place}
-use Rattle.table_nodes.specs.Searching.{IsObject, value_of}
+use Rattle.table_nodes.specs.Searching.{AreSeen, IsObject, value_of}
 use Rattle.table_lib.specs.Tables.{IsTableAt, HasKeys, HasPairs, IsUnused, IsTable}
 use Rattle.table_lib.specs.declared.words.Opened.{Opened}
 
 -- a reference's object couldn't be fetched
-abbrev pub IsOpFetchFault : Outside Space → OpFault → Type 0
-IsOpFetchFault outside (Trap trap) = ⊥
-IsOpFetchFault outside (Swizzle fault) = IsFetchFault outside fault
+abbrev pub IsOpFetchFault : Heap → Outside Space → OpFault → Type 0
+IsOpFetchFault heap outside (Trap trap) = ⊥
+IsOpFetchFault heap outside (Swizzle fault) = IsFetchFault heap outside fault
 
 -- A table was opened for keys of a kind. Nil where there is none, WrongClass where the object is no table, KeyKind where its keys are of the other kind.
 pub record Opens (ks : Keys) (heap : Heap) (table : Option ℕ) (result : Result Opened OpFault) : Type 0 where
@@ -45,9 +45,9 @@ pub record Uses {T : Type 0} (ks : Keys) (p : Place) (table : Option ℕ) (unuse
 
 -- The root of a table is answered, or it couldn't be fetched.
 abbrev pub ReadsRoot : Place → Heap → ℕ → Result (Option ℕ) SwizzleFault → Type 0
-ReadsRoot old new at result = (ks : Keys) (t : Tree (I ks)) → HasPairs ks old at t → MatchResult result (λ root. IsLinked new root (root_of t)) (IsFetchFault old.outside)
+ReadsRoot old new at result = (ks : Keys) (t : Tree (I ks)) → HasPairs ks old at t → MatchResult result (λ root. IsLinked new root (root_of t)) (IsFetchFault old.heap old.outside)
 
--- The value of the key is answered, none where the table hasn't the key.
+-- The value of the key is answered, none where the table hasn't the key, or an object couldn't be fetched; where the values are seen, none is damaged.
 abbrev pub LooksUp : (ks : Keys) → Place → Heap → Option ℕ → KeyOf ks → Result (Option ℕ) OpFault → Type 0
 LooksUp ks old new table key result = Uses ks old table (λ r. r ≡ Ok None)
-    (λ at t r. MatchResult r (λ found. IsObject new found (value_of (find (seek (order_by ks) key) (items t)))) (IsOpFetchFault old.outside)) result
+    (λ at t r. MatchResult r (λ found. IsObject new found (value_of (find (seek (order_by ks) key) (items t)))) (λ fault. AreSeen ks old.heap old.outside (items t) → IsOpFetchFault old.heap old.outside fault)) result

@@ -1,6 +1,10 @@
-ghost use Rattle.std.specs.Prelude.{◌≡◌, ◌+◌, ◌*◌, ◌-◌, ◌^◌, ◌<◌, true, false, ℕ, None, Some, IfSome, MatchResult, OnOk, OnErr, IfErr};
+ghost use Rattle.std.specs.Prelude.{◌≡◌, ◌+◌, ◌*◌, ◌-◌, ◌^◌, ◌<◌, true, false, ℕ, None, Some, IfSome, MatchResult, OnOk, OnErr, IfErr, Err};
+ghost use Rattle.ps_base.specs.declared.trap.Trap.{Trap};
+ghost use Rattle.table_nodes.specs.heap_places.heap_texts.declared.fault.OpFault.TheVariants.{Trap as Traps};
+ghost use Rattle.table_nodes.specs.heap_places.obj_layout.Storing.{SameNumbers};
 ghost use Rattle.table_nodes.specs.heap_places.swizzle.Heap.{IsHeld, num_at};
-ghost use Rattle.table_nodes.specs.heap_places.swizzle.Touch.{Keeps};
+ghost use Rattle.table_nodes.specs.Nodes.{Grows};
+ghost use Rattle.table_nodes.specs.heap_places.swizzle.Reading.{LeavesOutside};
 ghost use Rattle.table_nodes.specs.avl_trees.Trees.{bits as digits};
 ghost use Rattle.table_nodes.specs.Bringing.{Brings};
 ghost use Rattle.table_nodes.specs.heap_places.swizzle.Joint.{name_at};
@@ -54,9 +58,11 @@ fn put_pair<V: Vault>(
     requires value { IsHeld sw.old value }
     ensures put { PutsPair (kind_of key) (place sw.old (V.outside vault.old)) (place sw.new (V.outside vault.new)) at (key_in sw.old key) (name_at sw.old value) result }
     ensures spares { OnOk result (SparesBut at sw.old sw.new (V.outside vault.old) (V.outside vault.new)) }
-    ensures still { OnErr result (Keeps sw.old sw.new) }
+    ensures leaves { OnOk result (LeavesOutside (V.outside vault.old) (V.outside vault.new)) }
+    ensures still { OnErr result (Grows sw.old sw.new (V.outside vault.old) (V.outside vault.new)) }
     ensures brings { Brings sw.old sw.new (3 * (2 * digits (num_at sw.old at 2) + 2)) }
     ensures fault { IfErr result (IsFaultAt (IsChangeFault (V.outside vault.old) (V.outside vault.new) sw.new) sw.new at) }
+    ensures numbers { SameNumbers V.used_words V.directory_at V.most_words V.access vault.old vault.new }
     ensures alive { OnOk result (V.alive vault.new) }
 {
     sw.sound();
@@ -91,9 +97,11 @@ fn take_key<V: Vault>(
     requires key { IsKeyHeld sw.old key }
     ensures taken { TakesPair (kind_of key) (place sw.old (V.outside vault.old)) (place sw.new (V.outside vault.new)) at (key_in sw.old key) result }
     ensures spares { OnOk result (SparesBut at sw.old sw.new (V.outside vault.old) (V.outside vault.new)) }
-    ensures still { OnErr result (Keeps sw.old sw.new) }
+    ensures leaves { OnOk result (LeavesOutside (V.outside vault.old) (V.outside vault.new)) }
+    ensures still { OnErr result (Grows sw.old sw.new (V.outside vault.old) (V.outside vault.new)) }
     ensures brings { Brings sw.old sw.new (3 * (2 * digits (num_at sw.old at 2) + 2)) }
     ensures fault { IfErr result (IsFaultAt (IsNodeFault (V.outside vault.old) (V.outside vault.new) sw.new) sw.new at) }
+    ensures numbers { SameNumbers V.used_words V.directory_at V.most_words V.access vault.old vault.new }
     ensures alive { OnOk result (V.alive vault.new) }
 {
     sw.sound();
@@ -132,9 +140,11 @@ fn enter_opened<V: Vault>(
     ensures taken { to ≡ None → opened.used ≡ true → TakesPair (kind_of key) (place sw.old (V.outside vault.old)) (place sw.new (V.outside vault.new)) opened.at (key_in sw.old key) result }
     ensures marked { to ≡ None → opened.used ≡ false → MatchResult result (λ done. MarksTable sw.old sw.new (V.outside vault.old) (V.outside vault.new) opened.at) (λ fault. ⊥) }
     ensures spares { OnOk result (SparesBut opened.at sw.old sw.new (V.outside vault.old) (V.outside vault.new)) }
-    ensures still { OnErr result (Keeps sw.old sw.new) }
+    ensures leaves { OnOk result (LeavesOutside (V.outside vault.old) (V.outside vault.new)) }
+    ensures still { OnErr result (Grows sw.old sw.new (V.outside vault.old) (V.outside vault.new)) }
     ensures brings { Brings sw.old sw.new (3 * (2 * digits (num_at sw.old opened.at 2) + 2)) }
     ensures fault { IfErr result (IsFaultAt (IsChangeFault (V.outside vault.old) (V.outside vault.new) sw.new) sw.new opened.at) }
+    ensures numbers { SameNumbers V.used_words V.directory_at V.most_words V.access vault.old vault.new }
     ensures alive { OnOk result (V.alive vault.new) }
 {
     match to {
@@ -165,11 +175,15 @@ pub fn enter_key<V: Vault>(
     requires to { IfSome to (IsHeld sw.old) }
     ensures entered { Enters (kind_of key) (place sw.old (V.outside vault.old)) (place sw.new (V.outside vault.new)) table (key_in sw.old key) to result }
     ensures spares { (at : ℕ) → table ≡ Some at → OnOk result (SparesBut at sw.old sw.new (V.outside vault.old) (V.outside vault.new)) }
-    ensures still { OnErr result (Keeps sw.old sw.new) }
+    ensures leaves { OnOk result (LeavesOutside (V.outside vault.old) (V.outside vault.new)) }
+    ensures still { OnErr result (Grows sw.old sw.new (V.outside vault.old) (V.outside vault.new)) }
     ensures brings { (at : ℕ) → table ≡ Some at → Brings sw.old sw.new (3 * (2 * digits (num_at sw.old at 2) + 2)) }
     ensures fault { IfErr result (IsOpFault (IsChangeFault (V.outside vault.old) (V.outside vault.new) sw.new) sw.new table) }
+    ensures numbers { SameNumbers V.used_words V.directory_at V.most_words V.access vault.old vault.new }
+    ensures trapped { (trap : Trap) → result ≡ Err (Traps trap) → (sw.new ≡ sw.old) × (vault.new ≡ vault.old) }
     ensures alive { OnOk result (V.alive vault.new) }
 {
+    sw.sound();
     let opened = match open_table(sw, kind_of_key(key), table) {
         Ok(opened) => opened,
         Err(fault) => return Err(fault),
@@ -194,9 +208,12 @@ pub fn enter_text<V: Vault>(
     requires to { IfSome to (IsHeld sw.old) }
     ensures entered { Enters by_texts (place sw.old (V.outside vault.old)) (place sw.new (V.outside vault.new)) table (text_at sw.old key) to result }
     ensures spares { (at : ℕ) → table ≡ Some at → OnOk result (SparesBut at sw.old sw.new (V.outside vault.old) (V.outside vault.new)) }
-    ensures still { OnErr result (Keeps sw.old sw.new) }
+    ensures leaves { OnOk result (LeavesOutside (V.outside vault.old) (V.outside vault.new)) }
+    ensures still { OnErr result (Grows sw.old sw.new (V.outside vault.old) (V.outside vault.new)) }
     ensures brings { (at : ℕ) → table ≡ Some at → Brings sw.old sw.new (3 * (2 * digits (num_at sw.old at 2) + 2)) }
     ensures fault { IfErr result (IsOpFault (IsChangeFault (V.outside vault.old) (V.outside vault.new) sw.new) sw.new table) }
+    ensures numbers { SameNumbers V.used_words V.directory_at V.most_words V.access vault.old vault.new }
+    ensures trapped { (trap : Trap) → result ≡ Err (Traps trap) → (sw.new ≡ sw.old) × (vault.new ≡ vault.old) }
     ensures alive { OnOk result (V.alive vault.new) }
 {
     enter_key(sw, vault, Key::Text(key), table, to)
@@ -215,9 +232,12 @@ pub fn enter_int<V: Vault>(
     requires to { IfSome to (IsHeld sw.old) }
     ensures entered { Enters by_ints (place sw.old (V.outside vault.old)) (place sw.new (V.outside vault.new)) table key to result }
     ensures spares { (at : ℕ) → table ≡ Some at → OnOk result (SparesBut at sw.old sw.new (V.outside vault.old) (V.outside vault.new)) }
-    ensures still { OnErr result (Keeps sw.old sw.new) }
+    ensures leaves { OnOk result (LeavesOutside (V.outside vault.old) (V.outside vault.new)) }
+    ensures still { OnErr result (Grows sw.old sw.new (V.outside vault.old) (V.outside vault.new)) }
     ensures brings { (at : ℕ) → table ≡ Some at → Brings sw.old sw.new (3 * (2 * digits (num_at sw.old at 2) + 2)) }
     ensures fault { IfErr result (IsOpFault (IsChangeFault (V.outside vault.old) (V.outside vault.new) sw.new) sw.new table) }
+    ensures numbers { SameNumbers V.used_words V.directory_at V.most_words V.access vault.old vault.new }
+    ensures trapped { (trap : Trap) → result ≡ Err (Traps trap) → (sw.new ≡ sw.old) × (vault.new ≡ vault.old) }
     ensures alive { OnOk result (V.alive vault.new) }
 {
     enter_key(sw, vault, Key::Int(key), table, to)

@@ -1,5 +1,8 @@
-ghost use Rattle.std.specs.Prelude.{◌≡◌, ◌+◌, ◌*◌, ℕ, true, IfOk, IfSome, OnOk, OnErr, Some, IfErr};
+ghost use Rattle.std.specs.Prelude.{◌≡◌, ◌+◌, ◌*◌, ℕ, true, IfOk, IfSome, OnOk, OnErr, Some, IfErr, Err};
 ghost use Rattle.std.specs.declared.cmp.Ordering.TheVariants.{Less};
+ghost use Rattle.ps_base.specs.declared.trap.Trap.{Trap};
+ghost use Rattle.table_nodes.specs.heap_places.heap_texts.declared.fault.OpFault.TheVariants.{Trap as Traps};
+ghost use Rattle.table_nodes.specs.heap_places.obj_layout.Storing.{SameNumbers};
 ghost use Rattle.table_nodes.specs.avl_trees.Standing.{seek};
 ghost use Rattle.table_nodes.specs.heap_places.ps_heap.Operators.{is_int};
 ghost use Rattle.table_nodes.specs.heap_places.swizzle.Heap.{IsHeld, num_at};
@@ -38,9 +41,11 @@ fn node_above<V: Vault>(
     ensures node { IfOk result (λ found. IfSome found (IsNode sw.new)) }
     ensures grows { OnOk result (Grows sw.old sw.new (V.outside vault.old) (V.outside vault.new)) }
     ensures keeps { OnOk result (Keeps sw.old sw.new) }
-    ensures still { OnErr result (Keeps sw.old sw.new) }
+    ensures still { OnErr result (Grows sw.old sw.new (V.outside vault.old) (V.outside vault.new)) }
     ensures brings { (at : ℕ) → table ≡ Some at → Brings sw.old sw.new (2 * digits (num_at sw.old at 2) + 1) }
     ensures fault { IfErr result (IsOpFault (IsNodeFault (V.outside vault.old) (V.outside vault.new) sw.new) sw.new table) }
+    ensures numbers { SameNumbers V.used_words V.directory_at V.most_words V.access vault.old vault.new }
+    ensures trapped { (trap : Trap) → result ≡ Err (Traps trap) → (sw.new ≡ sw.old) × (vault.new ≡ vault.old) }
     ensures alive { OnOk result (V.alive vault.new) }
 {
     sw.sound();
@@ -75,9 +80,11 @@ fn least_node<V: Vault>(
     ensures node { IfOk result (λ found. IfSome found (IsNode sw.new)) }
     ensures grows { OnOk result (Grows sw.old sw.new (V.outside vault.old) (V.outside vault.new)) }
     ensures keeps { OnOk result (Keeps sw.old sw.new) }
-    ensures still { OnErr result (Keeps sw.old sw.new) }
+    ensures still { OnErr result (Grows sw.old sw.new (V.outside vault.old) (V.outside vault.new)) }
     ensures brings { (at : ℕ) → table ≡ Some at → Brings sw.old sw.new (2 * digits (num_at sw.old at 2) + 1) }
     ensures fault { IfErr result (IsOpFault (IsNodeFault (V.outside vault.old) (V.outside vault.new) sw.new) sw.new table) }
+    ensures numbers { SameNumbers V.used_words V.directory_at V.most_words V.access vault.old vault.new }
+    ensures trapped { (trap : Trap) → result ≡ Err (Traps trap) → (sw.new ≡ sw.old) × (vault.new ≡ vault.old) }
     ensures alive { OnOk result (V.alive vault.new) }
 {
     sw.sound();
@@ -111,9 +118,10 @@ fn text_pair<V: Vault>(
     ensures held { IfOk result (λ pair. IsTextHeld sw.new pair.0 × IsHeld sw.new pair.1) }
     ensures grows { OnOk result (Grows sw.old sw.new (V.outside vault.old) (V.outside vault.new)) }
     ensures keeps { OnOk result (Keeps sw.old sw.new) }
-    ensures still { OnErr result (Keeps sw.old sw.new) }
+    ensures still { OnErr result (Grows sw.old sw.new (V.outside vault.old) (V.outside vault.new)) }
     ensures brings { Brings sw.old sw.new 1 }
     ensures fault { IfErr result (IsNodeFault (V.outside vault.old) (V.outside vault.new) sw.new) }
+    ensures numbers { SameNumbers V.used_words V.directory_at V.most_words V.access vault.old vault.new }
     ensures alive { OnOk result (V.alive vault.new) }
 {
     let key = match text_key(sw, vault, node) {
@@ -138,9 +146,10 @@ fn int_pair<V: Vault>(
     ensures held { IfOk result (λ pair. IsHeld sw.new pair.1) }
     ensures grows { OnOk result (Grows sw.old sw.new (V.outside vault.old) (V.outside vault.new)) }
     ensures keeps { OnOk result (Keeps sw.old sw.new) }
-    ensures still { OnErr result (Keeps sw.old sw.new) }
+    ensures still { OnErr result (Grows sw.old sw.new (V.outside vault.old) (V.outside vault.new)) }
     ensures brings { Brings sw.old sw.new 1 }
     ensures fault { IfErr result (IsNodeFault (V.outside vault.old) (V.outside vault.new) sw.new) }
+    ensures numbers { SameNumbers V.used_words V.directory_at V.most_words V.access vault.old vault.new }
     ensures alive { OnOk result (V.alive vault.new) }
 {
     sw.sound();
@@ -168,9 +177,11 @@ fn text_node<V: Vault>(
     ensures node { IfOk result (λ found. IfSome found (IsNode sw.new)) }
     ensures grows { OnOk result (Grows sw.old sw.new (V.outside vault.old) (V.outside vault.new)) }
     ensures keeps { OnOk result (Keeps sw.old sw.new) }
-    ensures still { OnErr result (Keeps sw.old sw.new) }
+    ensures still { OnErr result (Grows sw.old sw.new (V.outside vault.old) (V.outside vault.new)) }
     ensures brings { (at : ℕ) → table ≡ Some at → Brings sw.old sw.new (2 * digits (num_at sw.old at 2) + 1) }
     ensures fault { IfErr result (IsOpFault (IsNodeFault (V.outside vault.old) (V.outside vault.new) sw.new) sw.new table) }
+    ensures numbers { SameNumbers V.used_words V.directory_at V.most_words V.access vault.old vault.new }
+    ensures trapped { (trap : Trap) → result ≡ Err (Traps trap) → (sw.new ≡ sw.old) × (vault.new ≡ vault.old) }
     ensures alive { OnOk result (V.alive vault.new) }
 {
     match after {
@@ -194,9 +205,11 @@ pub fn next_text<V: Vault>(
     ensures held { IfOk result (λ found. IfSome found (λ pair. IsTextHeld sw.new pair.0 × IsHeld sw.new pair.1)) }
     ensures grows { OnOk result (Grows sw.old sw.new (V.outside vault.old) (V.outside vault.new)) }
     ensures keeps { OnOk result (Keeps sw.old sw.new) }
-    ensures still { OnErr result (Keeps sw.old sw.new) }
+    ensures still { OnErr result (Grows sw.old sw.new (V.outside vault.old) (V.outside vault.new)) }
     ensures brings { (at : ℕ) → table ≡ Some at → Brings sw.old sw.new (2 * digits (num_at sw.old at 2) + 2) }
     ensures fault { IfErr result (IsOpFault (IsNodeFault (V.outside vault.old) (V.outside vault.new) sw.new) sw.new table) }
+    ensures numbers { SameNumbers V.used_words V.directory_at V.most_words V.access vault.old vault.new }
+    ensures trapped { (trap : Trap) → result ≡ Err (Traps trap) → (sw.new ≡ sw.old) × (vault.new ≡ vault.old) }
     ensures alive { OnOk result (V.alive vault.new) }
 {
     let found = match text_node(sw, vault, after, table) {
@@ -226,9 +239,11 @@ fn int_node<V: Vault>(
     ensures node { IfOk result (λ found. IfSome found (IsNode sw.new)) }
     ensures grows { OnOk result (Grows sw.old sw.new (V.outside vault.old) (V.outside vault.new)) }
     ensures keeps { OnOk result (Keeps sw.old sw.new) }
-    ensures still { OnErr result (Keeps sw.old sw.new) }
+    ensures still { OnErr result (Grows sw.old sw.new (V.outside vault.old) (V.outside vault.new)) }
     ensures brings { (at : ℕ) → table ≡ Some at → Brings sw.old sw.new (2 * digits (num_at sw.old at 2) + 1) }
     ensures fault { IfErr result (IsOpFault (IsNodeFault (V.outside vault.old) (V.outside vault.new) sw.new) sw.new table) }
+    ensures numbers { SameNumbers V.used_words V.directory_at V.most_words V.access vault.old vault.new }
+    ensures trapped { (trap : Trap) → result ≡ Err (Traps trap) → (sw.new ≡ sw.old) × (vault.new ≡ vault.old) }
     ensures alive { OnOk result (V.alive vault.new) }
 {
     match after {
@@ -252,9 +267,11 @@ pub fn next_int<V: Vault>(
     ensures held { IfOk result (λ found. IfSome found (λ pair. IsHeld sw.new pair.1)) }
     ensures grows { OnOk result (Grows sw.old sw.new (V.outside vault.old) (V.outside vault.new)) }
     ensures keeps { OnOk result (Keeps sw.old sw.new) }
-    ensures still { OnErr result (Keeps sw.old sw.new) }
+    ensures still { OnErr result (Grows sw.old sw.new (V.outside vault.old) (V.outside vault.new)) }
     ensures brings { (at : ℕ) → table ≡ Some at → Brings sw.old sw.new (2 * digits (num_at sw.old at 2) + 2) }
     ensures fault { IfErr result (IsOpFault (IsNodeFault (V.outside vault.old) (V.outside vault.new) sw.new) sw.new table) }
+    ensures numbers { SameNumbers V.used_words V.directory_at V.most_words V.access vault.old vault.new }
+    ensures trapped { (trap : Trap) → result ≡ Err (Traps trap) → (sw.new ≡ sw.old) × (vault.new ≡ vault.old) }
     ensures alive { OnOk result (V.alive vault.new) }
 {
     let found = match int_node(sw, vault, after, table) {

@@ -1,4 +1,5 @@
 ghost use Rattle.std.specs.Prelude.{◌≡◌, true, false, IfOk, IfSome, OnOk, OnErr, IfErr};
+ghost use Rattle.table_nodes.specs.heap_places.obj_layout.Storing.{SameNumbers};
 ghost use Rattle.table_nodes.specs.heap_places.obj_layout.declared.reference.Reference.{Reference};
 ghost use Rattle.table_nodes.specs.heap_places.swizzle.Heap.{IsHeld, num_at, ref_at};
 ghost use Rattle.table_nodes.specs.heap_places.swizzle.Touch.{Keeps};
@@ -105,9 +106,10 @@ pub fn root_node<V: Vault>(
     ensures node { IfOk result (λ root. IfSome root (IsNode sw.new)) }
     ensures grows { OnOk result (Grows sw.old sw.new (V.outside vault.old) (V.outside vault.new)) }
     ensures keeps { OnOk result (Keeps sw.old sw.new) }
-    ensures still { OnErr result (Keeps sw.old sw.new) }
+    ensures still { OnErr result (Grows sw.old sw.new (V.outside vault.old) (V.outside vault.new)) }
     ensures brings { Brings sw.old sw.new 1 }
     ensures fault { IfErr result (IsNodeFault (V.outside vault.old) (V.outside vault.new) sw.new) }
+    ensures numbers { SameNumbers V.used_words V.directory_at V.most_words V.access vault.old vault.new }
     ensures alive { OnOk result (V.alive vault.new) }
 {
     sw.sound();
@@ -140,11 +142,13 @@ pub fn counted_root<V: Vault>(
     ensures node { IfOk result (λ root. IfSome root (IsNode sw.new)) }
     ensures grows { OnOk result (Grows sw.old sw.new (V.outside vault.old) (V.outside vault.new)) }
     ensures keeps { OnOk result (Keeps sw.old sw.new) }
-    ensures still { OnErr result (Keeps sw.old sw.new) }
+    ensures still { OnErr result (Grows sw.old sw.new (V.outside vault.old) (V.outside vault.new)) }
     ensures brings { Brings sw.old sw.new 1 }
     ensures fault { IfErr result (IsFaultAt (IsNodeFault (V.outside vault.old) (V.outside vault.new) sw.new) sw.new at) }
+    ensures numbers { SameNumbers V.used_words V.directory_at V.most_words V.access vault.old vault.new }
     ensures alive { OnOk result (V.alive vault.new) }
 {
+    sw.sound();
     let count = sw.num(at, 2);
     let none = has_no_root(sw, at);
     if none != (count == 0) {

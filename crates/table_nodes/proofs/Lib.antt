@@ -1,4 +1,5 @@
 pub mod KeyLaws
+pub mod SeenLaws
 pub mod NodeLaws
 pub mod Seeking
 pub mod SoughtLaws

@@ -1,5 +1,5 @@
 -- A node that was made: its row, and what else is seen.
-use Rattle.std.proofs.Common.{◌≡◌, ℕ, zero, suc, ◌-◌, ◌^◌, ℤ, pos, negsuc, true, [], ◌∷◌, Some, refl, sym, ap, ◌∙◌, subst, arith, inl}
+use Rattle.std.proofs.Common.{◌≡◌, ℕ, ◌≤◌, List, zero, suc, ◌-◌, ◌^◌, ℤ, pos, negsuc, true, [], ◌∷◌, Some, refl, sym, ap, ◌∙◌, subst, arith, inl}
 use Rattle.heap_places.specs.ps_outside.Outside.{Outside}
 use Rattle.heap_places.specs.obj_layout.Stored.{Space, Holds}
 use Rattle.heap_places.specs.obj_layout.declared.kind.Kind.TheVariants.{Node}
@@ -9,7 +9,6 @@ use Rattle.heap_places.specs.swizzle.Objects.{Object}
 use Rattle.heap_places.specs.swizzle.Heap.{Heap, IsHeap, IsHeld, IsMade, IsInside, top_of, blank, with_ref, with_num, reference_to}
 use Rattle.heap_places.specs.swizzle.Joint.{Shown, Joint, shown, shown_at, name_at, name_of}
 use Rattle.heap_places.specs.swizzle.Changes.{Within, ChangedAt}
-use Rattle.heap_places.specs.swizzle.Reading.{joint}
 use Rattle.heap_places.specs.swizzle.Touch.{Keeps}
 use Rattle.heap_places.proofs.of_swizzle.TouchLaws.{keeps-new}
 use Rattle.heap_places.proofs.of_swizzle.JointLaws.{joint-made, name-fresh}
@@ -23,7 +22,7 @@ use Rattle.heap_places.specs.Words.{int_in, int_word}
 use Rattle.table_nodes.specs.declared.keys.Key.{Key}
 use Rattle.table_nodes.specs.declared.keys.Key.TheVariants.{Int, Text}
 use Rattle.node_rows.specs.Keys.{IsKey}
-use Rattle.table_nodes.specs.Nodes.{IsNode, IsNamed}
+use Rattle.table_nodes.specs.Nodes.{IsNode, IsNamed, IsStored, seen}
 use Rattle.table_nodes.specs.Sought.{kind_of, key_in, IsKeyHeld}
 use Rattle.table_nodes.specs.Making.{with_key}
 use Rattle.table_nodes.specs.Entering.{Makes}
@@ -72,8 +71,8 @@ int_back (negsuc n) e =
     int-high (2 ^ 64 - 1 - n) (omega (arith, lt)) ∙ ap (λ (k : ℕ). Some (negsuc k)) (omega (arith, lt))
 
 -- the key of the new node
-node_key : (old new : Heap) (outside : Outside Space) (value : ℕ) (key : Key) → IsKeyHeld old key → Within (joint old outside) (joint new outside)
-    → IsKey (kind_of key) (joint new outside) (shown (name_of old) (node_object key value)) (key_in old key)
+node_key : (old new : Heap) (outside : Outside Space) (value : ℕ) (key : Key) → IsKeyHeld old key → Within (seen old outside) (seen new outside)
+    → IsKey (kind_of key) (seen new outside) (shown (name_of old) (node_object key value)) (key_in old key)
 node_key old new outside value (Int z) held within = int_back z held
 node_key old new outside value (Text text) held within =
     record { it = shown_at old text; there = within (name_at old text) (shown_at old text) (inl (record { at = text; held = held.held; name_is = refl; shown_is = refl })); kind = held.kind; bytes_are = bytes_shown old text held.kind }
@@ -82,15 +81,21 @@ module _ (old new : Heap) (outside : Outside Space) (at value : ℕ) (key : Key)
   abbrev pub it : Shown
   it = shown (name_of old) (node_object key value)
 
-  changed : ChangedAt (joint old outside) (Local at) it (joint new outside)
-  changed = subst (λ n. ChangedAt (joint old outside) (Local n) it (joint new outside)) (sym made.place)
-      (subst (λ m. ChangedAt (joint old outside) (Local (top_of old)) it (joint m outside)) (sym made.made) (joint-made old (Holds outside) (node_object key value) h (node_inside old key value held v) refl (λ pid words there. Holds-low outside pid words there)))
+  changed : (holds : ℕ → List ℕ → Type 0) → ((pid : ℕ) (words : List ℕ) → holds pid words → 1 ≤ pid) → ChangedAt (Joint old holds) (Local at) it (Joint new holds)
+  changed holds low = subst (λ n. ChangedAt (Joint old holds) (Local n) it (Joint new holds)) (sym made.place)
+      (subst (λ m. ChangedAt (Joint old holds) (Local (top_of old)) it (Joint m holds)) (sym made.made) (joint-made old holds (node_object key value) h (node_inside old key value held v) refl low))
 
-  unseen : (x : Shown) → joint old outside (Local at) x → ⊥
-  unseen x there = name-fresh old (Holds outside) x h (subst (λ n. joint old outside (Local n) x) made.place there)
+  unseen : (holds : ℕ → List ℕ → Type 0) (x : Shown) → Joint old holds (Local at) x → ⊥
+  unseen holds x there = name-fresh old holds x h (subst (λ n. Joint old holds (Local n) x) made.place there)
 
-  within : Within (joint old outside) (joint new outside)
-  within n x there = changed.stays n x (λ e. unseen x (subst (λ m. joint old outside m x) e there)) there
+  within : (holds : ℕ → List ℕ → Type 0) → ((pid : ℕ) (words : List ℕ) → holds pid words → 1 ≤ pid) → Within (Joint old holds) (Joint new holds)
+  within holds low n x there = (changed holds low).stays n x (λ e. unseen holds x (subst (λ m. Joint old holds m x) e there)) there
+
+  held_low : (pid : ℕ) (words : List ℕ) → Holds outside pid words → 1 ≤ pid
+  held_low pid words there = Holds-low outside pid words there
+
+  stored_low : (pid : ℕ) (words : List ℕ) → IsStored outside pid words → 1 ≤ pid
+  stored_low pid words s = Holds-low outside pid words s.there
 
   nodes : (j : ℕ) → IsNode old j → IsNode new j
   nodes j n = let other = made-other old new at (node_object key value) j made n.held in
@@ -109,10 +114,10 @@ module _ (old new : Heap) (outside : Outside Space) (at value : ℕ) (key : Key)
 
   pub node_makes : Makes (kind_of key) old new outside at (key_in old key) (name_at old value)
   node_makes = record {
-    there = record { it = it; there = changed.there; is = record { kind = refl; refs = refl; nums = refl; left = refl; right = refl; key = node_key old new outside value key held within; value = refl; height = refl } };
-    fresh = unseen;
-    seen = within;
-    rows = λ other. rows_grow other (joint old outside) (joint new outside) within;
+    there = record { it = it; there = (changed (IsStored outside) stored_low).there; is = record { kind = refl; refs = refl; nums = refl; left = refl; right = refl; key = node_key old new outside value key held (within (IsStored outside) stored_low); value = refl; height = refl } };
+    fresh = unseen (Holds outside);
+    seen = within (Holds outside) held_low;
+    rows = λ other. rows_grow other (seen old outside) (seen new outside) (within (IsStored outside) stored_low);
     here = here;
     nodes = nodes;
     named = λ j n m. record { node = nodes j m.node; name = name_same j m.node.held ∙ m.name };

@@ -10,12 +10,13 @@ use Rattle.heap_places.specs.obj_layout.declared.reference.Reference.TheVariants
 use Rattle.heap_places.specs.swizzle.Heap.{Heap, IsHeap, IsHeld, Stands, ref_at, with_ref, with_num, with_mark, reference_to}
 use Rattle.heap_places.specs.swizzle.Joint.{Shown, Joint, shown_at, name_at, name_of}
 use Rattle.heap_places.specs.swizzle.Changes.{Within, Same, ChangedAt, Touched}
-use Rattle.heap_places.specs.swizzle.Reading.{joint}
+use Rattle.heap_places.specs.swizzle.Reading.{joint, LeavesOutside}
 use Rattle.heap_places.proofs.of_swizzle.DamageLaws.{passes-same, reports-same}
 use Rattle.heap_places.specs.swizzle.Touch.{Keeps, Denotes, IsTouchCall, IsTouchFault}
 use Rattle.heap_places.proofs.of_swizzle.JointLaws.{joint-ref, joint-num}
 use Rattle.heap_places.proofs.of_swizzle.MarkLaws.{joint-mark}
-use Rattle.heap_places.proofs.of_swizzle.ReadingLaws.{leaves-touch}
+use Rattle.heap_places.proofs.of_swizzle.ReadingLaws.{leaves-touch, leaves-none, leaves-then}
+use Rattle.heap_places.proofs.of_swizzle.TouchLaws.{keeps-refl, keeps-trans}
 use Rattle.heap_places.proofs.of_swizzle.NameLaws.{Joint-one, name_at-injective, not_away, shown-counts, name-not_nil}
 use Rattle.heap_places.proofs.PlaceLaws.{slot-name}
 use Rattle.avl_trees.specs.Standing.{IsWritten}
@@ -24,7 +25,8 @@ use Rattle.heap_places.specs.Shapes.{slot_of, word_in, IsText}
 use Rattle.node_rows.specs.Keys.{Keys, by_ints, by_texts, KeyOf, Seen, IsKey}
 use Rattle.table_nodes.proofs.KeyLaws.{AreSingle, key_one, key_grows, key_changed, key_back}
 use Rattle.node_rows.specs.Nodes.{Seat, link_of, IsSeat, HasNode}
-use Rattle.table_nodes.specs.Nodes.{rows_in, IsSingle, IsNode, IsNamed, IsLinked, Grows, OthersStay, side_of, with_sides, Links, HasSides, IsFetchFault, IsSide}
+use Rattle.table_nodes.specs.Nodes.{rows_in, seen, IsStored, IsSingle, IsNode, IsNamed, IsLinked, Grows, OthersStay, side_of, with_sides, Links, HasSides, IsSide}
+use Rattle.table_nodes.proofs.SeenLaws.{IsSeen, seen_joint, seen_grows}
 use Rattle.heap_places.specs.swizzle.declared.fault.SwizzleFault.{SwizzleFault}
 use Rattle.heap_places.specs.swizzle.declared.fault.SwizzleFault.TheVariants.{AreaFull, Vault}
 
@@ -34,15 +36,15 @@ seen_held heap holds at it h held (inl a) = a.shown_is ∙ ap (shown_at heap) (n
 seen_held heap holds at it h held (inr v) = absurd (not_away heap at v.pid h held (sym v.name_is) v.away)
 
 -- its row is told by its slots and words
-pub seat_at : (ks : Keys) (heap : Heap) (outside : Outside Space) (at : ℕ) (n : Reference) (row : Seat ks) → IsHeap heap → IsNamed heap at n → rows_in ks heap outside n row → IsSeat ks (joint heap outside) (shown_at heap at) row
+pub seat_at : (ks : Keys) (heap : Heap) (outside : Outside Space) (at : ℕ) (n : Reference) (row : Seat ks) → IsHeap heap → IsNamed heap at n → rows_in ks heap outside n row → IsSeat ks (seen heap outside) (shown_at heap at) row
 seat_at ks heap outside at n row h named r =
-    let there : Joint heap (Holds outside) (name_at heap at) r.it = subst (λ m. Joint heap (Holds outside) m r.it) (sym named.name) r.there in
-    subst (λ it. IsSeat ks (joint heap outside) it row) (seen_held heap (Holds outside) at r.it h named.node.held there) r.is
+    let there : Joint heap (IsStored outside) (name_at heap at) r.it = subst (λ m. Joint heap (IsStored outside) m r.it) (sym named.name) r.there in
+    subst (λ it. IsSeat ks (seen heap outside) it row) (seen_held heap (IsStored outside) at r.it h named.node.held there) r.is
 
 -- an object of the area that shows as a node is one
-pub node_seen : (ks : Keys) (heap : Heap) (outside : Outside Space) (at : ℕ) {row : Seat ks} → IsHeap heap → IsHeld heap at → HasNode ks (joint heap outside) (name_at heap at) row → IsNode heap at
+pub node_seen : (ks : Keys) (heap : Heap) (outside : Outside Space) (at : ℕ) {row : Seat ks} → IsHeap heap → IsHeld heap at → HasNode ks (seen heap outside) (name_at heap at) row → IsNode heap at
 node_seen ks heap outside at h held r =
-    let same = seen_held heap (Holds outside) at r.it h held r.there in
+    let same = seen_held heap (IsStored outside) at r.it h held r.there in
     let counts = shown-counts heap at h held in
     record { held = held; kind = sym (ap (λ it. it.kind) same) ∙ r.is.kind; refs = sym counts.0 ∙ (sym (ap (λ it. length it.refs) same) ∙ r.is.refs); nums = sym counts.1 ∙ (sym (ap (λ it. length it.nums) same) ∙ r.is.nums) }
 
@@ -54,19 +56,30 @@ seat_keyed ks old new it row s key = record { kind = s.kind; refs = s.refs; nums
 pub rows_grow : (ks : Keys) (old new : Seen) → Within old new → (n : Reference) (row : Seat ks) → HasNode ks old n row → HasNode ks new n row
 rows_grow ks old new w n row r = record { it = r.it; there = w n r.it r.there; is = seat_keyed ks old new r.it row r.is (key_grows ks old new r.it row.entry.key w r.is.key) }
 
-pub grows_touch : {T : Type 0} {result : Result T SwizzleFault} (old new : Heap) (a b : Outside Space) (name : Reference) → IsHeap old → IsHeap new → IsTouchCall old new a b result → Keeps old new → Touched (joint old a) (joint new b) name
-    → Grows old new a b
-grows_touch old new a b name h h_new call keeps touched = record {
-  heap = h_new;
-  leaves = leaves-touch old new a b _ call;
-  seen = touched.grows;
-  rows = λ ks. rows_grow ks (joint old a) (joint new b) touched.grows;
+-- where objects stay and nothing that is held is lost
+grows_seen : (old new : Heap) (a b : Outside Space) → IsHeap new → Keeps old new → Within (joint old a) (joint new b) → LeavesOutside a b → Grows old new a b
+grows_seen old new a b h keeps joints leaves = record {
+  heap = h;
+  leaves = leaves;
+  seen = joints;
+  keeps = keeps;
+  rows = λ ks. rows_grow ks (seen old a) (seen new b) (seen_grows old new a b keeps joints leaves.contents);
   nodes = nodes;
   named = λ at n m. record { node = nodes at m.node; name = (keeps.objects at m.node.held).name ∙ m.name };
 }
   where
     nodes : (at : ℕ) → IsNode old at → IsNode new at
     nodes at m = let s = keeps.objects at m.held in record { held = s.held; kind = ap (λ it. it.kind) s.shown_as ∙ m.kind; refs = s.refs ∙ m.refs; nums = s.nums ∙ m.nums }
+
+pub grows_touch : {T : Type 0} {result : Result T SwizzleFault} (old new : Heap) (a b : Outside Space) (name : Reference) → IsHeap old → IsHeap new → IsTouchCall old new a b result → Keeps old new → Touched (joint old a) (joint new b) name
+    → Grows old new a b
+grows_touch old new a b name h h_new call keeps touched = grows_seen old new a b h_new keeps touched.grows (leaves-touch old new a b _ call)
+
+-- what the vault holds stays
+joint_outside : (heap : Heap) (a b : Outside Space) (n : Reference) (it : Shown) → SameContents a b → joint heap a n it → joint heap b n it
+joint_outside heap a b n it same (inl k) = inl k
+joint_outside heap a b n it same (inr v) =
+    inr (record { pid = v.pid; words = v.words; name_is = v.name_is; there = record { space = v.there.space; is = same.kept v.there.space v.there.is; has = v.there.has }; away = v.away; shown_is = v.shown_is })
 
 -- the link of a name that denotes an object of the area
 pub linked_some : (heap : Heap) (to : ℕ) (n : Reference) (row_side : Option Reference) → IsNode heap to → Denotes heap (Some to) n → link_of n ≡ row_side → IsLinked heap (Some to) row_side
@@ -78,13 +91,47 @@ pub linked_none : (heap : Heap) (n : Reference) (row_side : Option Reference) �
 linked_none heap n side nil e = subst (λ s. IsLinked heap None s) (sym (ap link_of nil) ∙ e) tt
 
 -- the side of a node that a slot names
-pub side_seen : (ks : Keys) (heap : Heap) (outside : Outside Space) (at slot : ℕ) (row : Seat ks) → slot < 2 → IsSeat ks (joint heap outside) (shown_at heap at) row → link_of (name_of heap (ref_at heap at slot)) ≡ side_of slot row
+pub side_seen : (ks : Keys) (heap : Heap) (outside : Outside Space) (at slot : ℕ) (row : Seat ks) → slot < 2 → IsSeat ks (seen heap outside) (shown_at heap at) row → link_of (name_of heap (ref_at heap at slot)) ≡ side_of slot row
 side_seen ks heap outside at zero row lt s = ap link_of (sym (slot-name heap at zero)) ∙ s.left
 side_seen ks heap outside at (suc zero) row lt s = ap link_of (sym (slot-name heap at (suc zero))) ∙ s.right
 side_seen ks heap outside at (suc (suc n)) row lt s = absurd (omega arith)
 
 pub joint_one : (heap : Heap) (outside : Outside Space) → IsHeap heap → IsSingle outside → AreSingle (joint heap outside)
 joint_one heap outside h single n a b p q = Joint-one heap (Holds outside) n a b h single.one p q
+
+pub seen_one : (heap : Heap) (outside : Outside Space) → IsHeap heap → IsSingle outside → AreSingle (seen heap outside)
+seen_one heap outside h single n a b p q = joint_one heap outside h single n a b (seen_joint heap outside n a p) (seen_joint heap outside n b q)
+
+-- nothing was touched, or a touch was refused
+pub grows_none : (heap : Heap) (outside : Outside Space) → IsHeap heap → Grows heap heap outside outside
+grows_none heap outside h = record {
+  rows = λ ks n row k. k;
+  nodes = λ at k. k;
+  named = λ at n k. k;
+  heap = h;
+  leaves = leaves-none outside;
+  seen = λ n it k. k;
+  keeps = keeps-refl heap;
+}
+
+pub grows_refused : {T : Type 0} {result : Result T SwizzleFault} (old new : Heap) (a b : Outside Space) → IsHeap old → IsTouchCall old new a b result → new ≡ old → Grows old new a b
+grows_refused old new a b h call same =
+    let leaves = leaves-touch old new a b _ call in
+    let keeps : Keeps old new = subst (λ (x : Heap). Keeps old x) (sym same) (keeps-refl old) in
+    let joints : Within (joint old a) (joint new b) = λ n it k. subst (λ (x : Heap). joint x b n it) (sym same) (joint_outside old a b n it leaves.contents k) in
+    grows_seen old new a b (subst IsHeap (sym same) h) keeps joints leaves
+
+-- touches one after another
+pub grows_then : (old mid new : Heap) (a b c : Outside Space) → Grows old mid a b → Grows mid new b c → Grows old new a c
+grows_then old mid new a b c f g = record {
+  rows = λ ks n row h. g.rows ks n row (f.rows ks n row h);
+  nodes = λ at h. g.nodes at (f.nodes at h);
+  named = λ at n h. g.named at n (f.named at n h);
+  heap = g.heap;
+  leaves = leaves-then a b c f.leaves g.leaves;
+  seen = λ n it k. g.seen n it (f.seen n it k);
+  keeps = keeps-trans old mid new f.keeps g.keeps;
+}
 
 -- Changes, one after another.
 
@@ -193,11 +240,19 @@ link_side heap None (Some n) m = absurd m
 link_side heap (Some j) None m = absurd m
 
 -- after a write the object shows what was written
-pub shown_now : (a b : Heap) (outside : Outside Space) (at : ℕ) (it : Shown) → IsHeap b → IsHeld a at → Stands a b → ChangedAt (joint a outside) (name_at a at) it (joint b outside) → shown_at b at ≡ it
-shown_now a b outside at it h held s c = sym (seen_held b (Holds outside) at it h (s at held).held (subst (λ n. joint b outside n it) (sym (name_stands a b s at held)) c.there))
+pub shown_now : (a b : Heap) (outside : Outside Space) (at : ℕ) (it : Shown) → IsHeap b → IsHeld a at → Stands a b → ChangedAt (seen a outside) (name_at a at) it (seen b outside) → shown_at b at ≡ it
+shown_now a b outside at it h held s c = sym (seen_held b (IsStored outside) at it h (s at held).held (subst (λ n. seen b outside n it) (sym (name_stands a b s at held)) c.there))
 
-pub renamed : (a b : Heap) (outside : Outside Space) (m n : Reference) (it : Shown) → m ≡ n → ChangedAt (joint a outside) m it (joint b outside) → ChangedAt (joint a outside) n it (joint b outside)
-renamed a b outside m n it e c = subst (λ k. ChangedAt (joint a outside) k it (joint b outside)) e c
+pub renamed : (a b : Heap) (outside : Outside Space) (m n : Reference) (it : Shown) → m ≡ n → ChangedAt (seen a outside) m it (seen b outside) → ChangedAt (seen a outside) n it (seen b outside)
+renamed a b outside m n it e c = subst (λ k. ChangedAt (seen a outside) k it (seen b outside)) e c
+
+-- a mark changes nothing that is seen
+pub mark_joint : (a b : Heap) (outside : Outside Space) (at : ℕ) → IsHeap a → IsHeld a at → b ≡ with_mark a at → IsSingle outside → Same (joint a outside) (joint b outside)
+mark_joint a b outside at h held e single = subst (λ x. Same (joint a outside) (joint x outside)) (sym e) (joint-mark a (Holds outside) at h held single.one)
+
+pub mark_seen : (a b : Heap) (outside : Outside Space) (at : ℕ) → IsHeap a → IsHeld a at → b ≡ with_mark a at → IsSingle outside → Same (seen a outside) (seen b outside)
+mark_seen a b outside at h held e single =
+    subst (λ x. Same (seen a outside) (seen x outside)) (sym e) (joint-mark a (IsStored outside) at h held (λ pid x y p q. single.one pid x y p.there q.there))
 
 pub links : (h0 h1 h2 h3 h4 : Heap) (outside : Outside Space) (at : ℕ) (left right : Option ℕ) (height : ℕ) → IsNode h0 at → IsHeap h0 → IsHeap h1 → IsHeap h2 → IsHeap h3 → IsHeap h4
     → h1 ≡ with_ref h0 at 0 (reference_to left) → h2 ≡ with_ref h1 at 1 (reference_to right) → h3 ≡ with_num h2 at 2 height → h4 ≡ with_mark h3 at
@@ -228,41 +283,41 @@ links h0 h1 h2 h3 h4 outside at left right height node i0 i1 i2 i3 i4 e1 e2 e3 e
     it3 : Shown
     it3 = record (shown_at h2 at) { nums = set (shown_at h2 at).nums 2 height }
 
-    c1 : ChangedAt (joint h0 outside) (name_at h0 at) it1 (joint h1 outside)
-    c1 = subst (λ x. ChangedAt (joint h0 outside) (name_at h0 at) it1 (joint x outside)) (sym e1) (joint-ref h0 (Holds outside) at 0 (reference_to left) i0 node.held)
+    c1 : (holds : ℕ → List ℕ → Type 0) → ChangedAt (Joint h0 holds) (name_at h0 at) it1 (Joint h1 holds)
+    c1 holds = subst (λ x. ChangedAt (Joint h0 holds) (name_at h0 at) it1 (Joint x holds)) (sym e1) (joint-ref h0 holds at 0 (reference_to left) i0 node.held)
 
-    c2 : ChangedAt (joint h1 outside) (name_at h1 at) it2 (joint h2 outside)
-    c2 = subst (λ x. ChangedAt (joint h1 outside) (name_at h1 at) it2 (joint x outside)) (sym e2) (joint-ref h1 (Holds outside) at 1 (reference_to right) i1 held1)
+    c2 : (holds : ℕ → List ℕ → Type 0) → ChangedAt (Joint h1 holds) (name_at h1 at) it2 (Joint h2 holds)
+    c2 holds = subst (λ x. ChangedAt (Joint h1 holds) (name_at h1 at) it2 (Joint x holds)) (sym e2) (joint-ref h1 holds at 1 (reference_to right) i1 held1)
 
-    c3 : ChangedAt (joint h2 outside) (name_at h2 at) it3 (joint h3 outside)
-    c3 = subst (λ x. ChangedAt (joint h2 outside) (name_at h2 at) it3 (joint x outside)) (sym e3) (joint-num h2 (Holds outside) at 2 height i2 held2)
+    c3 : (holds : ℕ → List ℕ → Type 0) → ChangedAt (Joint h2 holds) (name_at h2 at) it3 (Joint h3 holds)
+    c3 holds = subst (λ x. ChangedAt (Joint h2 holds) (name_at h2 at) it3 (Joint x holds)) (sym e3) (joint-num h2 holds at 2 height i2 held2)
 
     marked : IsSingle outside → Same (joint h3 outside) (joint h4 outside)
-    marked single = subst (λ x. Same (joint h3 outside) (joint x outside)) (sym e4) (joint-mark h3 (Holds outside) at i3 held3 single.one)
+    marked single = mark_joint h3 h4 outside at i3 held3 e4 single
 
     others : IsSingle outside → OthersStay h0 h4 outside at
     others single n it ne k =
         let ne1 : n ≢ name_at h1 at = λ e. ne (e ∙ name_stands h0 h1 s1 at node.held) in
         let ne2 : n ≢ name_at h2 at = λ e. ne1 (e ∙ name_stands h1 h2 s2 at held1) in
-        (marked single).grows n it (c3.stays n it ne2 (c2.stays n it ne1 (c1.stays n it ne k)))
+        (marked single).grows n it ((c3 (Holds outside)).stays n it ne2 ((c2 (Holds outside)).stays n it ne1 ((c1 (Holds outside)).stays n it ne k)))
 
     written : (ks : Keys) (n : Reference) (l r : Option Reference) (row : Seat ks) → IsSingle outside → IsNamed h0 at n → IsLinked h0 left l → IsLinked h0 right r
         → rows_in ks h0 outside n row → IsWritten (rows_in ks h0 outside) n (with_sides l r height row) (rows_in ks h4 outside)
-    written ks n l r row single named ll lr seen =
-        let seat0 = seat_at ks h0 outside at n row i0 named seen in
-        let seat1 = seat_left ks (joint h0 outside) (shown_at h0 at) row (name_of h0 (reference_to left)) l seat0 (link_side h0 left l ll) in
-        let seat1' = subst (λ it. IsSeat ks (joint h0 outside) it (record row { left = l })) (sym (shown_now h0 h1 outside at it1 i1 node.held s1 c1)) seat1 in
-        let seat2 = seat_right ks (joint h0 outside) (shown_at h1 at) (record row { left = l }) (name_of h1 (reference_to right)) r seat1' (link_side h1 right r (stand_linked h0 h1 s1 right r lr)) in
-        let seat2' = subst (λ it. IsSeat ks (joint h0 outside) it (record row { left = l; right = r })) (sym (shown_now h1 h2 outside at it2 i2 held1 s2 c2)) seat2 in
-        let seat3 = seat_height ks (joint h0 outside) (shown_at h2 at) (record row { left = l; right = r }) height seat2' in
+    written ks n l s row single named ll ls r =
+        let seat0 = seat_at ks h0 outside at n row i0 named r in
+        let seat1 = seat_left ks (seen h0 outside) (shown_at h0 at) row (name_of h0 (reference_to left)) l seat0 (link_side h0 left l ll) in
+        let seat1' = subst (λ it. IsSeat ks (seen h0 outside) it (record row { left = l })) (sym (shown_now h0 h1 outside at it1 i1 node.held s1 (c1 (IsStored outside)))) seat1 in
+        let seat2 = seat_right ks (seen h0 outside) (shown_at h1 at) (record row { left = l }) (name_of h1 (reference_to right)) s seat1' (link_side h1 right s (stand_linked h0 h1 s1 right s ls)) in
+        let seat2' = subst (λ it. IsSeat ks (seen h0 outside) it (record row { left = l; right = s })) (sym (shown_now h1 h2 outside at it2 i2 held1 s2 (c2 (IsStored outside)))) seat2 in
+        let seat3 = seat_height ks (seen h0 outside) (shown_at h2 at) (record row { left = l; right = s }) height seat2' in
         let n1 = name_stands h0 h1 s1 at node.held ∙ named.name in
         let n2 = name_stands h1 h2 s2 at held1 ∙ n1 in
-        let d1 = renamed h0 h1 outside (name_at h0 at) n it1 named.name c1 in
-        let d2 = renamed h1 h2 outside (name_at h1 at) n it2 n1 c2 in
-        let d3 = renamed h2 h3 outside (name_at h2 at) n it3 n2 c3 in
-        let d = changed-then (joint h0 outside) (joint h2 outside) (joint h3 outside) n it2 it3 (changed-then (joint h0 outside) (joint h1 outside) (joint h2 outside) n it1 it2 d1 d2) d3 in
-        let nodes : (x : Shown) → joint h0 outside n x → x.kind ≡ Node = λ x there. ap (λ it. it.kind) (joint_one h0 outside i0 single n x (seen.it) there seen.there) ∙ seen.is.kind in
-        written_from ks (joint h0 outside) (joint h4 outside) n it3 (with_sides l r height row) (joint_one h4 outside i4 single) nodes (changed-same (joint h0 outside) (joint h3 outside) (joint h4 outside) n it3 d (marked single)) seat3
+        let d1 = renamed h0 h1 outside (name_at h0 at) n it1 named.name (c1 (IsStored outside)) in
+        let d2 = renamed h1 h2 outside (name_at h1 at) n it2 n1 (c2 (IsStored outside)) in
+        let d3 = renamed h2 h3 outside (name_at h2 at) n it3 n2 (c3 (IsStored outside)) in
+        let d = changed-then (seen h0 outside) (seen h2 outside) (seen h3 outside) n it2 it3 (changed-then (seen h0 outside) (seen h1 outside) (seen h2 outside) n it1 it2 d1 d2) d3 in
+        let nodes : (x : Shown) → seen h0 outside n x → x.kind ≡ Node = λ x there. ap (λ it. it.kind) (seen_one h0 outside i0 single n x (r.it) there r.there) ∙ r.is.kind in
+        written_from ks (seen h0 outside) (seen h4 outside) n it3 (with_sides l s height row) (seen_one h4 outside i4 single) nodes (changed-same (seen h0 outside) (seen h3 outside) (seen h4 outside) n it3 d (mark_seen h3 h4 outside at i3 held3 e4 single)) seat3
 
 -- nothing was written: the node has these sides already
 pub links_still : (heap : Heap) (outside : Outside Space) (at : ℕ) (left right : Option ℕ) (height : ℕ) → IsHeap heap → HasSides heap at left right height
@@ -277,22 +332,22 @@ links_still heap outside at left right height h has = record {
   where
     written : (ks : Keys) (n : Reference) (l r : Option Reference) (row : Seat ks) → IsSingle outside → IsNamed heap at n → IsLinked heap left l → IsLinked heap right r
         → rows_in ks heap outside n row → IsWritten (rows_in ks heap outside) n (with_sides l r height row) (rows_in ks heap outside)
-    written ks n l r row single named ll lr seen =
-        let seat = seat_at ks heap outside at n row h named seen in
+    written ks n l s row single named ll ls r =
+        let seat = seat_at ks heap outside at n row h named r in
         let el : row.left ≡ l = sym seat.left ∙ (ap link_of (slot-name heap at 0 ∙ has.left_is) ∙ link_side heap left l ll) in
-        let er : row.right ≡ r = sym seat.right ∙ (ap link_of (slot-name heap at 1 ∙ has.right_is) ∙ link_side heap right r lr) in
+        let er : row.right ≡ s = sym seat.right ∙ (ap link_of (slot-name heap at 1 ∙ has.right_is) ∙ link_side heap right s ls) in
         let eh : row.height ≡ height = sym seat.height ∙ has.height_is in
-        let same : row ≡ with_sides l r height row = λ i. record { left = el i; right = er i; entry = row.entry; height = eh i } in
+        let same : row ≡ with_sides l s height row = λ i. record { left = el i; right = er i; entry = row.entry; height = eh i } in
         let one : (other : Seat ks) → rows_in ks heap outside n other → other ≡ row =
-        λ other o. seat_one ks (joint heap outside) (seen.it) other row (joint_one heap outside h single) (subst (λ it. IsSeat ks (joint heap outside) it other) (joint_one heap outside h single n o.it seen.it o.there seen.there) o.is) seen.is in
-        let written : IsWritten (rows_in ks heap outside) n row (rows_in ks heap outside) = record { there = seen; alone = one; stays = λ m other ne k. k; back = λ m other ne k. k } in
+        λ other o. seat_one ks (seen heap outside) (r.it) other row (seen_one heap outside h single) (subst (λ it. IsSeat ks (seen heap outside) it other) (seen_one heap outside h single n o.it r.it o.there r.there) o.is) r.is in
+        let written : IsWritten (rows_in ks heap outside) n row (rows_in ks heap outside) = record { there = r; alone = one; stays = λ m other ne k. k; back = λ m other ne k. k } in
         subst (λ x. IsWritten (rows_in ks heap outside) n x (rows_in ks heap outside)) same written
 
 -- the node that a side names
 pub side_kind : (ks : Keys) (old new : Heap) (a b : Outside Space) (to : ℕ) (n : Reference) (side : Option Reference) → IsHeap new → Grows old new a b → ((m : Reference) → side ≡ Some m → (r : Seat ks) × rows_in ks old a m r) → Denotes new (Some to) n → link_of n ≡ side → IsNode new to
 side_kind ks old new a b to Nil side h g row d e = absurd (name-not_nil new to d.1)
-side_kind ks old new a b to (Pid pid) side h g row d e = node_seen ks new b to h d.0 (subst (λ m. HasNode ks (joint new b) m (row (Pid pid) (sym e)).0) (sym d.1) (g.rows ks _ _ (row (Pid pid) (sym e)).1))
-side_kind ks old new a b to (Local at) side h g row d e = node_seen ks new b to h d.0 (subst (λ m. HasNode ks (joint new b) m (row (Local at) (sym e)).0) (sym d.1) (g.rows ks _ _ (row (Local at) (sym e)).1))
+side_kind ks old new a b to (Pid pid) side h g row d e = node_seen ks new b to h d.0 (subst (λ m. HasNode ks (seen new b) m (row (Pid pid) (sym e)).0) (sym d.1) (g.rows ks _ _ (row (Pid pid) (sym e)).1))
+side_kind ks old new a b to (Local at) side h g row d e = node_seen ks new b to h d.0 (subst (λ m. HasNode ks (seen new b) m (row (Local at) (sym e)).0) (sym d.1) (g.rows ks _ _ (row (Local at) (sym e)).1))
 
 pub single_kept : (a b : Outside Space) → SameContents a b → IsSingle a → IsSingle b
 single_kept a b same s = record { one = λ pid x y k l. s.one pid x y (back pid x k) (back pid y l) }
@@ -305,9 +360,12 @@ touch_back a b heap reference (AreaFull top wanted size) same f =
     (f.0, f.1, f.2, (f.3.0, f.3.1, f.3.2, passes-same a b f.3.0 same f.3.3, λ words k. f.3.4 words (record { space = k.space; is = same.kept k.space k.is; has = k.has })))
 touch_back a b heap reference (Vault fault) same f = (f.0, f.1, f.2, reports-same a b f.0 fault same f.3)
 
-pub fetch_back : (a b : Outside Space) (fault : SwizzleFault) → SameContents a b → IsFetchFault b fault → IsFetchFault a fault
-fetch_back a b fault same f = record { heap = f.heap; reference = f.reference; is = touch_back a b f.heap f.reference fault same f.is }
-
 pub side_row : (ks : Keys) (heap : Heap) (outside : Outside Space) (side : Option Reference) → IsSide ks heap outside side → (m : Reference) → side ≡ Some m → (r : Seat ks) × rows_in ks heap outside m r
 side_row ks heap outside None s m e = absurd (cc)
 side_row ks heap outside (Some n) s m e = let same : n ≡ m = cc in subst (λ k. (r : Seat ks) × rows_in ks heap outside k r) same s
+
+-- the node of a side is seen
+pub side_known : (ks : Keys) (heap : Heap) (outside : Outside Space) (n : Reference) (side : Option Reference) → link_of n ≡ side → IsSide ks heap outside side → IsSeen heap outside n
+side_known ks heap outside n side e s pid f =
+    let row = side_row ks heap outside side s n (sym e ∙ (ap link_of f ∙ ap Some (sym f))) in
+    record { it = row.1.it; is = row.1.there }

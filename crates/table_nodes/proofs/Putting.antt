@@ -1,12 +1,13 @@
 -- A pair is put into the tree of a node.
 use Rattle.std.proofs.Common.{true, false, ◌≡◌, ◌≢◌, ℕ, ◌+◌, ◌<◌, ◌∷◌, Option, Some, None, Result, Ok, Err, MatchResult, refl, sym, ap, ◌∙◌, subst, arith, inl, inr}
 use Rattle.std.specs.declared.cmp.Ordering.TheVariants.{Less, Equal, Greater}
-use Rattle.heap_places.specs.ps_outside.Outside.{Outside, SameContents}
+use Rattle.heap_places.specs.ps_outside.Outside.{Outside}
 use Rattle.heap_places.specs.obj_layout.Stored.{Space}
 use Rattle.heap_places.specs.obj_layout.Stored.{Holds as Stored}
 use Rattle.heap_places.specs.obj_layout.declared.reference.Reference.{Reference}
 use Rattle.heap_places.specs.obj_layout.declared.reference.Reference.TheVariants.{Local}
 use Rattle.heap_places.specs.swizzle.declared.fault.SwizzleFault.{SwizzleFault}
+use Rattle.heap_places.specs.swizzle.declared.fault.SwizzleFault.TheVariants.{AreaFull, Vault}
 use Rattle.heap_places.specs.swizzle.Heap.{Heap, IsFull, top_of}
 use Rattle.heap_places.specs.swizzle.Joint.{name_at}
 use Rattle.heap_places.specs.swizzle.Reading.{joint}
@@ -20,7 +21,7 @@ use Rattle.avl_trees.proofs.Standing.{stands_grown}
 use Rattle.avl_trees.proofs.Turning.{touched}
 use Rattle.avl_trees.proofs.Entering.{apart_left, apart_right, left_given, left_entered, right_given, right_entered, entered_here, entered_leaf, entered_grown, entered_here_is, entered_left_is, entered_right_is}
 use Rattle.node_rows.specs.Keys.{Keys, KeyOf, order_by}
-use Rattle.table_nodes.specs.Nodes.{IsNamed, IsLinked}
+use Rattle.table_nodes.specs.Nodes.{IsNamed, IsLinked, Grows}
 use Rattle.node_rows.specs.Nodes.{I, HasValue}
 use Rattle.table_nodes.specs.Steps.{Place, place, IsPlace, rows_of, AreSides, Holds, Touches}
 use Rattle.table_nodes.specs.Turning.{Balances}
@@ -33,7 +34,7 @@ use Rattle.table_nodes.specs.declared.opening.Opened.{Opened}
 use Rattle.table_nodes.specs.declared.span.Span.{Span}
 use Rattle.table_nodes.specs.Spans.{IsWithin}
 use Rattle.table_nodes.proofs.KeyLaws.{total}
-use Rattle.table_nodes.proofs.NodeLaws.{fetch_back}
+use Rattle.table_nodes.proofs.SeenLaws.{seen_joint, fetch_back}
 use Rattle.table_nodes.proofs.Seeking.{lookup_here, lookup_left, lookup_right}
 use Rattle.table_nodes.proofs.WingLaws.{ends_kept, left_ends, right_ends}
 use Rattle.table_nodes.proofs.StepLaws.{one, linked_kept, place_touched, apart_front, apart_back, other_name}
@@ -73,11 +74,11 @@ module _ (ks : Keys) (key : KeyOf ks) (value : Reference) where
 
   pub put_leaf : (old new : Heap) (outside : Outside Space) (root : Option ℕ) (result : Result ℕ SwizzleFault) → root ≡ None
       → MatchResult result (λ at. Makes ks old new outside at key value) (λ fault. IsFull old new 11 fault)
-      → (t : Tree (I ks)) → IsPlace (place old outside) → IsTree ks (place old outside) root t → MatchResult (made_as result) (Enters ks (place old outside) (place new outside) t key value) (IsEnterFault outside)
+      → (t : Tree (I ks)) → IsPlace (place old outside) → IsTree ks (place old outside) root t → MatchResult (made_as result) (Enters ks (place old outside) (place new outside) t key value) (IsEnterFault old outside)
   unfolding insert
   put_leaf old new outside root (Err fault) e made (node x b y) p h = absurd (subst (λ s. IsLinked old s (Some b.name)) e h.root_is)
   put_leaf old new outside root (Ok at) e made (node x b y) p h = absurd (subst (λ s. IsLinked old s (Some b.name)) e h.root_is)
-  put_leaf old new outside root (Err fault) e made leaf p h = inr (subst IsNoRoom (sym made.fault_is) (refl, made.full))
+  put_leaf old new outside root (Err fault) e made leaf p h = inr (subst (IsNoRoom old) (sym made.fault_is) (omega arith, refl, refl, made.full))
   put_leaf old new outside root (Ok at) e made leaf p h = record {
     fresh = Local at;
     is_fresh = made.fresh;
@@ -121,7 +122,7 @@ module _ (ks : Keys) (key : KeyOf ks) (value : Reference) where
           fresh = w.fresh;
           is_fresh = λ it k. w.is_fresh it (grows.seen w.fresh it k);
           stands = record {
-            becomes = touched (rows_of ks old) (rows_of ks m) (rows_of ks m2) _ _ (grows.rows ks) (left_entered (order_by ks) (total ks) key value w.fresh (rows_of ks m) (rows_of ks m1) (rows_of ks m2) (λ row k. w.is_fresh k.it k.there) l a r e t.rising w.stands.becomes v.becomes);
+            becomes = touched (rows_of ks old) (rows_of ks m) (rows_of ks m2) _ _ (grows.rows ks) (left_entered (order_by ks) (total ks) key value w.fresh (rows_of ks m) (rows_of ks m1) (rows_of ks m2) (λ row k. w.is_fresh k.it (seen_joint m.heap m.outside w.fresh k.it k.there)) l a r e t.rising w.stands.becomes v.becomes);
             here = v.here;
             root_is = subst (λ u. IsLinked m2.heap (Some top.root) (root_of u)) (sym is) v.root_is;
             others = λ n it p k.
@@ -164,7 +165,7 @@ module _ (ks : Keys) (key : KeyOf ks) (value : Reference) where
           fresh = w.fresh;
           is_fresh = λ it k. w.is_fresh it (grows.seen w.fresh it k);
           stands = record {
-            becomes = touched (rows_of ks old) (rows_of ks m) (rows_of ks m2) _ _ (grows.rows ks) (right_entered (order_by ks) (total ks) key value w.fresh (rows_of ks m) (rows_of ks m1) (rows_of ks m2) (λ row k. w.is_fresh k.it k.there) l a r e t.rising w.stands.becomes v.becomes);
+            becomes = touched (rows_of ks old) (rows_of ks m) (rows_of ks m2) _ _ (grows.rows ks) (right_entered (order_by ks) (total ks) key value w.fresh (rows_of ks m) (rows_of ks m1) (rows_of ks m2) (λ row k. w.is_fresh k.it (seen_joint m.heap m.outside w.fresh k.it k.there)) l a r e t.rising w.stands.becomes v.becomes);
             here = v.here;
             root_is = subst (λ u. IsLinked m2.heap (Some top.root) (root_of u)) (sym is) v.root_is;
             others = λ n it p k.
@@ -234,6 +235,7 @@ module _ (ks : Keys) (key : KeyOf ks) (old m : Place) (root side : Option ℕ) (
 pub counted_here : (ks : Keys) (key : KeyOf ks) (x : Tree (I ks)) (b : I ks) (y : Tree (I ks)) → order_by ks key b.entry.key ≡ Equal → false ≡ is_missing (lookup (seek (order_by ks) key) (node x b y))
 counted_here ks key x b y same = ap is_missing (sym (lookup_here ks key x b y same))
 
-pub fault_after : (a b : Outside Space) (fault : SwizzleFault) → SameContents a b → IsEnterFault b fault → IsEnterFault a fault
-fault_after a b fault same (inl w) = inl (fetch_back a b fault same w)
-fault_after a b fault same (inr w) = inr w
+pub fault_after : (old mid : Heap) (a b : Outside Space) (fault : SwizzleFault) → Grows old mid a b → IsEnterFault mid b fault → IsEnterFault old a fault
+fault_after old mid a b fault g (inl w) = inl (fetch_back old mid a b fault g w)
+fault_after old mid a b (AreaFull top wanted size) g (inr w) = inr (omega (arith, w.0, g.keeps.top), w.1 ∙ g.keeps.size, w.2, w.3)
+fault_after old mid a b (Vault fault) g (inr w) = inr w

@@ -29,7 +29,7 @@ use Rattle.table_nodes.specs.declared.span.Span.{Span}
 use Rattle.table_nodes.specs.declared.remove.Least.{Least}
 use Rattle.table_nodes.specs.declared.remove.Removed.{Removed}
 use Rattle.table_nodes.proofs.KeyLaws.{total}
-use Rattle.table_nodes.proofs.NodeLaws.{fetch_back}
+use Rattle.table_nodes.proofs.SeenLaws.{fetch_back}
 use Rattle.table_nodes.proofs.Putting.{tree_left, tree_right}
 use Rattle.table_nodes.proofs.SpanLaws.{within_kept}
 use Rattle.table_nodes.proofs.Seeking.{lookup_here, lookup_left, lookup_right}
@@ -241,8 +241,8 @@ module _ (ks : Keys) (key : KeyOf ks) where
           others = λ n it q k. v.others n it q (grows.seen n it k);
         }
 
-    pub here_fault : (fault : SwizzleFault) (bound : ℕ) → bound ≡ height (node l a r) → Merges m m1 opened.left opened.right bound (Err fault) → IsFetchFault old.outside fault
-    here_fault fault bound high merges = fetch_back old.outside m.outside fault grows.leaves.contents (merges ks at l a r here (tree_grown ks old m at root grows l a r name h) o.left o.right (omega (arith, high)))
+    pub here_fault : (fault : SwizzleFault) (bound : ℕ) → bound ≡ height (node l a r) → Merges m m1 opened.left opened.right bound (Err fault) → IsFetchFault old.heap old.outside fault
+    here_fault fault bound high merges = fetch_back old.heap m.heap old.outside m.outside fault grows (merges ks at l a r here (tree_grown ks old m at root grows l a r name h) o.left o.right (omega (arith, high)))
 
 -- what was taken out, by the key of before
 pub removed_as : (ks : Keys) (old new : Place) (root : Option ℕ) (bound : ℕ) (key wanted : KeyOf ks) (span : Span) (result : Result Removed SwizzleFault) → key ≡ wanted → Removes ks old new root bound key span result → Removes ks old new root bound wanted span result

@@ -12,14 +12,16 @@ use Rattle.avl_trees.proofs.Ordered.{all_front, all_back, around}
 use Rattle.avl_trees.proofs.Standing.{stands_grown}
 use Rattle.node_rows.specs.Keys.{Keys, KeyOf, order_by}
 use Rattle.node_rows.specs.Nodes.{Seat, I, HasValue}
-use Rattle.table_nodes.specs.Nodes.{IsNamed, IsLinked, IsFetchFault}
+use Rattle.heap_places.specs.swizzle.Changes.{IsKnown}
+use Rattle.table_nodes.specs.Nodes.{IsNamed, IsLinked, IsFetchFault, seen}
 use Rattle.table_nodes.specs.Steps.{Place, rows_of, Touches}
-use Rattle.table_nodes.specs.Searching.{IsTree, looks, value_of, IsObject, ReadsValue, IsStep}
+use Rattle.table_nodes.specs.Searching.{AreSeen, IsTree, looks, value_of, IsObject, ReadsValue, IsStep}
 use Rattle.table_nodes.specs.Spans.{IsWithin}
 use Rattle.table_nodes.specs.declared.search.Step.TheVariants.{Found, Down}
 use Rattle.table_nodes.specs.declared.span.Span.{Span}
 use Rattle.table_nodes.specs.declared.span.Way.{Way}
-use Rattle.table_nodes.proofs.NodeLaws.{fetch_back}
+use Rattle.table_nodes.proofs.SeenLaws.{fetch_back, grown_seen}
+use Rattle.table_nodes.proofs.StepLaws.{touches_then}
 use Rattle.table_nodes.proofs.SpanLaws.{within_all}
 
 module _ (ks : Keys) (key : KeyOf ks) where
@@ -31,7 +33,7 @@ module _ (ks : Keys) (key : KeyOf ks) where
 
   -- What is sought in a tree is sought in this part of it, which is lower than the bound; so many steps
   -- were taken before and up to now.
-  pub record Sought (p : Place) (at : Option ℕ) (span : Span) (bound before now : ℕ) (t : Tree (I ks)) : Type 0 where
+  pub record Sought (first p : Place) (at : Option ℕ) (span : Span) (bound before now : ℕ) (t : Tree (I ks)) : Type 0 where
     pub part : Tree (I ks)
     pub looked : before + looks_in t ≡ now + looks_in part
     pub stands : Stands (rows_of ks p) part
@@ -41,30 +43,31 @@ module _ (ks : Keys) (key : KeyOf ks) where
     pub values : AllByRecursion HasValue (items part)
     pub rising : IsRising (order_by ks) part
     pub within : IsWithin ks p.heap span (items part)
+    pub known : AreSeen ks first.heap first.outside (items t) → AreSeen ks first.heap first.outside (items part)
 
   -- before the first step
-  pub sought_whole : (p : Place) (root : Option ℕ) (bound before : ℕ) (t : Tree (I ks)) → IsTree ks p root t → height t < bound → Sought p root (record { low = None; high = None }) bound before before t
-  sought_whole p root bound before t h low = record { part = t; looked = refl; stands = h.stands; root_is = h.root_is; same = refl; lower = low; values = h.values; rising = h.rising; within = within_all ks p.heap (items t) }
+  pub sought_whole : (p : Place) (root : Option ℕ) (bound before : ℕ) (t : Tree (I ks)) → IsTree ks p root t → height t < bound → Sought p p root (record { low = None; high = None }) bound before before t
+  sought_whole p root bound before t h low = record { part = t; looked = refl; stands = h.stands; root_is = h.root_is; same = refl; lower = low; values = h.values; rising = h.rising; within = within_all ks p.heap (items t); known = λ k. k }
 
   -- nothing is left
-  pub sought_none : (p : Place) (new : Heap) (span : Span) (bound before now : ℕ) (t : Tree (I ks)) → Sought p None span bound before now t → IsObject new None (value_of (sought_in t))
+  pub sought_none : (first p : Place) (new : Heap) (span : Span) (bound before now : ℕ) (t : Tree (I ks)) → Sought first p None span bound before now t → IsObject new None (value_of (sought_in t))
   unfolding lookup
-  sought_none p new span bound before now t s = go s.part s.root_is s.same
+  sought_none first p new span bound before now t s = go s.part s.root_is s.same
     where
       go : (part : Tree (I ks)) → IsLinked p.heap None (root_of part) → sought_in part ≡ sought_in t → IsObject new None (value_of (sought_in t))
       go leaf e f = subst (λ o. IsObject new None (value_of o)) f tt
       go (node x b y) e f = absurd e
 
-  pub looked_none : (p : Place) (span : Span) (bound before now : ℕ) (t : Tree (I ks)) → Sought p None span bound before now t → now ≡ before + looks_in t
+  pub looked_none : (first p : Place) (span : Span) (bound before now : ℕ) (t : Tree (I ks)) → Sought first p None span bound before now t → now ≡ before + looks_in t
   unfolding looks
-  looked_none p span bound before now t s = go s.part s.root_is s.looked
+  looked_none first p span bound before now t s = go s.part s.root_is s.looked
     where
       go : (part : Tree (I ks)) → IsLinked p.heap None (root_of part) → before + looks_in t ≡ now + looks_in part → now ≡ before + looks_in t
       go leaf e f = omega (arith, f)
       go (node x b y) e f = absurd e
 
   -- the part at a node
-  pub record AtNode (p : Place) (n : ℕ) (span : Span) (bound before now : ℕ) (t : Tree (I ks)) : Type 0 where
+  pub record AtNode (first p : Place) (n : ℕ) (span : Span) (bound before now : ℕ) (t : Tree (I ks)) : Type 0 where
     pub x : Tree (I ks)
     pub b : I ks
     pub y : Tree (I ks)
@@ -76,13 +79,14 @@ module _ (ks : Keys) (key : KeyOf ks) where
     pub rising : IsRising (order_by ks) (node x b y)
     pub within : IsWithin ks p.heap span (items (node x b y))
     pub looked : before + looks_in t ≡ now + looks_in (node x b y)
+    pub known : AreSeen ks first.heap first.outside (items t) → AreSeen ks first.heap first.outside (items (node x b y))
 
-  pub at_node : (p : Place) (n : ℕ) (span : Span) (bound before now : ℕ) (t : Tree (I ks)) → Sought p (Some n) span bound before now t → AtNode p n span bound before now t
-  at_node p n span bound before now t s = go s.part s.stands s.root_is s.same s.lower s.values s.looked s.rising s.within
+  pub at_node : (first p : Place) (n : ℕ) (span : Span) (bound before now : ℕ) (t : Tree (I ks)) → Sought first p (Some n) span bound before now t → AtNode first p n span bound before now t
+  at_node first p n span bound before now t s = go s.part s.stands s.root_is s.same s.lower s.values s.looked s.rising s.within s.known
     where
-      go : (part : Tree (I ks)) → Stands (rows_of ks p) part → IsLinked p.heap (Some n) (root_of part) → sought_in part ≡ sought_in t → height part < bound → AllByRecursion HasValue (items part) → before + looks_in t ≡ now + looks_in part → IsRising (order_by ks) part → IsWithin ks p.heap span (items part) → AtNode p n span bound before now t
-      go leaf h e f l v k r w = absurd e
-      go (node x b y) h e f l v k r w = record { looked = k; rising = r; within = w; x = x; b = b; y = y; stands = h; name = e; same = f; lower = l; values = v }
+      go : (part : Tree (I ks)) → Stands (rows_of ks p) part → IsLinked p.heap (Some n) (root_of part) → sought_in part ≡ sought_in t → height part < bound → AllByRecursion HasValue (items part) → before + looks_in t ≡ now + looks_in part → IsRising (order_by ks) part → IsWithin ks p.heap span (items part) → (AreSeen ks first.heap first.outside (items t) → AreSeen ks first.heap first.outside (items part)) → AtNode first p n span bound before now t
+      go leaf h e f l v k r w j = absurd e
+      go (node x b y) h e f l v k r w j = record { known = j; looked = k; rising = r; within = w; x = x; b = b; y = y; stands = h; name = e; same = f; lower = l; values = v }
 
   pub lookup_here : (x : Tree (I ks)) (b : I ks) (y : Tree (I ks)) → order_by ks key b.entry.key ≡ Equal → sought_in (node x b y) ≡ Some b
   unfolding lookup
@@ -109,21 +113,26 @@ module _ (ks : Keys) (key : KeyOf ks) where
   looks_right x b y e = rw e refl
 
   -- the height that was read
-  pub height_read : (p : Place) (n : ℕ) (span : Span) (bound before now : ℕ) (t : Tree (I ks)) (s : AtNode p n span bound before now t) (h : ℕ) → ((at : ℕ) (k : Reference) (row : Seat ks) → Some n ≡ Some at → IsNamed p.heap at k → rows_of ks p k row → h ≡ row.height) → h ≡ height (node s.x s.b s.y)
-  height_read p n span bound before now t s h f = f n s.b.name (row_of s.x s.b s.y) refl s.name s.stands.0
+  pub height_read : (first p : Place) (n : ℕ) (span : Span) (bound before now : ℕ) (t : Tree (I ks)) (s : AtNode first p n span bound before now t) (h : ℕ) → ((at : ℕ) (k : Reference) (row : Seat ks) → Some n ≡ Some at → IsNamed p.heap at k → rows_of ks p k row → h ≡ row.height) → h ≡ height (node s.x s.b s.y)
+  height_read first p n span bound before now t s h f = f n s.b.name (row_of s.x s.b s.y) refl s.name s.stands.0
 
-  module _ (p m : Place) (n : ℕ) (span : Span) (bound before now : ℕ) (t : Tree (I ks)) (s : AtNode p n span bound before now t) (grows : Touches p m) where
+  module _ (first p m : Place) (n : ℕ) (span : Span) (bound before now : ℕ) (t : Tree (I ks)) (s : AtNode first p n span bound before now t) (grows : Touches p m) where
     -- the key was found, and its value read
-    pub sought_found : (new : Place) → IsStep ks m.heap key s.x s.b s.y Found → (result : Result ℕ SwizzleFault) → ReadsValue m.heap new.heap m.outside n result
-        → MatchResult result (λ value. IsHeld new.heap value → IsObject new.heap (Some value) (value_of (sought_in t))) (IsFetchFault p.outside)
-    sought_found new found result reads =
+    pub sought_found : Touches first p → (new : Place) → IsStep ks m.heap key s.x s.b s.y Found → (result : Result ℕ SwizzleFault) → ReadsValue m.heap new.heap m.outside n result
+        → MatchResult result (λ value. IsHeld new.heap value → IsObject new.heap (Some value) (value_of (sought_in t))) (λ fault. AreSeen ks first.heap first.outside (items t) → IsFetchFault first.heap first.outside fault)
+    sought_found from new found result reads =
         let not_nil = (all_back HasValue (items s.x) (s.b ∷ items s.y) s.values).0 in
         go result (reads ks s.b.name (row_of s.x s.b s.y) (grows.named n s.b.name s.name) (grows.rows ks s.b.name (row_of s.x s.b s.y) s.stands.0) not_nil)
       where
-        go : (result : Result ℕ SwizzleFault) → MatchResult result (λ value. name_at new.heap value ≡ s.b.entry.value) (IsFetchFault m.outside)
-            → MatchResult result (λ value. IsHeld new.heap value → IsObject new.heap (Some value) (value_of (sought_in t))) (IsFetchFault p.outside)
+        all : Touches first m
+        all = touches_then first p m from grows
+
+        go : (result : Result ℕ SwizzleFault) → MatchResult result (λ value. name_at new.heap value ≡ s.b.entry.value) (λ fault. IsKnown (seen m.heap m.outside) s.b.entry.value → IsFetchFault m.heap m.outside fault)
+            → MatchResult result (λ value. IsHeld new.heap value → IsObject new.heap (Some value) (value_of (sought_in t))) (λ fault. AreSeen ks first.heap first.outside (items t) → IsFetchFault first.heap first.outside fault)
         go (Ok value) e = λ held. subst (λ o. IsObject new.heap (Some value) (value_of o)) (sym (lookup_here s.x s.b s.y found) ∙ s.same) (held, e)
-        go (Err fault) w = fetch_back p.outside m.outside fault grows.leaves.contents w
+        go (Err fault) w = λ k.
+            let value = (all_back (λ a. IsKnown (seen first.heap first.outside) a.entry.value) (items s.x) (s.b ∷ items s.y) (s.known k)).0 in
+            fetch_back first.heap m.heap first.outside m.outside fault all (w (record { it = value.it; is = grown_seen first.heap m.heap first.outside m.outside all s.b.entry.value value.it value.is }))
 
     pub looked_found : (later : ℕ) → later ≡ now + 1 → IsStep ks m.heap key s.x s.b s.y Found → later ≡ before + looks_in t
     looked_found later e found =
@@ -132,7 +141,7 @@ module _ (ks : Keys) (key : KeyOf ks) where
         omega (arith, e, one, all)
 
     -- the search goes on at a side
-    pub sought_down : (later : ℕ) → later ≡ now + 1 → (h : ℕ) (way : Way) → IsStep ks m.heap key s.x s.b s.y (Down way) → h ≡ height (node s.x s.b s.y) → Sought m way.side way.span h before later t
+    pub sought_down : (later : ℕ) → later ≡ now + 1 → (h : ℕ) (way : Way) → IsStep ks m.heap key s.x s.b s.y (Down way) → h ≡ height (node s.x s.b s.y) → Sought first m way.side way.span h before later t
     sought_down later one h way (inl w) e = record {
       part = s.x;
       looked = (let more = looks_left s.x s.b s.y w.0 in let all = s.looked in omega (arith, one, more, all));
@@ -143,6 +152,7 @@ module _ (ks : Keys) (key : KeyOf ks) where
       same = sym (lookup_left s.x s.b s.y w.0) ∙ s.same;
       lower = omega (arith, e);
       values = all_front HasValue (items s.x) (s.b ∷ items s.y) s.values;
+      known = λ k. all_front (λ a. IsKnown (seen first.heap first.outside) a.entry.value) (items s.x) (s.b ∷ items s.y) (s.known k);
     }
     sought_down later one h way (inr w) e = record {
       part = s.y;
@@ -154,4 +164,5 @@ module _ (ks : Keys) (key : KeyOf ks) where
       same = sym (lookup_right s.x s.b s.y w.0) ∙ s.same;
       lower = omega (arith, e);
       values = (all_back HasValue (items s.x) (s.b ∷ items s.y) s.values).1;
+      known = λ k. (all_back (λ a. IsKnown (seen first.heap first.outside) a.entry.value) (items s.x) (s.b ∷ items s.y) (s.known k)).1;
     }

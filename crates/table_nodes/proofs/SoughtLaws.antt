@@ -23,7 +23,8 @@ use Rattle.table_nodes.specs.declared.keys.Key.{Key}
 use Rattle.table_nodes.specs.declared.keys.Key.TheVariants.{Int, Text}
 use Rattle.node_rows.specs.Keys.{by_ints, by_texts}
 use Rattle.node_rows.specs.Nodes.{Seat}
-use Rattle.table_nodes.specs.Nodes.{IsNamed, rows_in}
+use Rattle.table_nodes.specs.Nodes.{IsNamed, rows_in, seen}
+use Rattle.table_nodes.proofs.SeenLaws.{seen_joint}
 use Rattle.std.specs.Prelude.{negsuc}
 use Rattle.std.proofs.lemmas.Bool.{cases_lt, ltb-true, lt-ltb}
 use Rattle.std.proofs.lemmas.Int.{to_z-of_z}
@@ -38,9 +39,9 @@ bytes_shown heap text kind = ap (λ (k : Kind). take (header_at heap text).bytes
 
 -- the object that a slot names, after a touch, shows what was seen under the name
 module _ (old new : Heap) (a b : Outside Space) (at to : ℕ) (slot : ℕ) where
-  pub slot_seen : IsHeap new → Within (joint old a) (joint new b) → Denotes new (Some to) (name_of old (ref_at old at slot)) → (it : Shown) → joint old a (slot_of (shown_at old at) slot) it → it ≡ shown_at new to
+  pub slot_seen : IsHeap new → Within (joint old a) (joint new b) → Denotes new (Some to) (name_of old (ref_at old at slot)) → (it : Shown) → seen old a (slot_of (shown_at old at) slot) it → it ≡ shown_at new to
   slot_seen h w d it there =
-      let named : joint old a (name_at new to) it = subst (λ n. joint old a n it) (slot-name old at slot ∙ sym d.1) there in
+      let named : joint old a (name_at new to) it = subst (λ n. joint old a n it) (slot-name old at slot ∙ sym d.1) (seen_joint old a (slot_of (shown_at old at) slot) it there) in
       seen_held new (Holds b) to it h d.0 (w (name_at new to) it named)
 
 -- the text of a node's key
@@ -94,11 +95,11 @@ int_key_same heap outside at n row int h named r same =
     ap (λ y. to_z w32 (of_z w32 y)) same ∙ int_same row.entry.key (int_read (word_in (shown_at heap at) 1) row.entry.key (int_of_key heap outside at n row h named r))
 
 -- nil names no object
-pub nil_unseen : (heap : Heap) (outside : Outside Space) (it : Shown) → joint heap outside Nil it → ⊥
+pub nil_unseen : (heap : Heap) (outside : Outside Space) (it : Shown) → seen heap outside Nil it → ⊥
 nil_unseen heap outside it (inl a) = name-not_nil heap a.at (sym a.name_is)
 nil_unseen heap outside it (inr v) = let e = v.name_is in absurd (cc)
 
 pub text_not_nil : (heap : Heap) (outside : Outside Space) (at : ℕ) (n : Reference) (row : Seat by_texts) → IsHeap heap → name_of heap (ref_at heap at 2) ≡ Nil → IsNamed heap at n → rows_in by_texts heap outside n row → ⊥
 text_not_nil heap outside at n row h nil named r =
     let k = (seat_at by_texts heap outside at n row h named r).key in
-    nil_unseen heap outside k.it (subst (λ m. joint heap outside m k.it) (slot-name heap at 2 ∙ nil) k.there)
+    nil_unseen heap outside k.it (subst (λ m. seen heap outside m k.it) (slot-name heap at 2 ∙ nil) k.there)

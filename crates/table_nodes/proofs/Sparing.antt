@@ -1,22 +1,27 @@
 -- Objects that are no nodes stay where nodes are read and written, one step after another.
-use Rattle.std.proofs.Common.{◌≡◌, ◌≢◌, ◌⊎◌, ℕ, List, set, Option, Result, Ok, Err, OnOk, refl, sym, ap, ◌∙◌, subst, inl, inr}
+use Rattle.std.proofs.Common.{slice_index, ◌≡◌, ◌≢◌, ◌⊎◌, ℕ, ◌+◌, true, false, if◌then◌else◌, arith, [], ◌∷◌, ◌++◌, List, set, Option, Result, Ok, Err, OnOk, refl, sym, ap, ◌∙◌, subst, inl, inr}
 use Rattle.std.proofs.lemmas.Bool.{cases_eq}
+use Rattle.std.proofs.lemmas.List.{get_or-set_other}
 use Rattle.heap_places.specs.ps_outside.Outside.{Outside, SameContents}
 use Rattle.heap_places.specs.obj_layout.Stored.{Space, Holds}
 use Rattle.heap_places.specs.obj_layout.declared.reference.Reference.{Reference}
 use Rattle.heap_places.specs.swizzle.declared.fault.SwizzleFault.{SwizzleFault}
-use Rattle.heap_places.specs.swizzle.Heap.{Heap, IsHeap, IsHeld, IsListed, Stands, reference_to, with_mark, with_num, with_ref}
+use Rattle.heap_places.specs.swizzle.Heap.{Heap, IsHeap, IsHeld, IsListed, Stands, flagged, header_at, is_assigned, object_at, reference_to, top_of, with_mark, with_num, with_object, with_ref, num_at}
+use Rattle.heap_places.specs.swizzle.Objects.{Object, replace_from}
+use Rattle.heap_places.proofs.of_swizzle.HeapLaws.{size-replaced}
+use Rattle.heap_places.proofs.of_swizzle.KeptLaws.{held_is}
+use Rattle.heap_places.proofs.of_swizzle.StandLaws.{like_nums, like_flags}
 use Rattle.heap_places.specs.swizzle.Joint.{Shown, Joint, shown_at, name_at, name_of}
 use Rattle.heap_places.specs.swizzle.Changes.{Same, ChangedAt, Within}
 use Rattle.heap_places.specs.swizzle.Reading.{joint}
 use Rattle.heap_places.specs.swizzle.Touch.{Keeps}
-use Rattle.heap_places.proofs.of_swizzle.JointLaws.{joint-ref, joint-num}
+use Rattle.heap_places.proofs.of_swizzle.JointLaws.{IsLike, joint-ref, joint-num, like_long, like_ref, object-replaced_other, object-replaced}
 use Rattle.heap_places.proofs.of_swizzle.MarkLaws.{joint-mark}
-use Rattle.heap_places.proofs.of_swizzle.NameLaws.{name_at-injective}
+use Rattle.heap_places.proofs.of_swizzle.NameLaws.{name_at-injective, not_away}
 use Rattle.node_rows.specs.Keys.{Keys, KeyOf}
 use Rattle.table_nodes.specs.Nodes.{IsNode, IsSingle, OthersStay, Grows}
 use Rattle.table_nodes.specs.Entering.{Makes}
-use Rattle.table_nodes.specs.Sparing.{Lasts, IsNoted, Spares}
+use Rattle.table_nodes.specs.Sparing.{IsNoted, IsOfKind, Lasts, Spares}
 use Rattle.table_nodes.proofs.MarkingLaws.{marked_listed, listed_still, listed_marked}
 use Rattle.table_nodes.proofs.NodeLaws.{name_stands, seen_held, single_kept}
 
@@ -33,6 +38,11 @@ spares_none heap outside = record {
   noted = λ at l. l;
   only = λ at l. inl l;
   others = λ single n it ne h. h;
+  kinds = λ single n it h. record { it = it; there = h; kind_is = refl };
+  flags = λ at h. inl refl;
+  homes = λ at h. refl;
+  size = refl;
+  top = omega arith;
   contents = record { kept = λ x h. h; no_other = λ x h. h };
 }
 
@@ -44,6 +54,11 @@ spares_seen old new a b keeps seen same = record {
   noted = λ at l. subst (λ is. IsListed at is) (sym keeps.assigned) l;
   only = λ at l. inl (subst (λ is. IsListed at is) keeps.assigned l);
   others = λ single n it ne h. seen n it h;
+  kinds = λ single n it h. record { it = it; there = seen n it h; kind_is = refl };
+  flags = λ at h. inl (keeps.objects at h).flags;
+  homes = λ at h. ap (λ (it : Shown). slice_index it.nums 0) (keeps.objects at h).shown_as;
+  size = keeps.size;
+  top = keeps.top;
   contents = same;
 }
 
@@ -65,6 +80,13 @@ module _ (a b c : Heap) (x y z : Outside Space) (s : Spares a b x y) (t : Spares
   only_then at (inl l) = elim (s.only at l) [ inl m ↦ inl m | inr n ↦ inr (node_lasts b c at (t.lasts at n.held) n) ]
   only_then at (inr n) = inr n
 
+  flags_then : (at : ℕ) → IsHeld b at → ((header_at b at).flags ≡ (header_at a at).flags) ⊎ IsNode b at → ((header_at c at).flags ≡ (header_at b at).flags) ⊎ IsNode c at
+      → ((header_at c at).flags ≡ (header_at a at).flags) ⊎ IsNode c at
+  flags_then at h (inl e) (inl d) = inl (d ∙ e)
+  flags_then at h (inr n) (inl d) = inr (node_lasts b c at (t.lasts at h) n)
+  flags_then at h (inl e) (inr m) = inr m
+  flags_then at h (inr n) (inr m) = inr m
+
   pub spares_then : Spares a c x z
   spares_then = record {
     lasts = λ at h. (let f = s.lasts at h in lasts_then a b c at f (t.lasts at f.held));
@@ -72,6 +94,14 @@ module _ (a b c : Heap) (x y z : Outside Space) (s : Spares a b x y) (t : Spares
     noted = λ at l. t.noted at (s.noted at l);
     only = λ at l. only_then at (t.only at l);
     others = λ single n it ne h. t.others (single_kept x y s.contents single) n it ne (s.others single n it ne h);
+    kinds = λ single n it h.
+        (let k = s.kinds single n it h in
+        let m = t.kinds (single_kept x y s.contents single) n k.it k.there in
+        record { it = m.it; there = m.there; kind_is = m.kind_is ∙ k.kind_is });
+    flags = λ at h. (let there = (s.lasts at h).held in flags_then at there (s.flags at h) (t.flags at there));
+    homes = λ at h. t.homes at (s.lasts at h).held ∙ s.homes at h;
+    size = t.size ∙ s.size;
+    top = omega (arith, s.top, t.top);
     contents = record { kept = λ k h. t.contents.kept k (s.contents.kept k h); no_other = λ k h. s.contents.no_other k (t.contents.no_other k h) };
   }
 
@@ -82,11 +112,48 @@ spares_after a b c x y z s (Err fault) t = tt
 
 -- One object was written, and all others are seen as they were.
 
+-- no object came or went, each keeps its home, and others than this one keep their flags
+pub record IsInPlace (a b : Heap) (at : ℕ) : Type 0 where
+  pub size : b.size ≡ a.size
+  pub top : top_of b ≡ top_of a
+  pub flags : (j : ℕ) → j ≢ at → (header_at b j).flags ≡ (header_at a j).flags
+  pub homes : (j : ℕ) → num_at b j 0 ≡ num_at a j 0
+
+in_place : (heap : Heap) (at : ℕ) (new : Object) → IsHeld heap at → IsLike (object_at heap at) new → slice_index new.nums 0 ≡ num_at heap at 0 → IsInPlace heap (with_object heap at new) at
+in_place heap at new held like home =
+    let long = like_long (object_at heap at) new like in
+    record {
+      size = refl;
+      top = ap (λ (n : ℕ). 1 + n) (size-replaced 1 heap.objects at (object_at heap at) new (held_is heap at held) long);
+      flags = λ j ne. ap (λ (x : Object). x.header.flags) (object-replaced_other heap at j new held long ne);
+      homes = λ j. elim (cases_eq j at) [
+        | inl same ↦
+            ap (num_at_zero (with_object heap at new)) same ∙ (ap (λ (x : Object). slice_index x.nums 0) (object-replaced heap at new held) ∙ (home ∙ ap (num_at_zero heap) (sym same)))
+        | inr apart ↦ ap (λ (x : Object). slice_index x.nums 0) (object-replaced_other heap at j new held long apart)
+      ];
+    }
+  where
+    num_at_zero : Heap → ℕ → ℕ
+    num_at_zero h j = num_at h j 0
+
+place_mark : (heap : Heap) (at : ℕ) → IsHeld heap at → IsInPlace heap (with_mark heap at) at
+place_mark heap at held =
+    let p = in_place heap at (flagged (object_at heap at)) held (like_flags (object_at heap at)) refl in
+    elim (is_assigned (object_at heap at)) as
+    (λ b. IsInPlace heap (if b then heap else record heap { objects = replace_from 1 heap.objects at (flagged (object_at heap at)); assigned = heap.assigned ++ at ∷ [] }) at) [
+      | true ↦ record { size = refl; top = refl; flags = λ j ne. refl; homes = λ j. refl }
+      | false ↦ record { size = refl; top = p.top; flags = p.flags; homes = p.homes }
+    ]
+
+place_then : (a b c : Heap) (at : ℕ) → IsInPlace a b at → IsInPlace b c at → IsInPlace a c at
+place_then a b c at p q = record { size = q.size ∙ p.size; top = q.top ∙ p.top; flags = λ j ne. q.flags j ne ∙ p.flags j ne; homes = λ j. q.homes j ∙ p.homes j }
+
 pub record Beside (a b : Heap) (outside : Outside Space) (at : ℕ) : Type 0 where
   pub stands : Stands a b
   pub list : b.assigned ≡ a.assigned
   pub shows : (j : ℕ) → IsHeld a j → j ≢ at → shown_at b j ≡ shown_at a j
   pub others : OthersStay a b outside at
+  pub place : IsInPlace a b at
 
 -- nothing is stored
 abbrev none : ℕ → List ℕ → Type 0
@@ -103,14 +170,16 @@ beside_ref a b outside at slot to ha hb held e s = record {
   list = ap (λ (x : Heap). x.assigned) e;
   shows = shown_beside a b at (record (shown_at a at) { refs = set (shown_at a at).refs slot (name_of a to) }) ha hb held s (subst (λ x. ChangedAt (Joint a none) (name_at a at) (record (shown_at a at) { refs = set (shown_at a at).refs slot (name_of a to) }) (Joint x none)) (sym e) (joint-ref a none at slot to ha held));
   others = (subst (λ x. ChangedAt (joint a outside) (name_at a at) (record (shown_at a at) { refs = set (shown_at a at).refs slot (name_of a to) }) (joint x outside)) (sym e) (joint-ref a (Holds outside) at slot to ha held)).stays;
+  place = subst (λ (x : Heap). IsInPlace a x at) (sym e) (in_place a at _ held (like_ref a at slot to) refl);
 }
 
-pub beside_num : (a b : Heap) (outside : Outside Space) (at index value : ℕ) → IsHeap a → IsHeap b → IsHeld a at → b ≡ with_num a at index value → Stands a b → Beside a b outside at
-beside_num a b outside at index value ha hb held e s = record {
+pub beside_num : (a b : Heap) (outside : Outside Space) (at index value : ℕ) → 0 ≢ index → IsHeap a → IsHeap b → IsHeld a at → b ≡ with_num a at index value → Stands a b → Beside a b outside at
+beside_num a b outside at index value first ha hb held e s = record {
   stands = s;
   list = ap (λ (x : Heap). x.assigned) e;
   shows = shown_beside a b at (record (shown_at a at) { nums = set (shown_at a at).nums index value }) ha hb held s (subst (λ x. ChangedAt (Joint a none) (name_at a at) (record (shown_at a at) { nums = set (shown_at a at).nums index value }) (Joint x none)) (sym e) (joint-num a none at index value ha held));
   others = (subst (λ x. ChangedAt (joint a outside) (name_at a at) (record (shown_at a at) { nums = set (shown_at a at).nums index value }) (joint x outside)) (sym e) (joint-num a (Holds outside) at index value ha held)).stays;
+  place = subst (λ (x : Heap). IsInPlace a x at) (sym e) (in_place a at _ held (like_nums (object_at a at) _) (get_or-set_other (object_at a at).nums index 0 value 0 first));
 }
 
 pub beside_then : (a b c : Heap) (outside : Outside Space) (at : ℕ) → IsHeld a at → Beside a b outside at → Beside b c outside at → Beside a c outside at
@@ -119,6 +188,7 @@ beside_then a b c outside at held f g = record {
   list = g.list ∙ f.list;
   shows = λ j h ne. g.shows j (f.stands j h).held ne ∙ f.shows j h ne;
   others = λ n it ne k. g.others n it (λ e. ne (e ∙ name_stands a b f.stands at held)) (f.others n it ne k);
+  place = place_then a b c at f.place g.place;
 }
 
 -- It was marked then.
@@ -129,6 +199,7 @@ pub record WritesOne (a c : Heap) (outside : Outside Space) (at : ℕ) : Type 0 
   pub only : (j : ℕ) → IsListed j c.assigned → IsListed j a.assigned ⊎ (j ≡ at)
   pub listed : IsListed at c.assigned
   pub others : IsSingle outside → OthersStay a c outside at
+  pub place : IsInPlace a c at
 
 pub shown_marked : (a b : Heap) (at : ℕ) → IsHeap a → IsHeap b → IsHeld a at → Stands a b → b ≡ with_mark a at → (j : ℕ) → IsHeld a j → shown_at b j ≡ shown_at a j
 shown_marked a b at ha hb held s e j there =
@@ -145,12 +216,21 @@ writes_one a b c outside at hb hc held f e s =
       noted = λ j l. subst (λ (x : Heap). IsListed j x.assigned) (sym e) (listed_still b at j (subst (λ is. IsListed j is) (sym f.list) l));
       only = λ j l. elim (listed_marked b at j (subst (λ (x : Heap). IsListed j x.assigned) e l)) [ inl m ↦ inl (subst (λ is. IsListed j is) f.list m) | inr d ↦ inr d ];
       listed = subst (λ (x : Heap). IsListed at x.assigned) (sym e) (marked_listed b at hb held1);
+      place = place_then a b c at f.place (subst (λ (x : Heap). IsInPlace b x at) (sym e) (place_mark b at held1));
       others = λ single n it ne k. (subst (λ x. Same (joint b outside) (joint x outside)) (sym e) (joint-mark b (Holds outside) at hb held1 single.one)).grows n it (f.others n it ne k);
     }
 
 -- an object that is seen under the name of an object of another kind isn't it
 pub unlike : (heap : Heap) (outside : Outside Space) (at : ℕ) (n : Reference) (it : Shown) → IsHeap heap → IsHeld heap at → it.kind ≢ (shown_at heap at).kind → joint heap outside n it → n ≢ name_at heap at
 unlike heap outside at n it h held ne k e = ne (ap (λ (x : Shown). x.kind) (seen_held heap (Holds outside) at it h held (subst (λ m. joint heap outside m it) e k)))
+
+-- where one object was written each keeps its kind
+pub kinds_kept : (a c : Heap) (outside : Outside Space) (at : ℕ) → IsHeap a → IsHeld a at → ((j : ℕ) → IsHeld a j → Lasts a c j) → OthersStay a c outside at → (n : Reference) (it : Shown) → joint a outside n it → IsOfKind c outside n it.kind
+kinds_kept a c outside at h held lasts others n it (inl k) =
+    let l = lasts k.at k.held in
+    record { it = shown_at c k.at; there = inl (record { at = k.at; held = l.held; name_is = k.name_is ∙ sym l.name; shown_is = refl }); kind_is = l.kind ∙ sym (ap (λ (x : Shown). x.kind) k.shown_is) }
+kinds_kept a c outside at h held lasts others n it (inr v) =
+    record { it = it; there = others n it (λ e. not_away a at v.pid h held (sym v.name_is ∙ e) v.away) (inr v); kind_is = refl }
 
 -- a node was written
 pub spares_written : (a c : Heap) (outside : Outside Space) (at : ℕ) → IsHeap a → IsNode a at → WritesOne a c outside at → Spares a c outside outside
@@ -165,6 +245,11 @@ spares_written a c outside at h node w =
       noted = w.noted;
       only = λ j l. elim (w.only j l) [ inl m ↦ inl m | inr d ↦ inr (subst (IsNode c) (sym d) now) ];
       others = λ single n it ne k. w.others single n it (unlike a outside at n it h node.held (λ e. ne (e ∙ node.kind)) k) k;
+      kinds = λ single n it k. kinds_kept a c outside at h node.held w.lasts (w.others single) n it k;
+      flags = λ j there. elim (cases_eq j at) [ inl same ↦ inr (subst (IsNode c) (sym same) now) | inr apart ↦ inl (w.place.flags j apart) ];
+      homes = λ j there. w.place.homes j;
+      size = w.place.size;
+      top = omega (arith, w.place.top);
       contents = record { kept = λ x k. k; no_other = λ x k. k };
     }
 
@@ -176,7 +261,7 @@ spares_sides h0 h1 h2 h3 h4 outside at left right height node i0 i1 i2 i3 i4 e1 
     let held1 = (s1 at node.held).held in
     let b1 = beside_ref h0 h1 outside at 0 (reference_to left) i0 i1 node.held e1 s1 in
     let b2 = beside_ref h1 h2 outside at 1 (reference_to right) i1 i2 held1 e2 s2 in
-    let b3 = beside_num h2 h3 outside at 2 height i2 i3 (s2 at held1).held e3 s3 in
+    let b3 = beside_num h2 h3 outside at 2 height (λ e. cc) i2 i3 (s2 at held1).held e3 s3 in
     spares_written h0 h4 outside at i0 node (writes_one h0 h3 h4 outside at i3 i4 node.held (beside_then h0 h2 h3 outside at node.held (beside_then h0 h1 h2 outside at node.held b1 b2) b3) e4 s4)
 
 -- its value

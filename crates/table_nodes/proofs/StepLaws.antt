@@ -1,29 +1,26 @@
 -- What is known of nodes while a tree of them is changed.
 use Rattle.std.proofs.Common.{◌≡◌, ◌≢◌, ℕ, List, ◌∷◌, ◌++◌, sym, ◌∙◌, Option, Some, None, Result, Ok, Err, OnOk, IfSome, refl, subst}
 use Rattle.heap_places.specs.ps_outside.Outside.{Outside}
-use Rattle.heap_places.specs.obj_layout.Stored.{Space, Holds}
+use Rattle.heap_places.specs.obj_layout.Stored.{Space}
 use Rattle.heap_places.specs.obj_layout.declared.reference.Reference.{Reference}
 use Rattle.heap_places.specs.swizzle.declared.fault.SwizzleFault.{SwizzleFault}
 use Rattle.heap_places.specs.swizzle.Heap.{Heap, IsHeap}
 use Rattle.heap_places.specs.swizzle.Joint.{name_at}
-use Rattle.heap_places.specs.swizzle.Reading.{joint}
-use Rattle.heap_places.proofs.of_swizzle.NameLaws.{Joint-one}
-use Rattle.heap_places.proofs.of_swizzle.ReadingLaws.{leaves-none, leaves-then}
 use Rattle.avl_trees.specs.Trees.{Tree, leaf, node, height}
 use Rattle.avl_trees.specs.Standing.{Item, root_of, row_of, Stands, IsApart, IsOne, IsWritten}
 use Rattle.avl_trees.proofs.Ordered.{all_front, all_back}
 use Rattle.avl_trees.proofs.Turning.{set_between}
 use Rattle.node_rows.specs.Keys.{Keys, order_by}
 use Rattle.node_rows.specs.Nodes.{Seat, IsSeat, I}
-use Rattle.table_nodes.specs.Nodes.{IsNamed, IsLinked, IsSide, Links, with_sides}
+use Rattle.table_nodes.specs.Nodes.{IsNamed, IsLinked, IsSide, Links, seen, with_sides}
 use Rattle.table_nodes.specs.Steps.{Place, place, rows_of, IsPlace, AreSides, SetsSides, Holds as Keeps, Touches}
 use Rattle.table_nodes.proofs.KeyLaws.{total}
-use Rattle.table_nodes.proofs.NodeLaws.{seat_one, joint_one, single_kept}
+use Rattle.table_nodes.proofs.NodeLaws.{seat_one, seen_one, single_kept, grows_none, grows_then}
 
 pub one : (ks : Keys) (p : Place) → IsPlace p → IsOne (rows_of ks p)
 one ks p h n a b k l =
-    let same = Joint-one p.heap (Holds p.outside) n l.it k.it h.heap h.single.one l.there k.there in
-    seat_one ks (joint p.heap p.outside) k.it a b (joint_one p.heap p.outside h.heap h.single) k.is (subst (λ it. IsSeat ks (joint p.heap p.outside) it b) same l.is)
+    let single = seen_one p.heap p.outside h.heap h.single in
+    seat_one ks (seen p.heap p.outside) k.it a b single k.is (subst (λ it. IsSeat ks (seen p.heap p.outside) it b) (single n l.it k.it l.there k.there) l.is)
 
 -- the height that was read is that of the tree there
 pub height_is : (ks : Keys) (p : Place) (side : Option ℕ) (h : ℕ) → (side ≡ None → h ≡ 0) → ((at : ℕ) (n : Reference) (row : Seat ks) → side ≡ Some at → IsNamed p.heap at n → rows_of ks p n row → h ≡ row.height)
@@ -48,14 +45,7 @@ pub place_touched : (old new : Place) → Touches old new → IsPlace old → Is
 place_touched old new g p = record { heap = g.heap; single = single_kept old.outside new.outside g.leaves.contents p.single }
 
 pub touches_then : (old mid new : Place) → Touches old mid → Touches mid new → Touches old new
-touches_then old mid new f g = record {
-  rows = λ ks n row h. g.rows ks n row (f.rows ks n row h);
-  nodes = λ at h. g.nodes at (f.nodes at h);
-  named = λ at n h. g.named at n (f.named at n h);
-  heap = g.heap;
-  seen = λ n it k. g.seen n it (f.seen n it k);
-  leaves = leaves-then old.outside mid.outside new.outside f.leaves g.leaves;
-}
+touches_then old mid new f g = grows_then old.heap mid.heap new.heap old.outside mid.outside new.outside f g
 
 -- a name is apart from those of a part of a tree, and isn't that of the node of an item
 
@@ -99,4 +89,4 @@ holds_over old mid new f (Err fault) g = tt
 
 -- nothing was touched
 pub touches_none : (p : Place) → IsHeap p.heap → Touches p p
-touches_none p h = record { rows = λ ks n row k. k; nodes = λ at k. k; named = λ at n k. k; heap = h; seen = λ n it k. k; leaves = leaves-none p.outside }
+touches_none p h = grows_none p.heap p.outside h

@@ -1,5 +1,5 @@
 -- What entering a key into a table's tree does to its nodes.
-use Rattle.std.specs.Prelude.{◌≡◌, ◌⊎◌, ℕ, ◌+◌, ◌<◌, Bool, true, false, Option, Some, None, Result, IfOk, MatchResult}
+use Rattle.std.specs.Prelude.{◌≡◌, ◌⊎◌, ℕ, ◌+◌, ◌≤◌, ◌<◌, Bool, true, false, Option, Some, None, Result, IfOk, MatchResult}
 use Rattle.std.specs.declared.cmp.Ordering.TheVariants.{Less, Greater}
 use Rattle.heap_places.specs.ps_outside.Outside.{Outside}
 use Rattle.heap_places.specs.obj_layout.Stored.{Space}
@@ -7,7 +7,7 @@ use Rattle.heap_places.specs.obj_layout.declared.reference.Reference.{Reference}
 use Rattle.heap_places.specs.obj_layout.declared.reference.Reference.TheVariants.{Local}
 use Rattle.heap_places.specs.swizzle.declared.fault.SwizzleFault.{SwizzleFault}
 use Rattle.heap_places.specs.swizzle.declared.fault.SwizzleFault.TheVariants.{AreaFull, Vault}
-use Rattle.heap_places.specs.swizzle.Heap.{Heap, IsHeap}
+use Rattle.heap_places.specs.swizzle.Heap.{Heap, IsHeap, top_of}
 use Rattle.heap_places.specs.swizzle.Joint.{Shown, name_at}
 use Rattle.heap_places.specs.swizzle.Changes.{Within}
 use Rattle.heap_places.specs.swizzle.Reading.{joint}
@@ -58,7 +58,7 @@ pub record IsOpened (ks : Keys) (heap : Heap) (key : KeyOf ks) (x : Tree (I ks))
 
 abbrev pub OpensAt : (ks : Keys) → Place → Heap → ℕ → KeyOf ks → Span → Result Opened SwizzleFault → Type 0
 OpensAt ks old new at key span result = (x : Tree (I ks)) (b : I ks) (y : Tree (I ks)) → Stands (rows_of ks old) (node x b y) → IsNamed old.heap at b.name
-    → IsRising (order_by ks) (node x b y) → IsWithin ks old.heap span (items (node x b y)) → MatchResult result (IsOpened ks new key x b y) (IsFetchFault old.outside)
+    → IsRising (order_by ks) (node x b y) → IsWithin ks old.heap span (items (node x b y)) → MatchResult result (IsOpened ks new key x b y) (IsFetchFault old.heap old.outside)
 
 -- The pair was put into the tree, where the key was new under a name that had no object.
 -- Where the tree has grown, what a turn above looks at is known.
@@ -69,18 +69,18 @@ pub record Enters (ks : Keys) (old new : Place) (t : Tree (I ks)) (key : KeyOf k
   pub wing : height (insert (seek (order_by ks) key) (put value) (fresh_item fresh key value) t) ≡ height t + 1
       → IsLeftWing new.heap entered.wing (insert (seek (order_by ks) key) (put value) (fresh_item fresh key value) t) × IsRightWing new.heap entered.wing (insert (seek (order_by ks) key) (put value) (fresh_item fresh key value) t)
 
--- there was no room for a node
-abbrev pub IsNoRoom : SwizzleFault → Type 0
-IsNoRoom (AreaFull top wanted size) = (wanted ≡ 11) × (size < top + wanted)
-IsNoRoom (Vault fault) = ⊥
+-- there was no room for the 11 words of a node, in this area or as it was left by touches
+abbrev pub IsNoRoom : Heap → SwizzleFault → Type 0
+IsNoRoom heap (AreaFull top wanted size) = (top_of heap ≤ top) × (size ≡ heap.size) × (wanted ≡ 11) × (size < top + wanted)
+IsNoRoom heap (Vault fault) = ⊥
 
 -- Why an enter into a tree that stands failed: a reference's object couldn't be fetched, or there was no room for a node.
-abbrev pub IsEnterFault : Outside Space → SwizzleFault → Type 0
-IsEnterFault outside fault = IsFetchFault outside fault ⊎ IsNoRoom fault
+abbrev pub IsEnterFault : Heap → Outside Space → SwizzleFault → Type 0
+IsEnterFault heap outside fault = IsFetchFault heap outside fault ⊎ IsNoRoom heap fault
 
 abbrev pub EntersAt : (ks : Keys) → Place → Place → Option ℕ → ℕ → KeyOf ks → Span → Reference → Result Entered SwizzleFault → Type 0
 EntersAt ks old new root bound key span value result = (t : Tree (I ks)) → IsPlace old → IsTree ks old root t → IsWithin ks old.heap span (items t) → height t < bound
-    → MatchResult result (λ entered. Enters ks old new t key value entered) (IsEnterFault old.outside)
+    → MatchResult result (λ entered. Enters ks old new t key value entered) (IsEnterFault old.heap old.outside)
 
 -- the tree hasn't the key
 abbrev pub is_missing : {A : Type 0} → Option A → Bool

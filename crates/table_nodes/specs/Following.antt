@@ -30,20 +30,20 @@ IsTurn ks heap at last order x y turn =
 
 abbrev pub TurnsAt : (ks : Keys) → Place → Heap → ℕ → Option ℕ → KeyOf ks → Span → Result Turn SwizzleFault → Type 0
 TurnsAt ks old new at last key span result = (x : Tree (I ks)) (b : I ks) (y : Tree (I ks)) → Stands (rows_of ks old) (node x b y) → IsNamed old.heap at b.name
-    → IsRising (order_by ks) (node x b y) → IsWithin ks old.heap span (items (node x b y)) → MatchResult result (IsTurn ks new at last (order_by ks key b.entry.key) x y) (IsFetchFault old.outside)
+    → IsRising (order_by ks) (node x b y) → IsWithin ks old.heap span (items (node x b y)) → MatchResult result (IsTurn ks new at last (order_by ks key b.entry.key) x y) (IsFetchFault old.heap old.outside)
 
 -- The left side of a node, and within what the keys there lie.
 abbrev pub BeginsAt : (ks : Keys) → Place → Heap → ℕ → Span → Result Way SwizzleFault → Type 0
 BeginsAt ks old new at span result = (x : Tree (I ks)) (b : I ks) (y : Tree (I ks)) → Stands (rows_of ks old) (node x b y) → IsNamed old.heap at b.name
     → IsRising (order_by ks) (node x b y) → IsWithin ks old.heap span (items (node x b y))
-    → MatchResult result (λ way. IsLinked new way.side (root_of x) × IsWithin ks new way.span (items x)) (IsFetchFault old.outside)
+    → MatchResult result (λ way. IsLinked new way.side (root_of x) × IsWithin ks new way.span (items x)) (IsFetchFault old.heap old.outside)
 
 -- The node of the least key above a key is answered, none where there is none, or a reference's object couldn't be fetched.
 abbrev pub Follows : (ks : Keys) → Place → Heap → Option ℕ → ℕ → KeyOf ks → Result (Option ℕ) SwizzleFault → Type 0
 Follows ks old new root bound key result = (t : Tree (I ks)) → IsTree ks old root t → height t < bound
-    → MatchResult result (λ found. IsLinked new found (item_name (next (seek (order_by ks) key) t None))) (IsFetchFault old.outside)
+    → MatchResult result (λ found. IsLinked new found (item_name (next (seek (order_by ks) key) t None))) (IsFetchFault old.heap old.outside)
 
 -- The node of the least key is answered, none where the tree is empty, or a reference's object couldn't be fetched.
 abbrev pub Begins : (ks : Keys) → Place → Heap → Option ℕ → ℕ → Result (Option ℕ) SwizzleFault → Type 0
 Begins ks old new root bound result = (t : Tree (I ks)) → IsTree ks old root t → height t < bound
-    → MatchResult result (λ found. IsLinked new found (item_name (next (λ a. Less) t None))) (IsFetchFault old.outside)
+    → MatchResult result (λ found. IsLinked new found (item_name (next (λ a. Less) t None))) (IsFetchFault old.heap old.outside)

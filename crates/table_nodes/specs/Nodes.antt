@@ -1,22 +1,37 @@
 -- The nodes of a table's tree: what is seen of one under a name.
-use Rattle.std.specs.Prelude.{◌≡◌, ◌≢◌, ℕ, zero, suc, List, Option, Some, None}
+use Rattle.std.specs.Prelude.{◌≡◌, ◌≢◌, ℕ, ◌+◌, ◌≤◌, ◌<◌, zero, suc, List, length, Option, Some, None}
 use Rattle.heap_places.specs.ps_outside.Outside.{Outside}
 use Rattle.heap_places.specs.obj_layout.Stored.{Space, Holds}
+use Rattle.heap_places.specs.obj_layout.declared.header.Header.{Header}
 use Rattle.heap_places.specs.obj_layout.declared.kind.Kind.TheVariants.{Node}
 use Rattle.heap_places.specs.obj_layout.declared.reference.Reference.{Reference}
+use Rattle.heap_places.specs.obj_layout.declared.vault.VaultFault.TheVariants.{Device, Output, Full, NoPages, Damaged}
 use Rattle.heap_places.specs.swizzle.declared.fault.SwizzleFault.{SwizzleFault}
-use Rattle.heap_places.specs.swizzle.Heap.{Heap, IsHeap, IsHeld, header_at, ref_at, num_at, reference_to}
-use Rattle.heap_places.specs.swizzle.Joint.{Shown, name_at, name_of}
+use Rattle.heap_places.specs.swizzle.declared.fault.SwizzleFault.TheVariants.{AreaFull, Vault}
+use Rattle.heap_places.specs.swizzle.Heap.{Heap, IsHeap, IsHeld, top_of, local_of, header_at, ref_at, num_at, reference_to}
+use Rattle.heap_places.specs.swizzle.Fetched.{IsFar}
+use Rattle.heap_places.specs.swizzle.Joint.{Shown, Joint, name_at, name_of}
 use Rattle.heap_places.specs.swizzle.Changes.{Within}
 use Rattle.heap_places.specs.swizzle.Reading.{joint, LeavesOutside}
-use Rattle.heap_places.specs.swizzle.Touch.{IsTouchFault}
+use Rattle.heap_places.specs.swizzle.Touch.{Keeps}
 use Rattle.avl_trees.specs.Standing.{Row, Rows, IsWritten}
 use Rattle.node_rows.specs.Keys.{Keys, KeyOf}
 use Rattle.node_rows.specs.Nodes.{Seat, HasNode}
 
+-- A vault holds these words under the PID, they may come into the area, and their header is clean: without flags, PID and chain.
+pub record IsStored (outside : Outside Space) (pid : ℕ) (words : List ℕ) : Type 0 where
+  pub there : Holds outside pid words
+  pub header : Header
+  pub far : IsFar words header
+  pub clean : (header.flags ≡ 0) × (header.pid ≡ 0) × (header.chain ≡ 0)
+
+-- what is seen of area and vault: the objects of the area, and those of the vault that may come into it
+abbrev pub seen : Heap → Outside Space → Reference → Shown → Type 0
+seen heap outside = Joint heap (IsStored outside)
+
 -- the rows that area and vault show together
 abbrev pub rows_in : (ks : Keys) → Heap → Outside Space → Rows Reference (KeyOf ks) Reference
-rows_in ks heap outside = HasNode ks (joint heap outside)
+rows_in ks heap outside = HasNode ks (seen heap outside)
 
 -- the vault holds one object at most under a PID
 pub record IsSingle (outside : Outside Space) : Type 0 where
@@ -40,8 +55,8 @@ IsLinked heap None None = Unit {0}
 IsLinked heap (Some at) (Some n) = IsNamed heap at n
 IsLinked heap _ _ = ⊥
 
--- What touches leave: what is seen stays, rows among it, and nodes of the area keep their names. Nothing is output, what a crash may leave and what the
--- vault holds stay, and no count sinks.
+-- What touches leave: what is seen stays, rows among it, and objects of the area stay, nodes with their names. Nothing is output, what a crash may leave
+-- and what the vault holds stay, and no count sinks.
 pub record Grows (old new : Heap) (before after : Outside Space) : Type 0 where
   pub rows : (ks : Keys) (n : Reference) (row : Seat ks) → rows_in ks old before n row → rows_in ks new after n row
   pub nodes : (at : ℕ) → IsNode old at → IsNode new at
@@ -49,6 +64,7 @@ pub record Grows (old new : Heap) (before after : Outside Space) : Type 0 where
   pub heap : IsHeap new
   pub leaves : LeavesOutside before after
   pub seen : Within (joint old before) (joint new after)
+  pub keeps : Keeps old new
 
 abbrev pub side_of : {K : Type 0} → ℕ → Row Reference K Reference → Option Reference
 side_of zero row = row.left
@@ -86,8 +102,19 @@ abbrev pub IsSide : Keys → Heap → Outside Space → Option Reference → Typ
 IsSide ks heap outside None = Unit {0}
 IsSide ks heap outside (Some n) = (row : Seat ks) × rows_in ks heap outside n row
 
--- Why a call on nodes that stand failed: the object of some reference couldn't be fetched.
-pub record IsFetchFault (outside : Outside Space) (fault : SwizzleFault) : Type 0 where
-  pub heap : Heap
-  pub reference : Reference
-  pub is : IsTouchFault heap outside reference fault
+-- An object that the vault holds and that may come into the area, where it isn't yet.
+pub record IsAway (heap : Heap) (outside : Outside Space) (pid : ℕ) : Type 0 where
+  pub words : List ℕ
+  pub stored : IsStored outside pid words
+  pub away : local_of heap pid ≡ None
+
+-- Why a call on nodes that stand failed, from this area and vault on: the device failed, or there was no room for an object that wasn't in the area
+-- then. Nothing is damaged.
+abbrev pub IsFetchFault : Heap → Outside Space → SwizzleFault → Type 0
+IsFetchFault heap outside (AreaFull top wanted size) =
+    (top_of heap ≤ top) × (size ≡ heap.size) × (size < top + wanted) × ((pid : ℕ) × (a : IsAway heap outside pid) × (length a.words ≡ wanted))
+IsFetchFault heap outside (Vault Device) = Unit {0}
+IsFetchFault heap outside (Vault Output) = ⊥
+IsFetchFault heap outside (Vault (Full used wanted capacity)) = ⊥
+IsFetchFault heap outside (Vault (NoPages held wanted pages)) = ⊥
+IsFetchFault heap outside (Vault (Damaged at found wanted)) = ⊥

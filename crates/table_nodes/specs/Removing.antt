@@ -24,7 +24,7 @@ pub record IsTaken (ks : Keys) (old new : Place) (l : Tree (I ks)) (a : I ks) (r
 
 abbrev pub TakesLeast : Place → Place → ℕ → ℕ → Result Least SwizzleFault → Type 0
 TakesLeast old new at bound result = (ks : Keys) (l : Tree (I ks)) (a : I ks) (r : Tree (I ks)) → IsPlace old → IsTree ks old (Some at) (node l a r) → height (node l a r) < bound
-    → MatchResult result (IsTaken ks old new l a r) (IsFetchFault old.outside)
+    → MatchResult result (IsTaken ks old new l a r) (IsFetchFault old.heap old.outside)
 
 -- This tree stands now, from the place on that was answered, or nowhere where it is empty.
 pub record Leaves (ks : Keys) (old new : Place) (is : List (I ks)) (t : Tree (I ks)) (root : Option ℕ) : Type 0 where
@@ -36,12 +36,12 @@ pub record Leaves (ks : Keys) (old new : Place) (is : List (I ks)) (t : Tree (I 
 abbrev pub Merges : Place → Place → Option ℕ → Option ℕ → ℕ → Result (Option ℕ) SwizzleFault → Type 0
 Merges old new left right bound result = (ks : Keys) (at : ℕ) (l : Tree (I ks)) (a : I ks) (r : Tree (I ks)) → IsPlace old → IsTree ks old (Some at) (node l a r)
     → IsLinked old.heap left (root_of l) → IsLinked old.heap right (root_of r) → height (node l a r) ≤ bound
-    → MatchResult result (Leaves ks old new (items (node l a r)) (merge l r)) (IsFetchFault old.outside)
+    → MatchResult result (Leaves ks old new (items (node l a r)) (merge l r)) (IsFetchFault old.heap old.outside)
 
 -- The tree without the key stands now, or a reference's object couldn't be fetched.
 abbrev pub Removes : (ks : Keys) → Place → Place → Option ℕ → ℕ → KeyOf ks → Span → Result Removed SwizzleFault → Type 0
 Removes ks old new root bound key span result = (t : Tree (I ks)) → IsPlace old → IsTree ks old root t → IsWithin ks old.heap span (items t) → height t < bound
-    → MatchResult result (λ removed. Leaves ks old new (items t) (remove (seek (order_by ks) key) t) removed.root) (IsFetchFault old.outside)
+    → MatchResult result (λ removed. Leaves ks old new (items t) (remove (seek (order_by ks) key) t) removed.root) (IsFetchFault old.heap old.outside)
 
 -- It is told whether the tree had the key.
 abbrev pub IsGoneAt : (ks : Keys) → Place → Option ℕ → ℕ → KeyOf ks → Span → Result Removed SwizzleFault → Type 0

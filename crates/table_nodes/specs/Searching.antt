@@ -1,5 +1,5 @@
 -- What a search in a table's tree answers.
-use Rattle.std.specs.Prelude.{◌≡◌, ◌≢◌, ◌⊎◌, ℕ, ◌<◌, Option, Some, None, Result, IfSome, MatchResult, ◌+◌, OnOk}
+use Rattle.std.specs.Prelude.{◌≡◌, ◌≢◌, ◌⊎◌, ℕ, ◌<◌, Option, Some, None, Result, IfSome, MatchResult, ◌+◌, OnOk, List}
 use Rattle.std.specs.List.{AllByRecursion}
 use Rattle.std.specs.declared.cmp.Ordering.{Ordering}
 use Rattle.std.specs.declared.cmp.Ordering.TheVariants.{Less, Equal, Greater}
@@ -15,7 +15,8 @@ use Rattle.avl_trees.specs.Trees.{Tree, leaf, node, height, items, IsBalanced, l
 use Rattle.avl_trees.specs.Standing.{Item, Stands, IsRising, root_of, seek}
 use Rattle.node_rows.specs.Keys.{Keys, KeyOf, order_by}
 use Rattle.node_rows.specs.Nodes.{Seat, I, HasValue}
-use Rattle.table_nodes.specs.Nodes.{IsNode, IsNamed, IsLinked, IsFetchFault, rows_in}
+use Rattle.heap_places.specs.swizzle.Changes.{IsKnown}
+use Rattle.table_nodes.specs.Nodes.{IsNode, IsNamed, IsLinked, IsFetchFault, rows_in, seen}
 use Rattle.table_nodes.specs.Steps.{Place, rows_of}
 use Rattle.table_nodes.specs.Spans.{HasSought, IsSpan, IsWithin}
 use Rattle.table_nodes.specs.declared.keys.Key.{Key}
@@ -42,10 +43,14 @@ IsObject heap None None = Unit {0}
 IsObject heap (Some at) (Some n) = IsHeld heap at × (name_at heap at ≡ n)
 IsObject heap _ _ = ⊥
 
--- The object of a node's value is answered, or it couldn't be fetched.
+-- the values of these pairs are seen
+abbrev pub AreSeen : (ks : Keys) → Heap → Outside Space → List (I ks) → Type 0
+AreSeen ks heap outside is = AllByRecursion (λ a. IsKnown (seen heap outside) a.entry.value) is
+
+-- The object of a node's value is answered, or it couldn't be fetched; where it is seen, it isn't damaged.
 abbrev pub ReadsValue : Heap → Heap → Outside Space → ℕ → Result ℕ SwizzleFault → Type 0
 ReadsValue old new outside at result = (ks : Keys) (n : Reference) (row : Seat ks) → IsNamed old at n → rows_in ks old outside n row → row.entry.value ≢ Nil
-    → MatchResult result (λ value. name_at new value ≡ row.entry.value) (IsFetchFault outside)
+    → MatchResult result (λ value. name_at new value ≡ row.entry.value) (λ fault. IsKnown (seen old outside) row.entry.value → IsFetchFault old outside fault)
 
 -- at a node, the key was found, or it is sought on this side
 abbrev pub IsStep : (ks : Keys) → Heap → KeyOf ks → Tree (I ks) → I ks → Tree (I ks) → Step → Type 0
@@ -56,17 +61,18 @@ IsStep ks heap key x b y (Down way) =
 
 abbrev pub StepsAt : (ks : Keys) → Place → Heap → ℕ → KeyOf ks → Span → Result Step SwizzleFault → Type 0
 StepsAt ks old new at key span result = (x : Tree (I ks)) (b : I ks) (y : Tree (I ks)) → Stands (rows_of ks old) (node x b y) → IsNamed old.heap at b.name
-    → IsRising (order_by ks) (node x b y) → IsWithin ks old.heap span (items (node x b y)) → MatchResult result (IsStep ks new key x b y) (IsFetchFault old.outside)
+    → IsRising (order_by ks) (node x b y) → IsWithin ks old.heap span (items (node x b y)) → MatchResult result (IsStep ks new key x b y) (IsFetchFault old.heap old.outside)
 
 -- A node where a key was found has it; a side where it is sought is a node of the area, and the ends of the span there are keys of nodes.
 abbrev pub IsDown : Heap → ℕ → Key → Step → Type 0
 IsDown heap at key Found = HasSought heap at key
 IsDown heap at key (Down way) = IfSome way.side (IsNode heap) × IsSpan heap way.span
 
--- The value of a key in a tree that is lower than the bound is answered, none where the tree hasn't the key, or a reference's object couldn't be fetched.
+-- The value of a key in a tree that is lower than the bound is answered, none where the tree hasn't the key, or an object couldn't be fetched; where the
+-- values are seen, none is damaged.
 abbrev pub Finds : (ks : Keys) → Place → Heap → Option ℕ → ℕ → KeyOf ks → Result (Option ℕ) SwizzleFault → Type 0
 Finds ks old new root bound key result = (t : Tree (I ks)) → IsTree ks old root t → height t < bound
-    → MatchResult result (λ found. IsObject new found (value_of (lookup (seek (order_by ks) key) t))) (IsFetchFault old.outside)
+    → MatchResult result (λ found. IsObject new found (value_of (lookup (seek (order_by ks) key) t))) (λ fault. AreSeen ks old.heap old.outside (items t) → IsFetchFault old.heap old.outside fault)
 
 -- how many nodes the search for a key looks at
 unfoldable pub looks : {A : Type 0} → (A → Ordering) → Tree A → ℕ

@@ -46,4 +46,4 @@ ReadsInt heap outside at result = (n : Reference) (row : Seat by_ints) → IsNam
 -- The text of a node's key is answered, or it couldn't be fetched.
 abbrev pub ReadsText : Heap → Heap → Outside Space → ℕ → Result ℕ SwizzleFault → Type 0
 ReadsText old new outside at result = (n : Reference) (row : Seat by_texts) → IsNamed old at n → rows_in by_texts old outside n row
-    → MatchResult result (λ text. text_at new text ≡ row.entry.key) (IsFetchFault outside)
+    → MatchResult result (λ text. text_at new text ≡ row.entry.key) (IsFetchFault old outside)

@@ -109,7 +109,7 @@ pub record IsWithin (ks : Keys) (heap : Heap) (span : Span) (is : List (I ks)) :
 -- The key of a node that stands is answered, or it couldn't be fetched.
 abbrev pub ReadsKey : (ks : Keys) → Place → Heap → ℕ → Result Key SwizzleFault → Type 0
 ReadsKey ks old new at result = (n : Reference) (row : Seat ks) → IsNamed old.heap at n → rows_of ks old n row
-    → MatchResult result (λ own. IsKeyOf ks new own row.entry.key) (IsFetchFault old.outside)
+    → MatchResult result (λ own. IsKeyOf ks new own row.entry.key) (IsFetchFault old.heap old.outside)
 
 -- at a node, how the key stands to that of the node, and within what the keys of its sides lie
 pub record IsPlaced (ks : Keys) (heap : Heap) (key : KeyOf ks) (x : Tree (I ks)) (b : I ks) (y : Tree (I ks)) (placed : Placed) : Type 0 where
@@ -119,9 +119,9 @@ pub record IsPlaced (ks : Keys) (heap : Heap) (key : KeyOf ks) (x : Tree (I ks))
 
 abbrev pub PlacesAt : (ks : Keys) → Place → Heap → ℕ → KeyOf ks → Span → Result Placed SwizzleFault → Type 0
 PlacesAt ks old new at key span result = (x : Tree (I ks)) (b : I ks) (y : Tree (I ks)) → Stands (rows_of ks old) (node x b y) → IsNamed old.heap at b.name
-    → IsRising (order_by ks) (node x b y) → IsWithin ks old.heap span (items (node x b y)) → MatchResult result (IsPlaced ks new key x b y) (IsFetchFault old.outside)
+    → IsRising (order_by ks) (node x b y) → IsWithin ks old.heap span (items (node x b y)) → MatchResult result (IsPlaced ks new key x b y) (IsFetchFault old.heap old.outside)
 
 -- At a node whose key is below the higher end of a span, the span on its left side is answered.
 abbrev pub NarrowsAt : (ks : Keys) → Place → Heap → ℕ → Span → Result Span SwizzleFault → Type 0
 NarrowsAt ks old new at span result = (x : Tree (I ks)) (b : I ks) (y : Tree (I ks)) → Stands (rows_of ks old) (node x b y) → IsNamed old.heap at b.name
-    → IsRising (order_by ks) (node x b y) → IsWithin ks old.heap span (items (node x b y)) → MatchResult result (λ narrow. IsWithin ks new narrow (items x)) (IsFetchFault old.outside)
+    → IsRising (order_by ks) (node x b y) → IsWithin ks old.heap span (items (node x b y)) → MatchResult result (λ narrow. IsWithin ks new narrow (items x)) (IsFetchFault old.heap old.outside)

@@ -39,14 +39,14 @@ IsRightWing heap wing (node x b y) = AreEnds heap wing.sides (node x b y) × (he
 -- The sides of a node that stands are answered, or they couldn't be fetched.
 abbrev pub OpensEnds : Place → Heap → ℕ → Result Sides SwizzleFault → Type 0
 OpensEnds old new at result = (ks : Keys) (x : Tree (I ks)) (b : I ks) (y : Tree (I ks)) → Stands (rows_of ks old) (node x b y) → IsNamed old.heap at b.name
-    → MatchResult result (λ sides. AreEnds new (Some sides) (node x b y)) (IsFetchFault old.outside)
+    → MatchResult result (λ sides. AreEnds new (Some sides) (node x b y)) (IsFetchFault old.heap old.outside)
 
 -- Of two sides, those of the second one are answered where it is higher than the first.
 abbrev pub OpensInner : Place → Heap → Option ℕ → Option ℕ → Result (Option Sides) SwizzleFault → Type 0
 OpensInner old new outer inner result = (ks : Keys) (x y : Tree (I ks)) → Stands (rows_of ks old) x → Stands (rows_of ks old) y → IsLinked old.heap outer (root_of x) → IsLinked old.heap inner (root_of y)
-    → MatchResult result (λ ends. height x < height y → AreEnds new ends y) (IsFetchFault old.outside)
+    → MatchResult result (λ ends. height x < height y → AreEnds new ends y) (IsFetchFault old.heap old.outside)
 
 -- Of two sides that are lower than the node between them, what a turn looks at where the second one goes up, if it is the higher one.
 abbrev pub OpensWing : ((ks : Keys) → Heap → Wing → Tree (I ks) → Type 0) → Place → Heap → Option ℕ → Option ℕ → ℕ → Result Ready SwizzleFault → Type 0
 OpensWing is old new low high bound result = (ks : Keys) (l r : Tree (I ks)) → Stands (rows_of ks old) l → Stands (rows_of ks old) r → IsLinked old.heap low (root_of l) → IsLinked old.heap high (root_of r)
-    → height l < bound → height r < bound → MatchResult result (λ ready. (height l < height r → is ks new ready.wing r) × (height l < ready.bound)) (IsFetchFault old.outside)
+    → height l < bound → height r < bound → MatchResult result (λ ready. (height l < height r → is ks new ready.wing r) × (height l < ready.bound)) (IsFetchFault old.heap old.outside)

@@ -1,11 +1,11 @@
 ghost use Rattle.std.specs.Prelude.{◌≡◌, ◌≤◌, ◌*◌, Some, None, OnOk, OnErr, IfOk, IfSome, IfErr};
-ghost use Rattle.heap_places.specs.ps_outside.Outside.{SameContents};
+ghost use Rattle.heap_places.specs.obj_layout.Storing.{SameNumbers};
 ghost use Rattle.heap_places.specs.swizzle.Heap.{IsHeld};
 ghost use Rattle.heap_places.specs.swizzle.Joint.{name_at};
-ghost use Rattle.heap_places.specs.swizzle.Touch.{Keeps};
+ghost use Rattle.heap_places.specs.swizzle.Reading.{LeavesOutside};
 ghost use Rattle.table_nodes.specs.Bringing.{Brings, NoneCome};
 ghost use Rattle.table_nodes.specs.Entering.{EntersAt, IsCountedAt};
-ghost use Rattle.table_nodes.specs.Nodes.{IsNode};
+ghost use Rattle.table_nodes.specs.Nodes.{IsNode, Grows};
 ghost use Rattle.table_nodes.specs.Sought.{IsKeyHeld, kind_of, key_in};
 ghost use Rattle.table_nodes.specs.Spans.{IsSpan};
 ghost use Rattle.table_nodes.specs.Sparing.{Spares};
@@ -147,12 +147,14 @@ pub fn enter<V: Vault>(
     ensures known { IfOk result (λ entered. IsWingHeld sw.new entered.wing) }
     ensures held { OnOk result (Holds sw.old sw.new) }
     ensures spares { OnOk result (Spares sw.old sw.new (V.outside vault.old) (V.outside vault.new)) }
-    ensures still { OnErr result (Keeps sw.old sw.new) }
+    ensures still { OnErr result (Grows sw.old sw.new (V.outside vault.old) (V.outside vault.new)) }
     ensures brings { Brings sw.old sw.new (3 * bound) }
-    ensures contents { OnOk result (SameContents (V.outside vault.old) (V.outside vault.new)) }
+    ensures leaves { OnOk result (LeavesOutside (V.outside vault.old) (V.outside vault.new)) }
     ensures fault { IfErr result (IsChangeFault (V.outside vault.old) (V.outside vault.new) sw.new) }
+    ensures numbers { SameNumbers V.used_words V.directory_at V.most_words V.access vault.old vault.new }
     ensures alive { OnOk result (V.alive vault.new) }
 {
+    sw.sound();
     let Some(at) = root else {
         return match make_node(sw, &*vault, key, value) {
             Ok(root) => Ok(Entered {

@@ -1,4 +1,5 @@
 ghost use Rattle.std.specs.Prelude.{◌≡◌, ◌+◌, ◌-◌, ◌≤◌, OnOk, OnErr, IfOk, IfSome, IfErr};
+ghost use Rattle.heap_places.specs.obj_layout.Storing.{SameNumbers};
 ghost use Rattle.heap_places.specs.swizzle.Touch.{Keeps};
 ghost use Rattle.table_nodes.specs.Bringing.{Brings};
 ghost use Rattle.table_nodes.specs.Nodes.{IsNode, Grows};
@@ -46,9 +47,10 @@ fn go_on<V: Vault>(
     ensures side { IfOk result (λ turn. IfSome turn.side (IsNode sw.new)) }
     ensures grows { OnOk result (Grows sw.old sw.new (V.outside vault.old) (V.outside vault.new)) }
     ensures keeps { OnOk result (Keeps sw.old sw.new) }
-    ensures still { OnErr result (Keeps sw.old sw.new) }
+    ensures still { OnErr result (Grows sw.old sw.new (V.outside vault.old) (V.outside vault.new)) }
     ensures brings { Brings sw.old sw.new 1 }
     ensures fault { IfErr result (IsNodeFault (V.outside vault.old) (V.outside vault.new) sw.new) }
+    ensures numbers { SameNumbers V.used_words V.directory_at V.most_words V.access vault.old vault.new }
     ensures alive { OnOk result (V.alive vault.new) }
 {
     let placed = match place_key(sw, vault, at, key, span) {
@@ -92,9 +94,10 @@ pub fn next<V: Vault>(
     ensures node { IfOk result (λ found. IfSome found (IsNode sw.new)) }
     ensures grows { OnOk result (Grows sw.old sw.new (V.outside vault.old) (V.outside vault.new)) }
     ensures keeps { OnOk result (Keeps sw.old sw.new) }
-    ensures still { OnErr result (Keeps sw.old sw.new) }
+    ensures still { OnErr result (Grows sw.old sw.new (V.outside vault.old) (V.outside vault.new)) }
     ensures brings { Brings sw.old sw.new (bound - 1) }
     ensures fault { IfErr result (IsNodeFault (V.outside vault.old) (V.outside vault.new) sw.new) }
+    ensures numbers { SameNumbers V.used_words V.directory_at V.most_words V.access vault.old vault.new }
     ensures alive { OnOk result (V.alive vault.new) }
 {
     sw.sound();
@@ -139,9 +142,10 @@ fn go_first<V: Vault>(
     ensures span { IfOk result (λ way. IsSpan sw.new way.span) }
     ensures grows { OnOk result (Grows sw.old sw.new (V.outside vault.old) (V.outside vault.new)) }
     ensures keeps { OnOk result (Keeps sw.old sw.new) }
-    ensures still { OnErr result (Keeps sw.old sw.new) }
+    ensures still { OnErr result (Grows sw.old sw.new (V.outside vault.old) (V.outside vault.new)) }
     ensures brings { Brings sw.old sw.new 1 }
     ensures fault { IfErr result (IsNodeFault (V.outside vault.old) (V.outside vault.new) sw.new) }
+    ensures numbers { SameNumbers V.used_words V.directory_at V.most_words V.access vault.old vault.new }
     ensures alive { OnOk result (V.alive vault.new) }
 {
     let span = match narrow_left(sw, vault, at, keys, span) {
@@ -169,9 +173,10 @@ pub fn first<V: Vault>(
     ensures node { IfOk result (λ found. IfSome found (IsNode sw.new)) }
     ensures grows { OnOk result (Grows sw.old sw.new (V.outside vault.old) (V.outside vault.new)) }
     ensures keeps { OnOk result (Keeps sw.old sw.new) }
-    ensures still { OnErr result (Keeps sw.old sw.new) }
+    ensures still { OnErr result (Grows sw.old sw.new (V.outside vault.old) (V.outside vault.new)) }
     ensures brings { Brings sw.old sw.new (bound - 1) }
     ensures fault { IfErr result (IsNodeFault (V.outside vault.old) (V.outside vault.new) sw.new) }
+    ensures numbers { SameNumbers V.used_words V.directory_at V.most_words V.access vault.old vault.new }
     ensures alive { OnOk result (V.alive vault.new) }
 {
     sw.sound();

@@ -1,4 +1,5 @@
 ghost use Rattle.std.specs.Prelude.{◌≡◌, Some, OnOk, OnErr, IfOk, MatchResult, IfErr};
+ghost use Rattle.heap_places.specs.obj_layout.Storing.{SameNumbers};
 ghost use Rattle.heap_places.specs.Shapes.{slot_of};
 ghost use Rattle.heap_places.specs.Words.{int_in};
 ghost use Rattle.heap_places.specs.swizzle.Heap.{num_at};
@@ -34,6 +35,7 @@ pub enum KeyKind {
 }
 
 /// The kind of a key.
+#[inline(always)]
 pub fn kind_of_key(key: Key) -> KeyKind
     ensures { keys_of result ≡ kind_of key }
 {
@@ -44,6 +46,7 @@ pub fn kind_of_key(key: Key) -> KeyKind
 }
 
 /// The int key of a node.
+#[inline(always)]
 pub fn int_key<V: Vault>(sw: &Swizzle, vault: &V, at: u32) -> Result<i32, SwizzleFault>
     requires node { IsNode sw.now at }
     ensures read { ReadsInt sw.now (V.outside vault.now) at result }
@@ -68,9 +71,10 @@ pub fn text_key<V: Vault>(sw: &mut Swizzle, vault: &mut V, at: u32) -> Result<u3
     ensures read { ReadsText sw.old sw.new (V.outside vault.old) at result }
     ensures grows { OnOk result (Grows sw.old sw.new (V.outside vault.old) (V.outside vault.new)) }
     ensures keeps { OnOk result (Keeps sw.old sw.new) }
-    ensures still { OnErr result (Keeps sw.old sw.new) }
+    ensures still { OnErr result (Grows sw.old sw.new (V.outside vault.old) (V.outside vault.new)) }
     ensures brings { MatchResult result (λ answer. Brings sw.old sw.new 0) (λ fault. Brings sw.old sw.new 1) }
     ensures fault { IfErr result (IsNodeFault (V.outside vault.old) (V.outside vault.new) sw.new) }
+    ensures numbers { SameNumbers V.used_words V.directory_at V.most_words V.access vault.old vault.new }
     ensures alive { OnOk result (V.alive vault.new) }
 {
     sw.sound();

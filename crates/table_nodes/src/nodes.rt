@@ -1,4 +1,5 @@
 ghost use Rattle.std.specs.Prelude.{◌≡◌, ◌⊎◌, ℕ, ◌<◌, ◌≤◌, true, false, None, Some, IfOk, IfErr, IfSome, OnOk, OnErr};
+ghost use Rattle.heap_places.specs.obj_layout.Storing.{SameNumbers};
 ghost use Rattle.heap_places.specs.obj_layout.declared.reference.Reference.{Reference as Name};
 ghost use Rattle.heap_places.specs.swizzle.Heap.{IsHeld, IsListed, num_at};
 ghost use Rattle.heap_places.specs.swizzle.Joint.{name_at, shown_at};
@@ -21,6 +22,7 @@ use heap_places::swizzle::fault::SwizzleFault;
 use heap_places::swizzle::swizzle::Swizzle;
 
 /// Whether an object has a node's shape.
+#[inline(always)]
 pub fn is_node(sw: &Swizzle, at: u32) -> bool
     requires held { IsHeld sw.now at }
     ensures yes { result ≡ true → IsNode sw.now at }
@@ -30,6 +32,7 @@ pub fn is_node(sw: &Swizzle, at: u32) -> bool
 }
 
 /// How high a side is.
+#[inline(always)]
 pub fn height<V: Vault>(sw: &Swizzle, vault: &V, side: Option<u32>) -> u64
     requires { IfSome side (IsNode sw.now) }
     ensures none { side ≡ None → result ≡ 0 }
@@ -45,6 +48,7 @@ pub fn height<V: Vault>(sw: &Swizzle, vault: &V, side: Option<u32>) -> u64
 }
 
 /// A side of a node: 0 is the left one. It is fetched where it isn't in the area.
+#[inline(always)]
 pub fn side<V: Vault>(
     sw: &mut Swizzle,
     vault: &mut V,
@@ -56,12 +60,13 @@ pub fn side<V: Vault>(
     requires slot { slot < 2 }
     ensures held { IfOk result (λ side. IfSome side (IsNode sw.new)) }
     ensures side { (ks : Keys) (n : Name) (row : Seat ks) → IsNamed sw.old at n → rows_in ks sw.old (V.outside vault.old) n row → IfOk result (λ side. IsLinked sw.new side (side_of slot row)) }
-    ensures sound { (ks : Keys) (n : Name) (row : Seat ks) → IsNamed sw.old at n → rows_in ks sw.old (V.outside vault.old) n row → IsSide ks sw.old (V.outside vault.old) (side_of slot row) → IfErr result (IsFetchFault (V.outside vault.old)) }
+    ensures sound { (ks : Keys) (n : Name) (row : Seat ks) → IsNamed sw.old at n → rows_in ks sw.old (V.outside vault.old) n row → IsSide ks sw.old (V.outside vault.old) (side_of slot row) → IfErr result (IsFetchFault sw.old (V.outside vault.old)) }
     ensures grows { OnOk result (Grows sw.old sw.new (V.outside vault.old) (V.outside vault.new)) }
     ensures keeps { OnOk result (Keeps sw.old sw.new) }
-    ensures still { OnErr result (Keeps sw.old sw.new) }
+    ensures still { OnErr result (Grows sw.old sw.new (V.outside vault.old) (V.outside vault.new)) }
     ensures brings { Brings sw.old sw.new 1 }
     ensures fault { IfErr result (IsNodeFault (V.outside vault.old) (V.outside vault.new) sw.new) }
+    ensures numbers { SameNumbers V.used_words V.directory_at V.most_words V.access vault.old vault.new }
     ensures alive { OnOk result (V.alive vault.new) }
 {
     sw.sound();
@@ -91,9 +96,10 @@ pub fn value<V: Vault>(sw: &mut Swizzle, vault: &mut V, at: u32) -> Result<u32, 
     ensures read { ReadsValue sw.old sw.new (V.outside vault.old) at result }
     ensures grows { OnOk result (Grows sw.old sw.new (V.outside vault.old) (V.outside vault.new)) }
     ensures keeps { OnOk result (Keeps sw.old sw.new) }
-    ensures still { OnErr result (Keeps sw.old sw.new) }
+    ensures still { OnErr result (Grows sw.old sw.new (V.outside vault.old) (V.outside vault.new)) }
     ensures brings { Brings sw.old sw.new 1 }
     ensures fault { IfErr result (IsNodeFault (V.outside vault.old) (V.outside vault.new) sw.new) }
+    ensures numbers { SameNumbers V.used_words V.directory_at V.most_words V.access vault.old vault.new }
     ensures alive { OnOk result (V.alive vault.new) }
 {
     sw.sound();

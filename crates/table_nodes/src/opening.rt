@@ -1,4 +1,5 @@
 ghost use Rattle.std.specs.Prelude.{OnOk, OnErr, IfOk, IfSome, IfErr};
+ghost use Rattle.heap_places.specs.obj_layout.Storing.{SameNumbers};
 ghost use Rattle.heap_places.specs.swizzle.Touch.{Keeps};
 ghost use Rattle.table_nodes.specs.Bringing.{Brings};
 ghost use Rattle.table_nodes.specs.Entering.{OpensAt};
@@ -44,9 +45,10 @@ pub fn open_node<V: Vault>(
     ensures right { IfOk result (λ opened. IfSome opened.right (IsNode sw.new)) }
     ensures grows { OnOk result (Grows sw.old sw.new (V.outside vault.old) (V.outside vault.new)) }
     ensures keeps { OnOk result (Keeps sw.old sw.new) }
-    ensures still { OnErr result (Keeps sw.old sw.new) }
+    ensures still { OnErr result (Grows sw.old sw.new (V.outside vault.old) (V.outside vault.new)) }
     ensures brings { Brings sw.old sw.new 2 }
     ensures fault { IfErr result (IsNodeFault (V.outside vault.old) (V.outside vault.new) sw.new) }
+    ensures numbers { SameNumbers V.used_words V.directory_at V.most_words V.access vault.old vault.new }
     ensures alive { OnOk result (V.alive vault.new) }
 {
     let placed = match place_key(sw, vault, at, key, span) {

@@ -1,5 +1,6 @@
 ghost use Rattle.std.specs.Prelude.{◌≡◌, ◌≢◌, OnOk, OnErr, IfOk, IfErr, IfSome, MatchResult};
 ghost use Rattle.std.specs.declared.cmp.Ordering.TheVariants.{Less, Equal, Greater};
+ghost use Rattle.heap_places.specs.obj_layout.Storing.{SameNumbers};
 ghost use Rattle.heap_places.specs.swizzle.Touch.{Keeps};
 ghost use Rattle.table_nodes.specs.Bringing.{Brings};
 ghost use Rattle.table_nodes.specs.Faults.{IsNodeFault};
@@ -19,6 +20,7 @@ use std::cmp::Ordering;
 use text_ops::operators::compare;
 
 // The key of a node, of this kind. Its text is fetched where it isn't in the area.
+#[inline(always)]
 fn key_of<V: Vault>(
     sw: &mut Swizzle,
     vault: &mut V,
@@ -31,9 +33,10 @@ fn key_of<V: Vault>(
     ensures has { IfOk result (HasKey sw.new at) }
     ensures grows { OnOk result (Grows sw.old sw.new (V.outside vault.old) (V.outside vault.new)) }
     ensures keeps { OnOk result (Keeps sw.old sw.new) }
-    ensures still { OnErr result (Keeps sw.old sw.new) }
+    ensures still { OnErr result (Grows sw.old sw.new (V.outside vault.old) (V.outside vault.new)) }
     ensures brings { MatchResult result (λ answer. Brings sw.old sw.new 0) (λ fault. Brings sw.old sw.new 1) }
     ensures fault { IfErr result (IsNodeFault (V.outside vault.old) (V.outside vault.new) sw.new) }
+    ensures numbers { SameNumbers V.used_words V.directory_at V.most_words V.access vault.old vault.new }
     ensures alive { OnOk result (V.alive vault.new) }
 {
     sw.sound();
@@ -50,7 +53,7 @@ fn key_of<V: Vault>(
 }
 
 // How two keys of one kind stand to each other.
-#[inline]
+#[inline(always)]
 fn compare_keys(sw: &Swizzle, key: Key, other: Key) -> Ordering
     requires key { IsKeyHeld sw.now key }
     requires other { IsKeyHeld sw.now other }
@@ -76,7 +79,7 @@ fn number_of(sw: &Swizzle, key: Key) -> u64
 }
 
 // The key of a node is to be below that of a node above it, or above it, as `wanted` says.
-#[inline]
+#[inline(always)]
 fn check_side(
     sw: &Swizzle,
     at: u32,
@@ -99,7 +102,7 @@ fn check_side(
 
 // Whether a node's key lies in the span, on the side that the search doesn't take: below the higher end, where the sought key is below it, else above the
 // lower end. On the other side it does, since the sought key does.
-#[inline]
+#[inline(always)]
 fn check_span(
     sw: &Swizzle,
     at: u32,
@@ -120,7 +123,7 @@ fn check_span(
 }
 
 // The span on the side that the search takes.
-#[inline]
+#[inline(always)]
 fn narrowed(order: Ordering, own: Key, span: Span) -> Span
     ensures { result ≡ narrow order own span }
 {
@@ -156,9 +159,10 @@ pub fn narrow_left<V: Vault>(
     ensures span { IfOk result (IsSpan sw.new) }
     ensures grows { OnOk result (Grows sw.old sw.new (V.outside vault.old) (V.outside vault.new)) }
     ensures keeps { OnOk result (Keeps sw.old sw.new) }
-    ensures still { OnErr result (Keeps sw.old sw.new) }
+    ensures still { OnErr result (Grows sw.old sw.new (V.outside vault.old) (V.outside vault.new)) }
     ensures brings { MatchResult result (λ answer. Brings sw.old sw.new 0) (λ fault. Brings sw.old sw.new 1) }
     ensures fault { IfErr result (IsNodeFault (V.outside vault.old) (V.outside vault.new) sw.new) }
+    ensures numbers { SameNumbers V.used_words V.directory_at V.most_words V.access vault.old vault.new }
     ensures alive { OnOk result (V.alive vault.new) }
 {
     let own = match key_of(sw, vault, at, keys) {
@@ -180,6 +184,7 @@ pub struct Placed {
 
 /// How a sought key, which lies in a span, stands to that of a node. Where the node's key doesn't lie in it, the node is damaged. Its text is fetched
 /// where it isn't in the area.
+#[inline(always)]
 pub fn place_key<V: Vault>(
     sw: &mut Swizzle,
     vault: &mut V,
@@ -196,9 +201,10 @@ pub fn place_key<V: Vault>(
     ensures equal { IfOk result (λ placed. placed.order ≡ Equal → HasSought sw.new at key) }
     ensures grows { OnOk result (Grows sw.old sw.new (V.outside vault.old) (V.outside vault.new)) }
     ensures keeps { OnOk result (Keeps sw.old sw.new) }
-    ensures still { OnErr result (Keeps sw.old sw.new) }
+    ensures still { OnErr result (Grows sw.old sw.new (V.outside vault.old) (V.outside vault.new)) }
     ensures brings { MatchResult result (λ answer. Brings sw.old sw.new 0) (λ fault. Brings sw.old sw.new 1) }
     ensures fault { IfErr result (IsNodeFault (V.outside vault.old) (V.outside vault.new) sw.new) }
+    ensures numbers { SameNumbers V.used_words V.directory_at V.most_words V.access vault.old vault.new }
     ensures alive { OnOk result (V.alive vault.new) }
 {
     let own = match key_of(sw, vault, at, kind_of_key(key)) {

@@ -1,8 +1,8 @@
 ghost use Rattle.std.specs.Prelude.{◌≤◌, ◌+◌, ◌*◌, OnOk, OnErr, IfOk, IfSome, IfErr};
-ghost use Rattle.heap_places.specs.ps_outside.Outside.{SameContents};
-ghost use Rattle.heap_places.specs.swizzle.Touch.{Keeps};
+ghost use Rattle.heap_places.specs.obj_layout.Storing.{SameNumbers};
+ghost use Rattle.heap_places.specs.swizzle.Reading.{LeavesOutside};
 ghost use Rattle.table_nodes.specs.Bringing.{Brings};
-ghost use Rattle.table_nodes.specs.Nodes.{IsNode};
+ghost use Rattle.table_nodes.specs.Nodes.{IsNode, Grows};
 ghost use Rattle.table_nodes.specs.Removing.{IsGoneAt, Merges, Removes, TakesLeast};
 ghost use Rattle.table_nodes.specs.Sought.{IsKeyHeld, kind_of, key_in};
 ghost use Rattle.table_nodes.specs.Spans.{IsSpan};
@@ -44,12 +44,14 @@ fn take_least<V: Vault>(
     ensures rest { IfOk result (λ found. IfSome found.rest (IsNode sw.new)) }
     ensures held { OnOk result (Holds sw.old sw.new) }
     ensures spares { OnOk result (Spares sw.old sw.new (V.outside vault.old) (V.outside vault.new)) }
-    ensures still { OnErr result (Keeps sw.old sw.new) }
+    ensures still { OnErr result (Grows sw.old sw.new (V.outside vault.old) (V.outside vault.new)) }
     ensures brings { Brings sw.old sw.new (3 * bound) }
-    ensures contents { OnOk result (SameContents (V.outside vault.old) (V.outside vault.new)) }
+    ensures leaves { OnOk result (LeavesOutside (V.outside vault.old) (V.outside vault.new)) }
     ensures fault { IfErr result (IsNodeFault (V.outside vault.old) (V.outside vault.new) sw.new) }
+    ensures numbers { SameNumbers V.used_words V.directory_at V.most_words V.access vault.old vault.new }
     ensures alive { OnOk result (V.alive vault.new) }
 {
+    sw.sound();
     let height = height(sw, &*vault, Some(at));
     if height == 0 || height >= bound {
         return Err(damaged(sw, at, height, bound));
@@ -96,10 +98,11 @@ fn merge_sides<V: Vault>(
     ensures root { IfOk result (λ root. IfSome root (IsNode sw.new)) }
     ensures held { OnOk result (Holds sw.old sw.new) }
     ensures spares { OnOk result (Spares sw.old sw.new (V.outside vault.old) (V.outside vault.new)) }
-    ensures still { OnErr result (Keeps sw.old sw.new) }
+    ensures still { OnErr result (Grows sw.old sw.new (V.outside vault.old) (V.outside vault.new)) }
     ensures brings { Brings sw.old sw.new (3 * bound + 1) }
-    ensures contents { OnOk result (SameContents (V.outside vault.old) (V.outside vault.new)) }
+    ensures leaves { OnOk result (LeavesOutside (V.outside vault.old) (V.outside vault.new)) }
     ensures fault { IfErr result (IsNodeFault (V.outside vault.old) (V.outside vault.new) sw.new) }
+    ensures numbers { SameNumbers V.used_words V.directory_at V.most_words V.access vault.old vault.new }
     ensures alive { OnOk result (V.alive vault.new) }
 {
     let Some(above) = right else {
@@ -148,12 +151,14 @@ pub fn remove<V: Vault>(
     ensures root { IfOk result (λ removed. IfSome removed.root (IsNode sw.new)) }
     ensures held { OnOk result (Holds sw.old sw.new) }
     ensures spares { OnOk result (Spares sw.old sw.new (V.outside vault.old) (V.outside vault.new)) }
-    ensures still { OnErr result (Keeps sw.old sw.new) }
+    ensures still { OnErr result (Grows sw.old sw.new (V.outside vault.old) (V.outside vault.new)) }
     ensures brings { Brings sw.old sw.new (3 * bound) }
-    ensures contents { OnOk result (SameContents (V.outside vault.old) (V.outside vault.new)) }
+    ensures leaves { OnOk result (LeavesOutside (V.outside vault.old) (V.outside vault.new)) }
     ensures fault { IfErr result (IsNodeFault (V.outside vault.old) (V.outside vault.new) sw.new) }
+    ensures numbers { SameNumbers V.used_words V.directory_at V.most_words V.access vault.old vault.new }
     ensures alive { OnOk result (V.alive vault.new) }
 {
+    sw.sound();
     let Some(at) = root else {
         return Ok(Removed {
             root: None,

@@ -1,14 +1,5 @@
-pub mod Seen
 pub mod Spelled
 pub mod Used
 pub mod Volumes
-mod Cutting
-mod Trees
-pub mod Renamed
-pub mod FitSame
-pub mod SameHeaps
-mod Worked
-mod ProcedureRows
-mod TableRows
-mod SharedRows
-mod UnfitRows
+pub mod Images
+pub use Rattle.space_meaning.proofs as of_space_meaning

@@ -1,9 +1,7 @@
 -- The space of what is held: the words whose spelling stands at the start of the held bytes.
-use Rattle.std.proofs.Common.{◌≡◌, ℕ, zero, suc, ◌*◌, ◌%◌, ◌^◌, ◌<◌, ◌≤◌, Bool, true, false, nat_lt, refl, sym, ◌∙◌, ap, arith, Some}
-use Rattle.std.proofs.Common.{List, [], ◌∷◌, ◌++◌, length, length-append, drop, slice_index}
-use Rattle.std.specs.Prelude.{if◌then◌else◌}
+use Rattle.std.proofs.Common.{◌≡◌, ℕ, ◌*◌, ◌%◌, ◌^◌, ◌<◌, sym, ◌∙◌, ap, arith, Some}
+use Rattle.std.proofs.Common.{List, ◌++◌, length, length-append, drop, slice_index}
 use Rattle.std.specs.Option.{option_map}
-use Rattle.std.proofs.lemmas.Bool.{ltb-true, false≢true}
 use Rattle.std.proofs.lemmas.List.{get_or_append_left}
 use Rattle.std.proofs.lemmas.List.FromFn.{length-map-range_with_len, get_or-map-range_with_len}
 use Rattle.std.proofs.lemmas.Grind.{same_number_lists}
@@ -15,7 +13,8 @@ use Rattle.ps_volumes.specs.volume_parts.Holding.{Held}
 use Rattle.ps_volumes.specs.paged_volume.Standing.{held_in}
 use Rattle.ps_volumes.specs.volume_parts.declared.note.Note.{Note}
 use Rattle.ps_volumes.specs.obj_store.Spaces.{word_at, words_of, space_of}
-use Rattle.volume_meaning.specs.Space.{holding, spaced, space_in}
+use Rattle.volume_meaning.specs.Space.{holding, space_in}
+use Rattle.space_meaning.specs.Space.{spaced}
 
 -- the word with an index below the spelled ones is one of them
 spelled-at : (ws behind : List ℕ) → AreWords ws → (k : ℕ) → k < length ws → word_at (bytes_of ws ++ behind) k ≡ slice_index ws k
@@ -44,17 +43,3 @@ unfolding space_in
 space-held image note ws behind are used held =
     ap (option_map (λ (h : Held). space_of h.note.used h)) held
     ∙ ap (λ (words : List ℕ). Some (spaced words note.directory)) (ap (λ (n : ℕ). words_of n (bytes_of ws ++ behind)) used ∙ spelled-front ws behind are)
-
--- each of these is below a limit, by a test of each
-abbrev pub all_below : ℕ → List ℕ → Bool
-all_below limit [] = true
-all_below limit (n ∷ ns) = if nat_lt n limit then all_below limit ns else false
-
-both-true : (a b : Bool) → (if a then b else false) ≡ true → (a ≡ true) × (b ≡ true)
-both-true true b is = (refl, is)
-both-true false b is = absurd (false≢true is)
-
-pub each-below : (limit : ℕ) (ns : List ℕ) → 1 ≤ limit → all_below limit ns ≡ true → (k : ℕ) → slice_index ns k < limit
-each-below limit [] some is k = omega arith
-each-below limit (n ∷ ns) some is zero = ltb-true n limit (both-true (nat_lt n limit) (all_below limit ns) is).0
-each-below limit (n ∷ ns) some is (suc k) = each-below limit ns some (both-true (nat_lt n limit) (all_below limit ns) is).1 k

@@ -1,14 +1,9 @@
 -- Which images stand for which heaps: only those in which a volume is found; and a new volume for the heaps without a database, and no other.
 use Rattle.std.proofs.Common.{◌≡◌, ⊎_elim, ℕ, ◌≤◌, Bool, List, [], ◌∷◌, length, refl, sym, ◌∙◌, ap, subst, arith, Option, Some, None}
-use Rattle.std.specs.List.{AllByRecursion}
 use Rattle.std.specs.Option.{option_map}
 use Rattle.std.proofs.lemmas.Option.{same_Some}
 use Rattle.ps_port.specs.ps_outside.Outside.{Outside, After}
-use Rattle.ps_volumes.specs.obj_layout.declared.reference.Reference.{Reference}
-use Rattle.ps_volumes.specs.obj_layout.declared.reference.Reference.TheVariants.{Pid}
-use Rattle.ps_volumes.specs.obj_layout.Objects.{Placed, HoldsObjects}
 use Rattle.ps_volumes.specs.obj_layout.Stored.{Space}
-use Rattle.ps_volumes.proofs.of_obj_layout.StoredLaws.{HasObject-within}
 use Rattle.ps_volumes.specs.volume_parts.Layout.{gate}
 use Rattle.ps_volumes.specs.volume_parts.Holding.{Held}
 use Rattle.ps_volumes.specs.paged_volume.Found.{Found, a_volume, no_volume, damaged, found_in}
@@ -16,17 +11,13 @@ use Rattle.ps_volumes.specs.paged_volume.Making.{IsNew}
 use Rattle.ps_volumes.specs.volume_parts.Making.{empty_held}
 use Rattle.ps_volumes.specs.paged_volume.Standing.{held_in, held_of}
 use Rattle.ps_volumes.proofs.of_paged_volume.New.{found_new}
-use Rattle.heap_meaning.specs.Paired.{paired}
-use Rattle.heap_fit.specs.ps_heap.Databases.{Database, every_root}
 use Rattle.heap_fit.specs.ps_heap.Held.{StoredHeap}
-use Rattle.heap_fit.specs.database_meaning.Same.{IsInHeap}
-use Rattle.heap_fit.specs.ps_heap.reaching.Reaching.{IsIn, at_start, by_step}
-use Rattle.heap_fit.specs.Heaps.{IsFitDatabase, AreNamedOnce, IsFitHeap}
 use Rattle.ps_volumes.specs.obj_store.Spaces.{word_at, words_of, space_of, space_found}
 use Rattle.ps_volumes.specs.Attaching.{KeepsVolume}
 use Rattle.ps_volumes.specs.volume_next.Moving.{HoldsSame, IsKeptIn}
-use Rattle.volume_meaning.specs.Space.{space_in, HoldSame, SeenIn}
-use Rattle.volume_meaning.specs.Stands.{IsDirectoryOf, SpaceStands, Stands, StandsSince}
+use Rattle.volume_meaning.specs.Space.{space_in, HoldSame}
+use Rattle.volume_meaning.specs.Stands.{Stands, StandsSince}
+use Rattle.space_meaning.proofs.Without.{stands-without, none-without}
 use Rattle.volume_meaning.proofs.Used.{held-from, space-used}
 
 -- A volume is found.
@@ -99,57 +90,6 @@ module _ (old new : Outside (List ℕ)) (heap : StoredHeap) (kept : KeepsVolume 
 
   pub stands-after : (bytes : List ℕ) → new.contents bytes → Stands bytes heap
   stands-after bytes at = ⊎_elim (λ same. stood bytes same) (λ now. stands-after_one bytes now) (kept.keeps.contents bytes at)
-
--- Spaces without a directory.
-
--- where there is no database nothing is reached, so the heap is fit
-none-reached : (heap : StoredHeap) (id : ℕ) → heap.directory ≡ [] → IsInHeap heap id → ⊥
-unfolding every_root
-none-reached heap id none (at_start x is u) = subst (λ ds. IsIn id (every_root ds)) none is
-none-reached heap id none (by_step x y before is u) = none-reached heap x none before
-
-fit-without : (heap : StoredHeap) → heap.directory ≡ [] → IsFitHeap heap
-fit-without heap none = record {
-  few = omega (arith, ap length none);
-  databases = subst (AllByRecursion (IsFitDatabase heap.objects)) (sym none) tt;
-  once = subst AreNamedOnce (sym none) tt;
-  each = λ id there. absurd (none-reached heap id none there);
-}
-
-pub stands-without : (space : Space) (objects : List Placed) (heap : StoredHeap) → HoldsObjects space.words objects → space.directory ≡ 0
-    → heap.directory ≡ [] → SpaceStands space heap
-stands-without space objects heap cut no_directory no_database = record {
-  fit = fit-without heap no_database;
-  objects = objects;
-  cut = cut;
-  names = [];
-  stands = record {
-    directory = subst (λ (ds : List Database). IsDirectoryOf (SeenIn space) (paired []) space.directory ds) (sym no_database) no_directory;
-    both = λ pid id p. absurd (cc);
-    one_number = λ pid i j p q. absurd (cc);
-    tables = record {
-      nodes = λ id. [];
-      each = λ n id table p is. absurd (none_named n id p.0);
-      are_nodes = λ id n a. absurd a;
-      apart = λ i j n a b. absurd a;
-    };
-  };
-}
-  where
-    none_named : (n : Reference) (id : ℕ) → paired [] n id → ⊥
-    none_named n id p = cc
-
-no-database : (space : Space) (names : List Reference) (databases : List Database) → space.directory ≡ 0
-    → IsDirectoryOf (SeenIn space) (paired names) space.directory databases → databases ≡ []
-no-database space names [] none is = refl
-no-database space names (d ∷ ds) none is =
-    let low = (HasObject-within space is.there.pid is.there.words is.there.there).low in
-    let same : Pid space.directory ≡ Pid is.there.pid = is.there.name_is in
-    let pid : space.directory ≡ is.there.pid = cc in
-    absurd (omega arith)
-
-pub none-without : (space : Space) (heap : StoredHeap) → space.directory ≡ 0 → SpaceStands space heap → heap.directory ≡ []
-none-without space heap none s = no-database space s.names heap.directory none s.stands.directory
 
 -- The space of a new volume: word 0 and no directory.
 

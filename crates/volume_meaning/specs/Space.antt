@@ -1,20 +1,11 @@
--- The space that is found in an image of a volume, and what is seen in it under each name.
-use Rattle.std.specs.Prelude.{◌≡◌, ◌⊎◌, ℕ, ◌^◌, ◌<◌, List, [], take, drop, Option}
-use Rattle.std.specs.List.{AllByRecursion}
+-- The space that is found in an image of a volume.
+use Rattle.std.specs.Prelude.{◌≡◌, ℕ, List, Option}
 use Rattle.std.specs.Option.{option_map}
 use Rattle.ps_volumes.specs.volume_parts.Holding.{Held}
 use Rattle.ps_volumes.specs.paged_volume.Standing.{held_in}
 use Rattle.ps_volumes.specs.volume_parts.declared.note.Note.{Note}
-use Rattle.ps_volumes.specs.obj_layout.declared.reference.Reference.{Reference}
-use Rattle.ps_volumes.specs.obj_layout.declared.reference.Reference.TheVariants.{Pid}
-use Rattle.ps_volumes.specs.obj_layout.Stored.{Space, HasObject}
+use Rattle.ps_volumes.specs.obj_layout.Stored.{Space}
 use Rattle.ps_volumes.specs.obj_store.Spaces.{space_of, space_held}
-use Rattle.heap_meaning.specs.swizzle.Objects.{header_in}
-use Rattle.heap_meaning.specs.swizzle.Joint.{Shown, shown_words}
-
--- a space of these words
-abbrev pub spaced : List ℕ → ℕ → Space
-spaced words directory = record { words = words; directory = directory; file = [] }
 
 -- the space that is found in an image: as many words as are used; None where no volume is found
 unfoldable pub space_in : List ℕ → Option Space
@@ -27,23 +18,3 @@ HoldSame a b = space_held a ≡ space_held b
 -- what is held where the pages have these bytes
 abbrev pub holding : Note → List ℕ → Held
 holding note bytes = record { note = note; bytes = bytes }
-
--- a reference on a volume is nil or a PID, whose top bit is set
-abbrev pub IsStoredReference : ℕ → Type 0
-IsStoredReference word = (word ≡ 0) ⊎ (2 ^ 63 < word)
-
--- On a volume an object has no flags, no PID in its header and no chain, and none of its references is an index.
-pub record IsStored (words : List ℕ) : Type 0 where
-  pub flags : (header_in words).flags ≡ 0
-  pub pid : (header_in words).pid ≡ 0
-  pub chain : (header_in words).chain ≡ 0
-  pub refs : AllByRecursion IsStoredReference (take (header_in words).refs (drop 4 words))
-
--- what is seen in a space under a name: the object of that PID
-pub record SeenIn (space : Space) (n : Reference) (it : Shown) : Type 0 where
-  pub pid : ℕ
-  pub words : List ℕ
-  pub name_is : n ≡ Pid pid
-  pub there : HasObject space pid words
-  pub stored : IsStored words
-  pub shown_is : it ≡ shown_words words

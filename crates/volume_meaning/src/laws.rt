@@ -12,7 +12,8 @@ ghost use Rattle.ps_volumes.specs.paged_volume.Standing.{held_in};
 ghost use Rattle.ps_volumes.specs.volume_parts.declared.note.Note.{Note};
 ghost use Rattle.heap_fit.specs.ps_heap.Held.{StoredHeap};
 ghost use Rattle.heap_fit.specs.database_meaning.Same.{IsSame};
-ghost use Rattle.volume_meaning.specs.Space.{holding, spaced, space_in, HoldSame};
+ghost use Rattle.volume_meaning.specs.Space.{holding, space_in, HoldSame};
+ghost use Rattle.space_meaning.specs.Space.{spaced};
 ghost use Rattle.volume_meaning.specs.Stands.{Stands, StandsSince};
 ghost use Rattle.ps_volumes.specs.Attaching.{KeepsVolume};
 

@@ -4,7 +4,7 @@ use Rattle.swizzle.specs.obj_layout.Storing.{settling}
 use Rattle.commit_images.specs.Images.{words_of, with_images, over_images, new_in, changed_in}
 use Rattle.commit_images.specs.Saved.{saved, saving}
 use Rattle.commit_images.proofs.StagingLaws.{stages-then, becomes-then}
-use Rattle.commit_images.proofs.SaveLaws.{settles-broken, settles-ok, settles-err, saved-is, both-become, few-calls, fails-changed}
+use Rattle.commit_images.proofs.SaveLaws.{settles-broken, settles-ok, settles-err, saved-is, both-become, few-calls, fails-changed, fails-new, fails-settled}
 use Rattle.commit_images.proofs.save.save.Goals as goal
 
 pub returns-in-Err-overwrite_all-clause-settles : goal.returns-in-Err-overwrite_all-clause-settles
@@ -16,7 +16,7 @@ returns-in-Err-overwrite_all-clause-settles g c =
     let new = new_in sw c.args.first in
     let changed = changed_in sw c.args.first in
     let s = c.in-Ok.ensures.stages in
-    let f = fails-changed sw new changed a b d (g.V.Vault.used_words c.args.vault.now) (g.V.Vault.used_words c.append_all.new.vault) (g.V.Vault.most_words c.args.vault.now) c.in-Err-overwrite_all.fault s c.in-Ok.ensures.stored.1 c.in-Err-overwrite_all.ensures.stored in
+    let f = fails-changed sw new changed a b d (g.V.Vault.used_words c.args.vault.now) (g.V.Vault.used_words c.append_all.new.vault) (g.V.Vault.most_words c.args.vault.now) c.in-Err-overwrite_all.fault s c.in-Err-overwrite_all.ensures.stages c.in-Ok.ensures.stored.1 c.in-Err-overwrite_all.ensures.stored in
     settles-broken a d (saving sw new changed (g.V.Vault.used_words c.args.vault.now + words_of sw new)) (saved sw new changed c.args.directory) c.in-Err-overwrite_all.fault
     (stages-then a b d s c.in-Err-overwrite_all.ensures.stages) f.device f.output
 
@@ -24,7 +24,7 @@ pub returns-in-Err-overwrite_all-clause-fault : goal.returns-in-Err-overwrite_al
 returns-in-Err-overwrite_all-clause-fault g c =
     let sw = c.args.sw.now in
     fails-changed sw (new_in sw c.args.first) (changed_in sw c.args.first) (g.V.Vault.outside c.args.vault.now) (g.V.Vault.outside c.append_all.new.vault) (g.V.Vault.outside c.overwrite_all.new.vault)
-    (g.V.Vault.used_words c.args.vault.now) (g.V.Vault.used_words c.append_all.new.vault) (g.V.Vault.most_words c.args.vault.now) c.in-Err-overwrite_all.fault c.in-Ok.ensures.stages c.in-Ok.ensures.stored.1 c.in-Err-overwrite_all.ensures.stored
+    (g.V.Vault.used_words c.args.vault.now) (g.V.Vault.used_words c.append_all.new.vault) (g.V.Vault.most_words c.args.vault.now) c.in-Err-overwrite_all.fault c.in-Ok.ensures.stages c.in-Err-overwrite_all.ensures.stages c.in-Ok.ensures.stored.1 c.in-Err-overwrite_all.ensures.stored
 
 pub returns-in-Ok-settle-clause-becomes : goal.returns-in-Ok-settle-clause-becomes
 returns-in-Ok-settle-clause-becomes g c =
@@ -69,3 +69,17 @@ returns-in-Err-settle-clause-settles g c =
     let both = both-become sw new changed a b d (g.V.Vault.used_words c.args.vault.now) (g.V.Vault.used_words c.append_all.new.vault) (g.V.Vault.most_words c.args.vault.now) c.in-Ok.ensures.stored.1 c.in-Ok-overwrite_all.ensures.stored.1 in
     settles-err a d e (λ (space : Space). over_images sw changed (with_images sw new space)) (directed c.args.directory) (saved sw new changed c.args.directory) s both (saved-is sw new changed c.args.directory)
     (settling (g.V.Vault.used_words c.overwrite_all.new.vault)) (saving sw new changed (g.V.Vault.used_words c.args.vault.now + words_of sw new)) c.in-Err-settle.fault c.in-Err-settle.ensures.settled
+
+pub returns-in-Err-clause-fault : goal.returns-in-Err-clause-fault
+returns-in-Err-clause-fault g c =
+    let sw = c.args.sw.now in
+    fails-new sw (new_in sw c.args.first) (changed_in sw c.args.first) (g.V.Vault.outside c.args.vault.now) (g.V.Vault.outside c.append_all.new.vault) (g.V.Vault.used_words c.args.vault.now)
+    (g.V.Vault.most_words c.args.vault.now) c.in-Err.fault c.in-Err.ensures.stages c.in-Err.ensures.stored
+
+pub returns-in-Err-settle-clause-fault : goal.returns-in-Err-settle-clause-fault
+returns-in-Err-settle-clause-fault g c =
+    let sw = c.args.sw.now in
+    fails-settled sw (new_in sw c.args.first) (changed_in sw c.args.first) (g.V.Vault.outside c.args.vault.now) (g.V.Vault.outside c.append_all.new.vault) (g.V.Vault.outside c.overwrite_all.new.vault)
+    (g.V.Vault.outside c.settle.new.self) (g.V.Vault.used_words c.args.vault.now) (g.V.Vault.used_words c.append_all.new.vault) (g.V.Vault.most_words c.args.vault.now)
+    (settling (g.V.Vault.used_words c.overwrite_all.new.vault)) (directed c.args.directory) c.in-Err-settle.fault c.in-Ok.ensures.stages c.in-Ok-overwrite_all.ensures.stages
+    c.in-Ok.ensures.stored.1 c.in-Ok-overwrite_all.ensures.stored.1 c.in-Err-settle.ensures.settled c.in-Err-settle.ensures.full c.in-Err-settle.ensures.sound

@@ -4,9 +4,9 @@ use Rattle.table_nodes.specs.Steps.{place}
 use Rattle.table_lib.specs.Operations.{Opens}
 use Rattle.table_lib.proofs.EnterLaws.{enters_refused, enters_done}
 use Rattle.table_nodes.proofs.BringLaws.{brings_none}
-use Rattle.table_nodes.proofs.of_heap_places.of_swizzle.TouchLaws.{keeps-refl}
 use Rattle.table_lib.proofs.FaultLaws.{not_opened, opened_failed}
 use Rattle.table_nodes.specs.Faults.{IsChangeFault}
+use Rattle.table_nodes.proofs.NodeLaws.{grows_none}
 use Rattle.table_lib.proofs.enter.enter_key.Goals as goal
 
 pub returns-in-Err-clause-entered : goal.returns-in-Err-clause-entered
@@ -30,7 +30,7 @@ pub returns-in-Err-clause-brings : goal.returns-in-Err-clause-brings
 returns-in-Err-clause-brings g c at e = brings_none c.args.sw.now _
 
 pub returns-in-Err-clause-still : goal.returns-in-Err-clause-still
-returns-in-Err-clause-still g c = keeps-refl c.args.sw.now
+returns-in-Err-clause-still g c = grows_none c.args.sw.now (g.V.Vault.outside c.args.vault.now) c.sound.ensures
 
 pub returns-in-Err-clause-fault : goal.returns-in-Err-clause-fault
 returns-in-Err-clause-fault g c = not_opened _ _ c.args.table c.in-Err.fault c.in-Err.ensures.fault

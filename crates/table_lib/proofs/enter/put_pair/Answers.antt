@@ -16,11 +16,12 @@ use Rattle.table_lib.proofs.RootLaws.{pairs_low, tree_from}
 use Rattle.table_lib.proofs.WriteLaws.{but_then, table_kept, table_lasts}
 use Rattle.table_lib.proofs.EnterLaws.{pair_entered}
 use Rattle.table_nodes.specs.avl_trees.Trees.{bits as digits}
-use Rattle.table_nodes.proofs.of_heap_places.of_swizzle.TouchLaws.{keeps-trans}
+use Rattle.table_nodes.proofs.of_heap_places.of_swizzle.ReadingLaws.{leaves-then}
 use Rattle.table_nodes.proofs.BringLaws.{brings_more, brings_touched, brings_written}
 use Rattle.table_lib.proofs.FaultLaws.{at_change}
 use Rattle.table_nodes.proofs.FaultLaws.{change_fault_back}
 use Rattle.table_nodes.proofs.SpanLaws.{within_all}
+use Rattle.table_nodes.proofs.NodeLaws.{grows_then}
 use Rattle.table_lib.proofs.enter.put_pair.Goals as goal
 
 pub returns-in-Err-enter-clause-put : goal.returns-in-Err-enter-clause-put
@@ -31,7 +32,7 @@ returns-in-Err-enter-clause-put g c t p h low =
     let tree = tree_from ks old m c.args.at t c.in-Ok.root c.in-Ok.ensures.grows h (c.in-Ok.ensures.root ks t h) in
     let lower = pairs_low ks old c.args.at t c.num-count.result (2 * c.bits.result + 1) h c.num-count.ensures c.num-count.type_inv (ap (λ b. 2 * b + 1) c.bits.ensures.value) in
     let here = place_touched old m c.in-Ok.ensures.grows p in
-    fault_after old.outside m.outside c.in-Err-enter.fault c.in-Ok.ensures.grows.leaves.contents (c.in-Err-enter.ensures.entered t here tree (within_all ks m.heap (items t)) lower)
+    fault_after old.heap m.heap old.outside m.outside c.in-Err-enter.fault c.in-Ok.ensures.grows (c.in-Err-enter.ensures.entered t here tree (within_all ks m.heap (items t)) lower)
 
 pub write_table-requires-clause-table : goal.write_table-requires-clause-table
 write_table-requires-clause-table g c =
@@ -67,16 +68,19 @@ pub returns-in-Err-clause-brings : goal.returns-in-Err-clause-brings
 returns-in-Err-clause-brings g c = brings_more _ _ 1 _ (omega arith) c.counted_root.ensures.brings
 
 pub returns-in-Err-enter-clause-brings : goal.returns-in-Err-enter-clause-brings
-returns-in-Err-enter-clause-brings g c = brings_touched _ _ _ 1 (3 * (2 * c.bits.result + 1)) _ c.in-Err-enter.ensures.still (omega (arith, c.bits.ensures.value, ap digits c.num-count.ensures)) c.counted_root.ensures.brings c.enter.ensures.brings
+returns-in-Err-enter-clause-brings g c = brings_touched _ _ _ 1 (3 * (2 * c.bits.result + 1)) _ c.in-Err-enter.ensures.still.keeps (omega (arith, c.bits.ensures.value, ap digits c.num-count.ensures)) c.counted_root.ensures.brings c.enter.ensures.brings
 
 pub returns-clause-brings : goal.returns-clause-brings
 returns-clause-brings g c = brings_written _ _ _ _ 1 (3 * (2 * c.bits.result + 1)) _ c.in-Ok-enter.ensures.spares.lasts c.write_table.ensures.spares.lasts c.write_table.ensures.none (omega (arith, c.bits.ensures.value, ap digits c.num-count.ensures)) c.counted_root.ensures.brings c.enter.ensures.brings
 
 pub returns-in-Err-enter-clause-still : goal.returns-in-Err-enter-clause-still
-returns-in-Err-enter-clause-still g c = keeps-trans _ _ _ c.in-Ok.ensures.keeps c.in-Err-enter.ensures.still
+returns-in-Err-enter-clause-still g c = grows_then _ _ _ _ _ _ c.in-Ok.ensures.grows c.in-Err-enter.ensures.still
 
 pub returns-in-Err-clause-fault : goal.returns-in-Err-clause-fault
 returns-in-Err-clause-fault g c = at_change _ _ _ c.args.at c.in-Err.fault c.in-Err.ensures.fault
 
 pub returns-in-Err-enter-clause-fault : goal.returns-in-Err-enter-clause-fault
 returns-in-Err-enter-clause-fault g c = inr (change_fault_back (g.V.Vault.outside c.args.vault.now) (g.V.Vault.outside c.counted_root.new.vault) _ _ c.in-Err-enter.fault c.in-Ok.ensures.grows.leaves c.in-Err-enter.ensures.fault)
+
+pub returns-clause-leaves : goal.returns-clause-leaves
+returns-clause-leaves g c = leaves-then _ _ _ c.in-Ok.ensures.grows.leaves c.in-Ok-enter.ensures.leaves

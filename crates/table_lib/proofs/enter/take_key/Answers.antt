@@ -5,7 +5,7 @@ use Rattle.table_nodes.specs.node_rows.Keys.{order_by}
 use Rattle.table_nodes.specs.Sought.{kind_of, key_in}
 use Rattle.table_nodes.specs.Steps.{place}
 use Rattle.table_nodes.specs.Entering.{is_missing}
-use Rattle.table_nodes.proofs.NodeLaws.{fetch_back}
+use Rattle.table_nodes.proofs.SeenLaws.{fetch_back}
 use Rattle.table_nodes.proofs.Removal.{removed_as}
 use Rattle.table_nodes.proofs.SoughtLaws.{key_in_kept}
 use Rattle.table_nodes.proofs.Sparing.{spares_then, spares_touched}
@@ -15,10 +15,11 @@ use Rattle.table_lib.proofs.RootLaws.{pairs_low, tree_from}
 use Rattle.table_lib.proofs.WriteLaws.{but_then}
 use Rattle.table_lib.proofs.EnterLaws.{key_taken}
 use Rattle.table_nodes.specs.avl_trees.Trees.{bits as digits}
-use Rattle.table_nodes.proofs.of_heap_places.of_swizzle.TouchLaws.{keeps-trans}
+use Rattle.table_nodes.proofs.of_heap_places.of_swizzle.ReadingLaws.{leaves-then}
 use Rattle.table_nodes.proofs.BringLaws.{brings_more, brings_touched, brings_written}
 use Rattle.table_nodes.proofs.FaultLaws.{node_fault_back}
 use Rattle.table_nodes.proofs.SpanLaws.{within_all}
+use Rattle.table_nodes.proofs.NodeLaws.{grows_then}
 use Rattle.table_lib.proofs.enter.take_key.Goals as goal
 
 pub returns-in-Err-remove-clause-taken : goal.returns-in-Err-remove-clause-taken
@@ -29,7 +30,7 @@ returns-in-Err-remove-clause-taken g c t p h =
     let tree = tree_from ks old m c.args.at t c.in-Ok.root c.in-Ok.ensures.grows h (c.in-Ok.ensures.root ks t h) in
     let lower = pairs_low ks old c.args.at t c.num-count.result (2 * c.bits.result + 1) h c.num-count.ensures c.num-count.type_inv (ap (λ b. 2 * b + 1) c.bits.ensures.value) in
     let here = place_touched old m c.in-Ok.ensures.grows p in
-    fetch_back old.outside m.outside c.in-Err-remove.fault c.in-Ok.ensures.grows.leaves.contents (c.in-Err-remove.ensures.removed t here tree (within_all ks m.heap (items t)) lower)
+    fetch_back old.heap m.heap old.outside m.outside c.in-Err-remove.fault c.in-Ok.ensures.grows (c.in-Err-remove.ensures.removed t here tree (within_all ks m.heap (items t)) lower)
 
 pub returns-clause-taken : goal.returns-clause-taken
 returns-clause-taken g c t p h =
@@ -58,13 +59,16 @@ pub returns-in-Err-clause-brings : goal.returns-in-Err-clause-brings
 returns-in-Err-clause-brings g c = brings_more _ _ 1 _ (omega arith) c.counted_root.ensures.brings
 
 pub returns-in-Err-remove-clause-brings : goal.returns-in-Err-remove-clause-brings
-returns-in-Err-remove-clause-brings g c = brings_touched _ _ _ 1 (3 * (2 * c.bits.result + 1)) _ c.in-Err-remove.ensures.still (omega (arith, c.bits.ensures.value, ap digits c.num-count.ensures)) c.counted_root.ensures.brings c.remove.ensures.brings
+returns-in-Err-remove-clause-brings g c = brings_touched _ _ _ 1 (3 * (2 * c.bits.result + 1)) _ c.in-Err-remove.ensures.still.keeps (omega (arith, c.bits.ensures.value, ap digits c.num-count.ensures)) c.counted_root.ensures.brings c.remove.ensures.brings
 
 pub returns-clause-brings : goal.returns-clause-brings
 returns-clause-brings g c = brings_written _ _ _ _ 1 (3 * (2 * c.bits.result + 1)) _ c.in-Ok-remove.ensures.spares.lasts c.write_table.ensures.spares.lasts c.write_table.ensures.none (omega (arith, c.bits.ensures.value, ap digits c.num-count.ensures)) c.counted_root.ensures.brings c.remove.ensures.brings
 
 pub returns-in-Err-remove-clause-still : goal.returns-in-Err-remove-clause-still
-returns-in-Err-remove-clause-still g c = keeps-trans _ _ _ c.in-Ok.ensures.keeps c.in-Err-remove.ensures.still
+returns-in-Err-remove-clause-still g c = grows_then _ _ _ _ _ _ c.in-Ok.ensures.grows c.in-Err-remove.ensures.still
 
 pub returns-in-Err-remove-clause-fault : goal.returns-in-Err-remove-clause-fault
 returns-in-Err-remove-clause-fault g c = inr (node_fault_back (g.V.Vault.outside c.args.vault.now) (g.V.Vault.outside c.counted_root.new.vault) _ _ c.in-Err-remove.fault c.in-Ok.ensures.grows.leaves c.in-Err-remove.ensures.fault)
+
+pub returns-clause-leaves : goal.returns-clause-leaves
+returns-clause-leaves g c = leaves-then _ _ _ c.in-Ok.ensures.grows.leaves c.in-Ok-remove.ensures.leaves

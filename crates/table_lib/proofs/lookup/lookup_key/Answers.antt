@@ -1,25 +1,26 @@
 use Rattle.std.proofs.Common.{◌∙◌, ◌-◌, ◌≡◌, ◌+◌, ◌*◌, true, false, Ok, Err, refl, ap, subst, arith, inr}
 use Rattle.table_nodes.specs.heap_places.heap_texts.declared.fault.OpFault.TheVariants.{Swizzle}
-use Rattle.table_nodes.specs.avl_trees.Trees.{lookup}
+use Rattle.table_nodes.specs.avl_trees.Trees.{items, lookup}
 use Rattle.table_nodes.specs.avl_trees.Standing.{seek}
 use Rattle.table_nodes.specs.node_rows.Keys.{order_by}
 use Rattle.table_nodes.specs.Sought.{kind_of, key_in}
 use Rattle.table_nodes.specs.Steps.{place}
 use Rattle.table_nodes.specs.Searching.{IsObject, value_of}
-use Rattle.table_nodes.proofs.NodeLaws.{fetch_back}
+use Rattle.table_nodes.proofs.SeenLaws.{fetch_back}
 use Rattle.table_nodes.proofs.SoughtLaws.{key_in_kept}
 use Rattle.table_nodes.proofs.StepLaws.{touches_then}
 use Rattle.table_lib.specs.Operations.{Opens}
-use Rattle.table_lib.proofs.RootLaws.{pairs_of, tree_of, tree_low, found_items}
+use Rattle.table_lib.proofs.RootLaws.{pairs_of, tree_of, tree_low, found_items, values_grown}
 use Rattle.table_lib.proofs.UseLaws.{uses_refused, uses_unused, uses_used}
 use Rattle.table_nodes.specs.heap_places.swizzle.Heap.{num_at}
 use Rattle.table_nodes.specs.avl_trees.Trees.{bits as digits}
-use Rattle.table_nodes.proofs.of_heap_places.of_swizzle.TouchLaws.{keeps-refl, keeps-trans}
+use Rattle.table_nodes.proofs.of_heap_places.of_swizzle.TouchLaws.{keeps-trans}
 use Rattle.table_nodes.proofs.BringLaws.{brings_more, brings_none, brings_touched}
 use Rattle.table_lib.proofs.RootLaws.{one_table}
 use Rattle.table_lib.proofs.FaultLaws.{not_opened, opened_failed}
 use Rattle.table_nodes.proofs.FaultLaws.{node_fault_back}
 use Rattle.table_nodes.specs.Faults.{IsNodeFault}
+use Rattle.table_nodes.proofs.NodeLaws.{grows_none, grows_then}
 use Rattle.table_lib.proofs.lookup.lookup_key.Goals as goal
 
 pub returns-in-Err-clause-looked : goal.returns-in-Err-clause-looked
@@ -34,7 +35,7 @@ pub returns-in-Err-counted_root-clause-looked : goal.returns-in-Err-counted_root
 returns-in-Err-counted_root-clause-looked g c =
     let has : c.in-Ok.opened.used ≡ true = grind (arith, c.if-not-opened.false) in
     uses_used (kind_of c.args.key) (place c.args.sw.now (g.V.Vault.outside c.args.vault.now)) c.args.table _ _ c.in-Ok.opened has (subst (λ ks. Opens ks c.args.sw.now c.args.table (Ok c.in-Ok.opened)) c.kind_of_key.ensures c.in-Ok.ensures.opens) (Err (Swizzle c.in-Err-counted_root.fault))
-    (λ t h. c.in-Err-counted_root.ensures.root (kind_of c.args.key) t (pairs_of (kind_of c.args.key) (place c.args.sw.now (g.V.Vault.outside c.args.vault.now)) c.in-Ok.opened.at t h))
+    (λ t h all. c.in-Err-counted_root.ensures.root (kind_of c.args.key) t (pairs_of (kind_of c.args.key) (place c.args.sw.now (g.V.Vault.outside c.args.vault.now)) c.in-Ok.opened.at t h))
 
 pub returns-in-Ok-lookup-clause-looked : goal.returns-in-Ok-lookup-clause-looked
 returns-in-Ok-lookup-clause-looked g c =
@@ -56,10 +57,10 @@ returns-in-Err-lookup-clause-looked g c =
     let old = place c.args.sw.now (g.V.Vault.outside c.args.vault.now) in
     let m = place c.counted_root.new.sw (g.V.Vault.outside c.counted_root.new.vault) in
     let has : c.in-Ok.opened.used ≡ true = grind (arith, c.if-not-opened.false) in
-    uses_used ks old c.args.table _ _ c.in-Ok.opened has (subst (λ ks. Opens ks c.args.sw.now c.args.table (Ok c.in-Ok.opened)) c.kind_of_key.ensures c.in-Ok.ensures.opens) (Err (Swizzle c.in-Err-lookup.fault)) (λ t h.
+    uses_used ks old c.args.table _ _ c.in-Ok.opened has (subst (λ ks. Opens ks c.args.sw.now c.args.table (Ok c.in-Ok.opened)) c.kind_of_key.ensures c.in-Ok.ensures.opens) (Err (Swizzle c.in-Err-lookup.fault)) (λ t h all.
     let tree = tree_of ks old m c.in-Ok.opened.at t c.in-Ok-counted_root.root c.in-Ok-counted_root.ensures.grows h (c.in-Ok-counted_root.ensures.root ks t (pairs_of ks old c.in-Ok.opened.at t h)) in
     let low = tree_low ks old c.in-Ok.opened.at t c.num.result (2 * c.bits.result + 1) h c.num.ensures c.num.type_inv (ap (λ b. 2 * b + 1) c.bits.ensures.value) in
-    fetch_back old.outside m.outside c.in-Err-lookup.fault c.in-Ok-counted_root.ensures.grows.leaves.contents (c.in-Err-lookup.ensures.found t tree low))
+    fetch_back old.heap m.heap old.outside m.outside c.in-Err-lookup.fault c.in-Ok-counted_root.ensures.grows (c.in-Err-lookup.ensures.found t tree low (values_grown ks old m (items t) c.in-Ok-counted_root.ensures.grows all)))
 
 pub returns-in-Ok-lookup-clause-grows : goal.returns-in-Ok-lookup-clause-grows
 returns-in-Ok-lookup-clause-grows g c = touches_then (place c.args.sw.now (g.V.Vault.outside c.args.vault.now)) (place c.counted_root.new.sw (g.V.Vault.outside c.counted_root.new.vault)) (place c.lookup.new.sw (g.V.Vault.outside c.lookup.new.vault)) c.in-Ok-counted_root.ensures.grows c.in-Ok-lookup.ensures.grows
@@ -81,13 +82,13 @@ returns-in-Ok-lookup-clause-brings g c at e =
 pub returns-in-Err-lookup-clause-brings : goal.returns-in-Err-lookup-clause-brings
 returns-in-Err-lookup-clause-brings g c at e =
     let here : c.in-Ok.opened.at ≡ at = one_table c.args.table c.in-Ok.opened.at at c.in-Ok.ensures.opens.at_is e in
-    brings_touched _ _ _ 1 (c.lookup.new.steps - c.args.steps.now) _ c.in-Err-lookup.ensures.still (omega (arith, c.lookup.ensures.cost, c.bits.ensures.value, ap digits (c.num.ensures ∙ ap (λ i. num_at c.args.sw.now i 2) here))) c.counted_root.ensures.brings c.lookup.ensures.brings
+    brings_touched _ _ _ 1 (c.lookup.new.steps - c.args.steps.now) _ c.in-Err-lookup.ensures.still.keeps (omega (arith, c.lookup.ensures.cost, c.bits.ensures.value, ap digits (c.num.ensures ∙ ap (λ i. num_at c.args.sw.now i 2) here))) c.counted_root.ensures.brings c.lookup.ensures.brings
 
 pub returns-in-Err-clause-still : goal.returns-in-Err-clause-still
-returns-in-Err-clause-still g c = keeps-refl c.args.sw.now
+returns-in-Err-clause-still g c = grows_none c.args.sw.now (g.V.Vault.outside c.args.vault.now) c.sound.ensures
 
 pub returns-in-Err-lookup-clause-still : goal.returns-in-Err-lookup-clause-still
-returns-in-Err-lookup-clause-still g c = keeps-trans _ _ _ c.in-Ok-counted_root.ensures.keeps c.in-Err-lookup.ensures.still
+returns-in-Err-lookup-clause-still g c = grows_then _ _ _ _ _ _ c.in-Ok-counted_root.ensures.grows c.in-Err-lookup.ensures.still
 
 pub returns-in-Err-clause-fault : goal.returns-in-Err-clause-fault
 returns-in-Err-clause-fault g c = not_opened _ _ c.args.table c.in-Err.fault c.in-Err.ensures.fault

@@ -2,7 +2,7 @@ use Rattle.std.proofs.Common.{◌∙◌, ◌-◌, ◌≡◌, ◌+◌, ◌*◌, t
 use Rattle.std.specs.declared.cmp.Ordering.TheVariants.{Less}
 use Rattle.table_nodes.specs.heap_places.heap_texts.declared.fault.OpFault.TheVariants.{Swizzle}
 use Rattle.table_nodes.specs.Steps.{place}
-use Rattle.table_nodes.proofs.NodeLaws.{fetch_back}
+use Rattle.table_nodes.proofs.SeenLaws.{fetch_back}
 use Rattle.table_nodes.proofs.StepLaws.{touches_then}
 use Rattle.table_nodes.specs.Sought.{keys_of}
 use Rattle.table_lib.proofs.NextLaws.{node_found, least_parts}
@@ -10,12 +10,12 @@ use Rattle.table_lib.proofs.RootLaws.{pairs_of, tree_of, tree_low}
 use Rattle.table_lib.proofs.UseLaws.{uses_refused, uses_unused, uses_used}
 use Rattle.table_nodes.specs.heap_places.swizzle.Heap.{num_at}
 use Rattle.table_nodes.specs.avl_trees.Trees.{bits as digits}
-use Rattle.table_nodes.proofs.of_heap_places.of_swizzle.TouchLaws.{keeps-refl, keeps-trans}
 use Rattle.table_nodes.proofs.BringLaws.{brings_more, brings_none, brings_touched}
 use Rattle.table_lib.proofs.RootLaws.{one_table}
 use Rattle.table_lib.proofs.FaultLaws.{not_opened, opened_failed}
 use Rattle.table_nodes.proofs.FaultLaws.{node_fault_back}
 use Rattle.table_nodes.specs.Faults.{IsNodeFault}
+use Rattle.table_nodes.proofs.NodeLaws.{grows_none, grows_then}
 use Rattle.table_lib.proofs.next.least_node.Goals as goal
 
 pub returns-in-Err-clause-found : goal.returns-in-Err-clause-found
@@ -53,7 +53,7 @@ returns-in-Err-first-clause-found g c =
     uses_used ks old c.args.table _ _ c.in-Ok.opened has c.in-Ok.ensures.opens (Err (Swizzle c.in-Err-first.fault)) (λ t h.
     let tree = tree_of ks old m c.in-Ok.opened.at t c.in-Ok-counted_root.root c.in-Ok-counted_root.ensures.grows h (c.in-Ok-counted_root.ensures.root ks t (pairs_of ks old c.in-Ok.opened.at t h)) in
     let low = tree_low ks old c.in-Ok.opened.at t c.num.result (2 * c.bits.result + 1) h c.num.ensures c.num.type_inv (ap (λ b. 2 * b + 1) c.bits.ensures.value) in
-    fetch_back old.outside m.outside c.in-Err-first.fault c.in-Ok-counted_root.ensures.grows.leaves.contents (c.in-Err-first.ensures.begins t tree low))
+    fetch_back old.heap m.heap old.outside m.outside c.in-Err-first.fault c.in-Ok-counted_root.ensures.grows (c.in-Err-first.ensures.begins t tree low))
 
 pub returns-in-Ok-first-clause-grows : goal.returns-in-Ok-first-clause-grows
 returns-in-Ok-first-clause-grows g c = touches_then (place c.args.sw.now (g.V.Vault.outside c.args.vault.now)) (place c.counted_root.new.sw (g.V.Vault.outside c.counted_root.new.vault)) (place c.first.new.sw (g.V.Vault.outside c.first.new.vault)) c.in-Ok-counted_root.ensures.grows c.in-Ok-first.ensures.grows
@@ -75,13 +75,13 @@ returns-in-Ok-first-clause-brings g c at e =
 pub returns-in-Err-first-clause-brings : goal.returns-in-Err-first-clause-brings
 returns-in-Err-first-clause-brings g c at e =
     let here : c.in-Ok.opened.at ≡ at = one_table c.args.table c.in-Ok.opened.at at c.in-Ok.ensures.opens.at_is e in
-    brings_touched _ _ _ 1 (2 * c.bits.result + 1 - 1) _ c.in-Err-first.ensures.still (omega (arith, c.bits.ensures.value, ap digits (c.num.ensures ∙ ap (λ i. num_at c.args.sw.now i 2) here))) c.counted_root.ensures.brings c.first.ensures.brings
+    brings_touched _ _ _ 1 (2 * c.bits.result + 1 - 1) _ c.in-Err-first.ensures.still.keeps (omega (arith, c.bits.ensures.value, ap digits (c.num.ensures ∙ ap (λ i. num_at c.args.sw.now i 2) here))) c.counted_root.ensures.brings c.first.ensures.brings
 
 pub returns-in-Err-clause-still : goal.returns-in-Err-clause-still
-returns-in-Err-clause-still g c = keeps-refl c.args.sw.now
+returns-in-Err-clause-still g c = grows_none c.args.sw.now (g.V.Vault.outside c.args.vault.now) c.sound.ensures
 
 pub returns-in-Err-first-clause-still : goal.returns-in-Err-first-clause-still
-returns-in-Err-first-clause-still g c = keeps-trans _ _ _ c.in-Ok-counted_root.ensures.keeps c.in-Err-first.ensures.still
+returns-in-Err-first-clause-still g c = grows_then _ _ _ _ _ _ c.in-Ok-counted_root.ensures.grows c.in-Err-first.ensures.still
 
 pub returns-in-Err-clause-fault : goal.returns-in-Err-clause-fault
 returns-in-Err-clause-fault g c = not_opened _ _ c.args.table c.in-Err.fault c.in-Err.ensures.fault

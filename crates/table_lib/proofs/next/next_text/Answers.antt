@@ -10,6 +10,7 @@ use Rattle.table_nodes.specs.heap_places.swizzle.Heap.{num_at}
 use Rattle.table_nodes.specs.avl_trees.Trees.{bits as digits}
 use Rattle.table_nodes.proofs.BringLaws.{brings_more, brings_touched}
 use Rattle.table_nodes.proofs.FaultLaws.{node_fault_back}
+use Rattle.table_nodes.proofs.NodeLaws.{grows_then}
 use Rattle.table_lib.proofs.next.next_text.Goals as goal
 
 pub returns-in-Err-clause-next : goal.returns-in-Err-clause-next
@@ -56,10 +57,10 @@ pub returns-in-Ok-text_pair-clause-brings : goal.returns-in-Ok-text_pair-clause-
 returns-in-Ok-text_pair-clause-brings g c at e = brings_touched _ _ _ (2 * digits (num_at c.args.sw.now at 2) + 1) 1 _ c.in-Ok-text_pair.ensures.keeps (omega arith) (c.text_node.ensures.brings at e) c.text_pair.ensures.brings
 
 pub returns-in-Err-text_pair-clause-brings : goal.returns-in-Err-text_pair-clause-brings
-returns-in-Err-text_pair-clause-brings g c at e = brings_touched _ _ _ (2 * digits (num_at c.args.sw.now at 2) + 1) 1 _ c.in-Err-text_pair.ensures.still (omega arith) (c.text_node.ensures.brings at e) c.text_pair.ensures.brings
+returns-in-Err-text_pair-clause-brings g c at e = brings_touched _ _ _ (2 * digits (num_at c.args.sw.now at 2) + 1) 1 _ c.in-Err-text_pair.ensures.still.keeps (omega arith) (c.text_node.ensures.brings at e) c.text_pair.ensures.brings
 
 pub returns-in-Err-text_pair-clause-still : goal.returns-in-Err-text_pair-clause-still
-returns-in-Err-text_pair-clause-still g c = keeps-trans _ _ _ c.in-Ok.ensures.keeps c.in-Err-text_pair.ensures.still
+returns-in-Err-text_pair-clause-still g c = grows_then _ _ _ _ _ _ c.in-Ok.ensures.grows c.in-Err-text_pair.ensures.still
 
 pub returns-in-Err-text_pair-clause-fault : goal.returns-in-Err-text_pair-clause-fault
 returns-in-Err-text_pair-clause-fault g c = inr (node_fault_back (g.V.Vault.outside c.args.vault.now) (g.V.Vault.outside c.text_node.new.vault) _ _ c.in-Err-text_pair.fault c.in-Ok.ensures.grows.leaves c.in-Err-text_pair.ensures.fault)

@@ -7,7 +7,7 @@ returns-clause-marked g c = table_marked c.args.sw.now c.mark.new.self (g.V.Vaul
 
 pub returns-clause-spares : goal.returns-clause-spares
 returns-clause-spares g c =
-    but_written c.args.sw.now c.mark.new.self (g.V.Vault.outside c.args.vault.now) c.args.at c.sound.ensures
+    but_written c.args.sw.now c.mark.new.self (g.V.Vault.outside c.args.vault.now) c.args.at c.sound.ensures c.requires.table.held
     (marked_one c.args.sw.now c.mark.new.self (g.V.Vault.outside c.args.vault.now) c.args.at c.requires.table c.sound.ensures c.sound-2.ensures c.mark.ensures.written c.mark.ensures.stands)
 
 pub returns-clause-none : goal.returns-clause-none

@@ -3,9 +3,10 @@ use Rattle.table_nodes.specs.heap_places.swizzle.Heap.{ref_at}
 use Rattle.table_nodes.specs.heap_places.swizzle.Joint.{name_of}
 use Rattle.table_nodes.specs.avl_trees.Standing.{root_of}
 use Rattle.table_nodes.specs.Steps.{place}
-use Rattle.table_nodes.proofs.NodeLaws.{grows_touch, side_kind, side_row}
+use Rattle.table_nodes.proofs.NodeLaws.{grows_touch, side_kind, side_known, side_row, grows_refused}
+use Rattle.table_nodes.proofs.SeenLaws.{touch_failed_seen}
 use Rattle.table_nodes.proofs.StepLaws.{is_side}
-use Rattle.table_nodes.proofs.BringLaws.{brings_only, brings_same, keeps_same}
+use Rattle.table_nodes.proofs.BringLaws.{brings_only, brings_same}
 use Rattle.table_nodes.specs.heap_places.swizzle.Touch.{Denotes}
 use Rattle.table_nodes.specs.Faults.{misfit, no_node}
 use Rattle.table_nodes.proofs.FaultLaws.{touch_failed}
@@ -40,10 +41,19 @@ pub returns-in-Err-clause-brings : goal.returns-in-Err-clause-brings
 returns-in-Err-clause-brings g c = brings_same _ _ 1 c.in-Err.ensures.refused
 
 pub returns-in-Err-clause-still : goal.returns-in-Err-clause-still
-returns-in-Err-clause-still g c = keeps_same _ _ c.in-Err.ensures.refused
+returns-in-Err-clause-still g c = grows_refused _ _ _ _ c.sound.ensures c.in-Err.ensures.call c.in-Err.ensures.refused
 
 pub returns-else-is_node-clause-fault : goal.returns-else-is_node-clause-fault
 returns-else-is_node-clause-fault g c = misfit c.in-Ok-Some.root _ _ (subst (λ (t : Option ℕ). Denotes c.touch_slot.new.self t (name_of c.args.sw.now (ref_at c.args.sw.now c.args.at 0))) c.in-Ok-Some.field-0-is c.in-Ok-Some.ensures.target).0 (no_node (λ n. absurd (cc (c.is_node.ensures.no n, c.if-is_node.false))) refl refl) c.damaged.ensures
 
 pub returns-in-Err-clause-fault : goal.returns-in-Err-clause-fault
 returns-in-Err-clause-fault g c = touch_failed (g.V.Vault.outside c.args.vault.now) (g.V.Vault.outside c.touch_slot.new.vault) c.args.sw.now c.touch_slot.new.self c.args.at 0 c.in-Err.fault c.requires.table.held (omega (arith, c.requires.table.refs)) c.in-Err.ensures.refused c.in-Err.ensures.fault c.in-Err.ensures.call
+
+pub returns-else-is_node-clause-still : goal.returns-else-is_node-clause-still
+returns-else-is_node-clause-still g c = grows_touch c.args.sw.now c.touch_slot.new.self (g.V.Vault.outside c.args.vault.now) (g.V.Vault.outside c.touch_slot.new.vault) _ c.sound.ensures c.sound-in-Ok-Some.ensures c.in-Ok-Some.ensures.call c.in-Ok-Some.ensures.keeps c.in-Ok-Some.ensures.joint
+
+pub returns-in-Err-clause-root : goal.returns-in-Err-clause-root
+returns-in-Err-clause-root g c ks t h =
+    let a = g.V.Vault.outside c.args.vault.now in
+    touch_failed_seen c.args.sw.now c.touch_slot.new.self a (g.V.Vault.outside c.touch_slot.new.vault) (ref_at c.args.sw.now c.args.at 0) c.in-Err.fault c.sound.ensures
+    (side_known ks c.args.sw.now a (name_of c.args.sw.now (ref_at c.args.sw.now c.args.at 0)) (root_of t) h.root (is_side ks (place c.args.sw.now a) t h.stands)) c.in-Err.ensures.fault c.in-Err.ensures.call

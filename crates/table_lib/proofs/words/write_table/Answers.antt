@@ -12,7 +12,7 @@ returns-clause-written g c =
 
 pub returns-clause-spares : goal.returns-clause-spares
 returns-clause-spares g c =
-    but_written c.args.sw.now c.mark.new.self (g.V.Vault.outside c.args.vault.now) c.args.at c.sound.ensures
+    but_written c.args.sw.now c.mark.new.self (g.V.Vault.outside c.args.vault.now) c.args.at c.sound.ensures c.requires.table.held
     (wrote_one c.args.sw.now c.set_ref.new.self c.set_num.new.self c.set_num-2.new.self c.mark.new.self (g.V.Vault.outside c.args.vault.now) c.args.at c.args.root (keys_of c.args.keys) c.number_of.result c.args.count c.number_of.ensures
     c.requires.table c.requires.root c.sound.ensures c.sound-2.ensures c.sound-3.ensures c.sound-4.ensures c.sound-5.ensures
     c.set_ref.ensures.written c.set_num.ensures.written c.set_num-2.ensures.written c.mark.ensures.written

@@ -1,7 +1,8 @@
 use Rattle.std.proofs.Common.{◌*◌, IfSome, Ok, Err, refl, sym, ◌∙◌, subst, arith, inl, inr}
-use Rattle.heap_places.specs.swizzle.Touch.{Keeps}
-use Rattle.heap_places.proofs.of_swizzle.TouchLaws.{keeps-refl, keeps-trans}
-use Rattle.table_nodes.specs.Nodes.{IsNode}
+use Rattle.heap_places.specs.swizzle.Heap.{Heap}
+use Rattle.heap_places.proofs.of_swizzle.ReadingLaws.{leaves-then}
+use Rattle.heap_places.proofs.of_swizzle.TouchLaws.{keeps-refl}
+use Rattle.table_nodes.specs.Nodes.{IsNode, Grows}
 use Rattle.avl_trees.specs.Trees.{leaf, node}
 use Rattle.avl_trees.specs.Standing.{row_of}
 use Rattle.heap_places.specs.swizzle.Joint.{name_at}
@@ -13,6 +14,7 @@ use Rattle.table_nodes.proofs.StepLaws.{place_touched, side_map}
 use Rattle.table_nodes.proofs.Putting.{root_named, no_root, entered_as, tree_left, tree_right, put_leaf, put_left, put_right, put_here, fault_after, counted_leaf, counted_left, counted_right, counted_here}
 use Rattle.table_nodes.proofs.Sparing.{spares_made, spares_then, spares_touched}
 use Rattle.table_nodes.proofs.FaultLaws.{change_fault_back, full_here, height_tested, the_node}
+use Rattle.table_nodes.proofs.NodeLaws.{grows_none, grows_then}
 use Rattle.table_nodes.proofs.enter.+enter.Goals as goal
 
 pub returns-in-Ok-clause-entered : goal.returns-in-Ok-clause-entered
@@ -64,7 +66,7 @@ returns-in-Err-enter-clause-entered g t c (node x b y) p h within lower =
     let named = root_named old.heap c.args.root c.in-Some.at b.name c.in-Some.is h.root_is in
     let e = c.height-height.ensures.some ks c.in-Some.at b.name (row_of x b y) refl named h.stands.0 in
     let o = c.in-Ok-open_node.ensures.opens x b y h.stands named h.rising within in
-    fault_after old.outside m.outside c.in-Err-enter.fault c.in-Ok-open_node.ensures.grows.leaves.contents
+    fault_after old.heap m.heap old.outside m.outside c.in-Err-enter.fault c.in-Ok-open_node.ensures.grows
     (c.in-Err-enter.ensures.entered x (place_touched old m c.in-Ok-open_node.ensures.grows p) (tree_left ks old m c.args.root c.in-Ok-open_node.opened.left c.in-Ok-open_node.ensures.grows x b y h o.left) (o.left_keys c.in-Less.is) (omega (arith, e)))
 
 pub returns-in-Equal-clause-entered : goal.returns-in-Equal-clause-entered
@@ -108,7 +110,7 @@ returns-in-Err-enter-2-clause-entered g t c (node x b y) p h within lower =
     let named = root_named old.heap c.args.root c.in-Some.at b.name c.in-Some.is h.root_is in
     let e = c.height-height.ensures.some ks c.in-Some.at b.name (row_of x b y) refl named h.stands.0 in
     let o = c.in-Ok-open_node.ensures.opens x b y h.stands named h.rising within in
-    fault_after old.outside m.outside c.in-Err-enter-2.fault c.in-Ok-open_node.ensures.grows.leaves.contents
+    fault_after old.heap m.heap old.outside m.outside c.in-Err-enter-2.fault c.in-Ok-open_node.ensures.grows
     (c.in-Err-enter-2.ensures.entered y (place_touched old m c.in-Ok-open_node.ensures.grows p) (tree_right ks old m c.args.root c.in-Ok-open_node.opened.right c.in-Ok-open_node.ensures.grows x b y h o.right) (o.right_keys c.in-Greater.is) (omega (arith, e)))
 
 pub returns-in-Ok-clause-counted : goal.returns-in-Ok-clause-counted
@@ -166,10 +168,10 @@ pub returns-in-Ok-enter-clause-brings : goal.returns-in-Ok-enter-clause-brings
 returns-in-Ok-enter-clause-brings g t c = brings_written _ _ _ _ 2 (3 * c.height-height.result) _ c.in-Ok-enter.ensures.spares.lasts c.with_left.ensures.spares.lasts c.with_left.ensures.none (omega (arith, c.if-height-bound.false)) c.open_node.ensures.brings c.enter.ensures.brings
 
 pub returns-in-Err-enter-clause-brings : goal.returns-in-Err-enter-clause-brings
-returns-in-Err-enter-clause-brings g t c = brings_then _ _ _ 2 (3 * c.height-height.result) _ (keeps_lasts _ _ c.in-Err-enter.ensures.still) (omega (arith, c.if-height-bound.false)) c.open_node.ensures.brings c.enter.ensures.brings
+returns-in-Err-enter-clause-brings g t c = brings_then _ _ _ 2 (3 * c.height-height.result) _ (keeps_lasts _ _ c.in-Err-enter.ensures.still.keeps) (omega (arith, c.if-height-bound.false)) c.open_node.ensures.brings c.enter.ensures.brings
 
 pub returns-in-Err-enter-clause-still : goal.returns-in-Err-enter-clause-still
-returns-in-Err-enter-clause-still g t c = keeps-trans _ _ _ c.in-Ok-open_node.ensures.keeps c.in-Err-enter.ensures.still
+returns-in-Err-enter-clause-still g t c = grows_then _ _ _ _ _ _ c.in-Ok-open_node.ensures.grows c.in-Err-enter.ensures.still
 
 pub with_left-requires-clause-at : goal.with_left-requires-clause-at
 with_left-requires-clause-at g t c = c.in-Ok-enter.ensures.held.nodes _ (c.in-Ok-open_node.ensures.grows.nodes _ (subst (λ i. IfSome i (IsNode c.args.sw.now)) c.in-Some.is c.requires.root))
@@ -187,10 +189,10 @@ pub returns-in-Ok-enter-2-clause-brings : goal.returns-in-Ok-enter-2-clause-brin
 returns-in-Ok-enter-2-clause-brings g t c = brings_written _ _ _ _ 2 (3 * c.height-height.result) _ c.in-Ok-enter-2.ensures.spares.lasts c.with_right.ensures.spares.lasts c.with_right.ensures.none (omega (arith, c.if-height-bound.false)) c.open_node.ensures.brings c.enter-in-Greater.ensures.brings
 
 pub returns-in-Err-enter-2-clause-brings : goal.returns-in-Err-enter-2-clause-brings
-returns-in-Err-enter-2-clause-brings g t c = brings_then _ _ _ 2 (3 * c.height-height.result) _ (keeps_lasts _ _ c.in-Err-enter-2.ensures.still) (omega (arith, c.if-height-bound.false)) c.open_node.ensures.brings c.enter-in-Greater.ensures.brings
+returns-in-Err-enter-2-clause-brings g t c = brings_then _ _ _ 2 (3 * c.height-height.result) _ (keeps_lasts _ _ c.in-Err-enter-2.ensures.still.keeps) (omega (arith, c.if-height-bound.false)) c.open_node.ensures.brings c.enter-in-Greater.ensures.brings
 
 pub returns-in-Err-enter-2-clause-still : goal.returns-in-Err-enter-2-clause-still
-returns-in-Err-enter-2-clause-still g t c = keeps-trans _ _ _ c.in-Ok-open_node.ensures.keeps c.in-Err-enter-2.ensures.still
+returns-in-Err-enter-2-clause-still g t c = grows_then _ _ _ _ _ _ c.in-Ok-open_node.ensures.grows c.in-Err-enter-2.ensures.still
 
 pub with_right-requires-clause-at : goal.with_right-requires-clause-at
 with_right-requires-clause-at g t c = c.in-Ok-enter-2.ensures.held.nodes _ (c.in-Ok-open_node.ensures.grows.nodes _ (subst (λ i. IfSome i (IsNode c.args.sw.now)) c.in-Some.is c.requires.root))
@@ -208,13 +210,13 @@ pub returns-in-Err-clause-brings : goal.returns-in-Err-clause-brings
 returns-in-Err-clause-brings g t c = brings_more _ _ 1 _ (omega (arith, c.requires.some)) c.make_node.ensures.brings
 
 pub returns-in-Err-clause-still : goal.returns-in-Err-clause-still
-returns-in-Err-clause-still g t c = subst (Keeps c.args.sw.now) (sym c.in-Err.ensures.made.stays) (keeps-refl c.args.sw.now)
+returns-in-Err-clause-still g t c = subst (λ (x : Heap). Grows c.args.sw.now x (g.V.Vault.outside c.args.vault.now) (g.V.Vault.outside c.args.vault.now)) (sym c.in-Err.ensures.made.stays) (grows_none c.args.sw.now (g.V.Vault.outside c.args.vault.now) c.sound.ensures)
 
 pub returns-then-height-eq0-clause-brings : goal.returns-then-height-eq0-clause-brings
 returns-then-height-eq0-clause-brings g t c = brings_none c.args.sw.now _
 
 pub returns-then-height-eq0-clause-still : goal.returns-then-height-eq0-clause-still
-returns-then-height-eq0-clause-still g t c = keeps-refl c.args.sw.now
+returns-then-height-eq0-clause-still g t c = grows_none c.args.sw.now (g.V.Vault.outside c.args.vault.now) c.sound.ensures
 
 pub returns-in-Err-open_node-clause-brings : goal.returns-in-Err-open_node-clause-brings
 returns-in-Err-open_node-clause-brings g t c = brings_more _ _ 2 _ (omega (arith, c.requires.some)) c.open_node.ensures.brings
@@ -242,3 +244,9 @@ returns-in-Err-enter-clause-fault g t c = change_fault_back (g.V.Vault.outside c
 
 pub returns-in-Err-enter-2-clause-fault : goal.returns-in-Err-enter-2-clause-fault
 returns-in-Err-enter-2-clause-fault g t c = change_fault_back (g.V.Vault.outside c.args.vault.now) (g.V.Vault.outside c.open_node.new.vault) _ _ c.in-Err-enter-2.fault c.in-Ok-open_node.ensures.grows.leaves c.in-Err-enter-2.ensures.fault
+
+pub returns-in-Ok-enter-clause-leaves : goal.returns-in-Ok-enter-clause-leaves
+returns-in-Ok-enter-clause-leaves g t c = leaves-then _ _ _ c.in-Ok-open_node.ensures.grows.leaves c.in-Ok-enter.ensures.leaves
+
+pub returns-in-Ok-enter-2-clause-leaves : goal.returns-in-Ok-enter-2-clause-leaves
+returns-in-Ok-enter-2-clause-leaves g t c = leaves-then _ _ _ c.in-Ok-open_node.ensures.grows.leaves c.in-Ok-enter-2.ensures.leaves

@@ -1,13 +1,14 @@
-use Rattle.std.proofs.Common.{◌-◌, arith, Option, Some, ℕ, refl, subst, inl}
+use Rattle.std.proofs.Common.{◌∙◌, ◌-◌, arith, Option, Some, ℕ, refl, subst, inl}
 use Rattle.std.specs.declared.cmp.Ordering.TheVariants.{Less}
 use Rattle.heap_places.proofs.of_swizzle.TouchLaws.{keeps-refl, keeps-trans}
 use Rattle.table_nodes.specs.Sought.{keys_of}
 use Rattle.table_nodes.specs.Steps.{place}
 use Rattle.table_nodes.proofs.BringLaws.{brings_more, brings_none, brings_touched}
-use Rattle.table_nodes.proofs.NodeLaws.{fetch_back}
+use Rattle.table_nodes.proofs.SeenLaws.{fetch_back}
 use Rattle.table_nodes.proofs.StepLaws.{touches_none, touches_then}
 use Rattle.table_nodes.proofs.FollowLaws.{Following, following_whole, at_turn, following_none, height_at, following_on}
 use Rattle.table_nodes.proofs.FaultLaws.{node_fault_back, height_tested, the_node}
+use Rattle.table_nodes.proofs.NodeLaws.{grows_then}
 use Rattle.table_nodes.proofs.follow.first.Goals as goal
 
 pub returns-in-Err-clause-begins : goal.returns-in-Err-clause-begins
@@ -15,7 +16,7 @@ returns-in-Err-clause-begins g c t h low =
     let ks = keys_of c.args.keys in
     let now = place c.loop-at.sw (g.V.Vault.outside c.loop-at.vault) in
     let s = at_turn ks (λ a. Less) now c.in-Some.node c.loop-at.last c.loop-at.span c.loop-at.bound t (subst (λ (i : Option ℕ). Following ks (λ a. Less) now i c.loop-at.last c.loop-at.span c.loop-at.bound t) c.in-Some.is (c.loop-at.invariant.begins t h low)) in
-    fetch_back (g.V.Vault.outside c.args.vault.now) now.outside c.in-Err.fault c.loop-at.invariant.grows.leaves.contents (c.in-Err.ensures.begins s.x s.b s.y s.stands s.name s.rising s.within)
+    fetch_back c.args.sw.now now.heap (g.V.Vault.outside c.args.vault.now) now.outside c.in-Err.fault c.loop-at.invariant.grows (c.in-Err.ensures.begins s.x s.b s.y s.stands s.name s.rising s.within)
 
 pub loop-at-preserved : goal.loop-at-preserved
 loop-at-preserved g c =
@@ -33,6 +34,7 @@ loop-at-preserved g c =
       within = omega (arith, c.if-height-bound.false, c.loop-at.invariant.within);
       brings = brings_touched old.heap now.heap m.heap (c.args.bound - c.loop-at.bound) 1 _ c.in-Ok.ensures.keeps (omega (arith, c.if-height-bound.false, c.loop-at.invariant.within)) c.loop-at.invariant.brings c.go_first.ensures.brings;
       alive = c.in-Ok.ensures.alive;
+      numbers = (c.in-Ok.ensures.numbers.0 ∙ c.loop-at.invariant.numbers.0, c.in-Ok.ensures.numbers.1 ∙ c.loop-at.invariant.numbers.1, c.in-Ok.ensures.numbers.2 ∙ c.loop-at.invariant.numbers.2, c.in-Ok.ensures.numbers.3 ∙ c.loop-at.invariant.numbers.3);
       begins = λ t h low.
           let s = at_turn ks (λ a. Less) now c.in-Some.node c.loop-at.last c.loop-at.span c.loop-at.bound t (subst (λ (i : Option ℕ). Following ks (λ a. Less) now i c.loop-at.last c.loop-at.span c.loop-at.bound t) c.in-Some.is (c.loop-at.invariant.begins t h low)) in
           let e = height_at ks (λ a. Less) now c.in-Some.node c.loop-at.last c.loop-at.span c.loop-at.bound t s c.height-height.result (c.height-height.ensures.some ks) in
@@ -59,10 +61,10 @@ pub returns-then-height-eq0-clause-brings : goal.returns-then-height-eq0-clause-
 returns-then-height-eq0-clause-brings g c = brings_more _ _ _ _ (omega (arith, c.loop-at.invariant.some, c.loop-at.invariant.within)) c.loop-at.invariant.brings
 
 pub returns-in-Err-clause-brings : goal.returns-in-Err-clause-brings
-returns-in-Err-clause-brings g c = brings_touched _ _ _ (c.args.bound - c.loop-at.bound) 1 _ c.in-Err.ensures.still (omega (arith, c.if-height-eq0.false, c.if-height-bound.false, c.loop-at.invariant.within)) c.loop-at.invariant.brings c.go_first.ensures.brings
+returns-in-Err-clause-brings g c = brings_touched _ _ _ (c.args.bound - c.loop-at.bound) 1 _ c.in-Err.ensures.still.keeps (omega (arith, c.if-height-eq0.false, c.if-height-bound.false, c.loop-at.invariant.within)) c.loop-at.invariant.brings c.go_first.ensures.brings
 
 pub returns-in-Err-clause-still : goal.returns-in-Err-clause-still
-returns-in-Err-clause-still g c = keeps-trans _ _ _ c.loop-at.invariant.keeps c.in-Err.ensures.still
+returns-in-Err-clause-still g c = grows_then _ _ _ _ _ _ c.loop-at.invariant.grows c.in-Err.ensures.still
 
 pub returns-clause-brings : goal.returns-clause-brings
 returns-clause-brings g c = brings_more _ _ _ _ (omega (arith, c.loop-at.invariant.some, c.loop-at.invariant.within)) c.loop-at.invariant.brings
@@ -87,5 +89,6 @@ loop-at-init g c =
       within = omega arith;
       brings = brings_none c.args.sw.now _;
       alive = c.requires.alive;
+      numbers = (refl, refl, refl, refl);
       begins = λ t h low. following_whole (keys_of c.args.keys) (λ a. Less) old c.args.root c.args.bound t h low;
     }

@@ -1,6 +1,7 @@
 -- The least key of the tree is that of the part that is left, which is lower than the bound, or else that of the last node.
 use Rattle.std.proofs.Common.{◌-◌, ◌≤◌, ◌<◌, IfSome}
 use Rattle.std.specs.declared.cmp.Ordering.TheVariants.{Less}
+use Rattle.heap_places.specs.obj_layout.Storing.{SameNumbers}
 use Rattle.heap_places.specs.swizzle.Touch.{Keeps}
 use Rattle.avl_trees.specs.Trees.{Tree, height}
 use Rattle.table_nodes.specs.Bringing.{Brings}
@@ -28,6 +29,7 @@ invariant-loop-at g l =
       within : l.bound ≤ l.initial.bound;
       brings : Brings l.initial.sw l.sw (l.initial.bound - l.bound);
       alive : g.V.Vault.alive l.vault;
+      numbers : SameNumbers g.V.Vault.used_words g.V.Vault.directory_at g.V.Vault.most_words g.V.Vault.access l.initial.vault l.vault;
       begins : (t : Tree (I ks)) → IsTree ks old l.fn.root t → height t < l.initial.bound → Following ks (λ a. Less) now l.at l.last l.span l.bound t;
     }
 

@@ -6,12 +6,12 @@ use Rattle.avl_trees.specs.Standing.{row_of}
 use Rattle.avl_trees.proofs.Standing.{stands_grown}
 use Rattle.table_nodes.specs.Sought.{kind_of}
 use Rattle.table_nodes.specs.Steps.{place, rows_of}
-use Rattle.table_nodes.proofs.NodeLaws.{fetch_back}
+use Rattle.table_nodes.proofs.SeenLaws.{fetch_back}
 use Rattle.table_nodes.proofs.StepLaws.{is_side, touches_then}
-use Rattle.heap_places.proofs.of_swizzle.TouchLaws.{keeps-trans}
 use Rattle.table_nodes.proofs.BringLaws.{brings_touched}
 use Rattle.table_nodes.proofs.FaultLaws.{node_fault_back}
 use Rattle.table_nodes.proofs.SpanLaws.{span_kept, within_kept}
+use Rattle.table_nodes.proofs.NodeLaws.{grows_then}
 use Rattle.table_nodes.proofs.follow.go_on.Goals as goal
 
 pub returns-in-Err-clause-turns : goal.returns-in-Err-clause-turns
@@ -33,7 +33,7 @@ returns-in-Err-side-clause-turns g c x b y s named rising within =
     let p = place c.args.sw.now (g.V.Vault.outside c.args.vault.now) in
     let m = place c.place_key.new.sw (g.V.Vault.outside c.place_key.new.vault) in
     let t = stands_grown (rows_of ks p) (rows_of ks m) (c.in-Ok.ensures.grows.rows ks) (node x b y) s in
-    fetch_back p.outside m.outside c.in-Err-side.fault c.in-Ok.ensures.grows.leaves.contents
+    fetch_back p.heap m.heap p.outside m.outside c.in-Err-side.fault c.in-Ok.ensures.grows
     (c.in-Err-side.ensures.sound ks b.name (row_of x b y) (c.in-Ok.ensures.grows.named c.args.at b.name named) t.0 (is_side ks m x t.1))
 
 pub returns-in-Ok-side-2-clause-turns : goal.returns-in-Ok-side-2-clause-turns
@@ -52,7 +52,7 @@ returns-in-Err-side-2-clause-turns g c x b y s named rising within =
     let p = place c.args.sw.now (g.V.Vault.outside c.args.vault.now) in
     let m = place c.place_key.new.sw (g.V.Vault.outside c.place_key.new.vault) in
     let t = stands_grown (rows_of ks p) (rows_of ks m) (c.in-Ok.ensures.grows.rows ks) (node x b y) s in
-    fetch_back p.outside m.outside c.in-Err-side-2.fault c.in-Ok.ensures.grows.leaves.contents
+    fetch_back p.heap m.heap p.outside m.outside c.in-Err-side-2.fault c.in-Ok.ensures.grows
     (c.in-Err-side-2.ensures.sound ks b.name (row_of x b y) (c.in-Ok.ensures.grows.named c.args.at b.name named) t.0 (is_side ks m y t.2))
 
 pub returns-in-Ok-side-clause-grows : goal.returns-in-Ok-side-clause-grows
@@ -65,19 +65,19 @@ pub returns-in-Ok-side-clause-brings : goal.returns-in-Ok-side-clause-brings
 returns-in-Ok-side-clause-brings g c = brings_touched _ _ _ 0 1 1 c.in-Ok-side.ensures.keeps (omega arith) c.in-Ok.ensures.brings c.side.ensures.brings
 
 pub returns-in-Err-side-clause-brings : goal.returns-in-Err-side-clause-brings
-returns-in-Err-side-clause-brings g c = brings_touched _ _ _ 0 1 1 c.in-Err-side.ensures.still (omega arith) c.in-Ok.ensures.brings c.side.ensures.brings
+returns-in-Err-side-clause-brings g c = brings_touched _ _ _ 0 1 1 c.in-Err-side.ensures.still.keeps (omega arith) c.in-Ok.ensures.brings c.side.ensures.brings
 
 pub returns-in-Err-side-clause-still : goal.returns-in-Err-side-clause-still
-returns-in-Err-side-clause-still g c = keeps-trans _ _ _ c.in-Ok.ensures.keeps c.in-Err-side.ensures.still
+returns-in-Err-side-clause-still g c = grows_then _ _ _ _ _ _ c.in-Ok.ensures.grows c.in-Err-side.ensures.still
 
 pub returns-in-Ok-side-2-clause-brings : goal.returns-in-Ok-side-2-clause-brings
 returns-in-Ok-side-2-clause-brings g c = brings_touched _ _ _ 0 1 1 c.in-Ok-side-2.ensures.keeps (omega arith) c.in-Ok.ensures.brings c.side-2.ensures.brings
 
 pub returns-in-Err-side-2-clause-brings : goal.returns-in-Err-side-2-clause-brings
-returns-in-Err-side-2-clause-brings g c = brings_touched _ _ _ 0 1 1 c.in-Err-side-2.ensures.still (omega arith) c.in-Ok.ensures.brings c.side-2.ensures.brings
+returns-in-Err-side-2-clause-brings g c = brings_touched _ _ _ 0 1 1 c.in-Err-side-2.ensures.still.keeps (omega arith) c.in-Ok.ensures.brings c.side-2.ensures.brings
 
 pub returns-in-Err-side-2-clause-still : goal.returns-in-Err-side-2-clause-still
-returns-in-Err-side-2-clause-still g c = keeps-trans _ _ _ c.in-Ok.ensures.keeps c.in-Err-side-2.ensures.still
+returns-in-Err-side-2-clause-still g c = grows_then _ _ _ _ _ _ c.in-Ok.ensures.grows c.in-Err-side-2.ensures.still
 
 pub returns-in-Err-side-clause-fault : goal.returns-in-Err-side-clause-fault
 returns-in-Err-side-clause-fault g c = node_fault_back (g.V.Vault.outside c.args.vault.now) (g.V.Vault.outside c.place_key.new.vault) _ _ c.in-Err-side.fault c.in-Ok.ensures.grows.leaves c.in-Err-side.ensures.fault

@@ -6,11 +6,12 @@ use Rattle.table_nodes.specs.Sought.{kind_of, key_in}
 use Rattle.table_nodes.specs.Steps.{place}
 use Rattle.table_nodes.specs.Following.{IsTurn}
 use Rattle.table_nodes.proofs.BringLaws.{brings_more, brings_none, brings_touched}
-use Rattle.table_nodes.proofs.NodeLaws.{fetch_back}
+use Rattle.table_nodes.proofs.SeenLaws.{fetch_back}
 use Rattle.table_nodes.proofs.SoughtLaws.{key_held_kept, key_in_kept}
 use Rattle.table_nodes.proofs.StepLaws.{touches_none, touches_then}
 use Rattle.table_nodes.proofs.FollowLaws.{Following, following_whole, at_turn, following_none, height_at, following_on}
 use Rattle.table_nodes.proofs.FaultLaws.{node_fault_back, height_tested, the_node}
+use Rattle.table_nodes.proofs.NodeLaws.{grows_then}
 use Rattle.table_nodes.proofs.follow.next.Goals as goal
 
 pub returns-in-Err-clause-follows : goal.returns-in-Err-clause-follows
@@ -19,7 +20,7 @@ returns-in-Err-clause-follows g c t h low =
     let wanted = key_in c.args.sw.now c.args.key in
     let now = place c.loop-at.sw (g.V.Vault.outside c.loop-at.vault) in
     let s = at_turn ks (seek (order_by ks) wanted) now c.in-Some.node c.loop-at.last c.loop-at.span c.loop-at.bound t (subst (λ (i : Option ℕ). Following ks (seek (order_by ks) wanted) now i c.loop-at.last c.loop-at.span c.loop-at.bound t) c.in-Some.is (c.loop-at.invariant.follows t h low)) in
-    fetch_back (g.V.Vault.outside c.args.vault.now) now.outside c.in-Err.fault c.loop-at.invariant.grows.leaves.contents (c.in-Err.ensures.turns s.x s.b s.y s.stands s.name s.rising s.within)
+    fetch_back c.args.sw.now now.heap (g.V.Vault.outside c.args.vault.now) now.outside c.in-Err.fault c.loop-at.invariant.grows (c.in-Err.ensures.turns s.x s.b s.y s.stands s.name s.rising s.within)
 
 pub loop-at-preserved : goal.loop-at-preserved
 loop-at-preserved g c =
@@ -40,6 +41,7 @@ loop-at-preserved g c =
       within = omega (arith, c.if-height-bound.false, c.loop-at.invariant.within);
       brings = brings_touched old.heap now.heap m.heap (c.args.bound - c.loop-at.bound) 1 _ c.in-Ok.ensures.keeps (omega (arith, c.if-height-bound.false, c.loop-at.invariant.within)) c.loop-at.invariant.brings c.go_on.ensures.brings;
       alive = c.in-Ok.ensures.alive;
+      numbers = (c.in-Ok.ensures.numbers.0 ∙ c.loop-at.invariant.numbers.0, c.in-Ok.ensures.numbers.1 ∙ c.loop-at.invariant.numbers.1, c.in-Ok.ensures.numbers.2 ∙ c.loop-at.invariant.numbers.2, c.in-Ok.ensures.numbers.3 ∙ c.loop-at.invariant.numbers.3);
       follows = λ t h low.
           let s = at_turn ks (seek (order_by ks) wanted) now c.in-Some.node c.loop-at.last c.loop-at.span c.loop-at.bound t (subst (λ (i : Option ℕ). Following ks (seek (order_by ks) wanted) now i c.loop-at.last c.loop-at.span c.loop-at.bound t) c.in-Some.is (c.loop-at.invariant.follows t h low)) in
           let e = height_at ks (seek (order_by ks) wanted) now c.in-Some.node c.loop-at.last c.loop-at.span c.loop-at.bound t s c.height-height.result (c.height-height.ensures.some ks) in
@@ -68,10 +70,10 @@ pub returns-then-height-eq0-clause-brings : goal.returns-then-height-eq0-clause-
 returns-then-height-eq0-clause-brings g c = brings_more _ _ _ _ (omega (arith, c.loop-at.invariant.some, c.loop-at.invariant.within)) c.loop-at.invariant.brings
 
 pub returns-in-Err-clause-brings : goal.returns-in-Err-clause-brings
-returns-in-Err-clause-brings g c = brings_touched _ _ _ (c.args.bound - c.loop-at.bound) 1 _ c.in-Err.ensures.still (omega (arith, c.if-height-eq0.false, c.if-height-bound.false, c.loop-at.invariant.within)) c.loop-at.invariant.brings c.go_on.ensures.brings
+returns-in-Err-clause-brings g c = brings_touched _ _ _ (c.args.bound - c.loop-at.bound) 1 _ c.in-Err.ensures.still.keeps (omega (arith, c.if-height-eq0.false, c.if-height-bound.false, c.loop-at.invariant.within)) c.loop-at.invariant.brings c.go_on.ensures.brings
 
 pub returns-in-Err-clause-still : goal.returns-in-Err-clause-still
-returns-in-Err-clause-still g c = keeps-trans _ _ _ c.loop-at.invariant.keeps c.in-Err.ensures.still
+returns-in-Err-clause-still g c = grows_then _ _ _ _ _ _ c.loop-at.invariant.grows c.in-Err.ensures.still
 
 pub returns-clause-brings : goal.returns-clause-brings
 returns-clause-brings g c = brings_more _ _ _ _ (omega (arith, c.loop-at.invariant.some, c.loop-at.invariant.within)) c.loop-at.invariant.brings
@@ -98,5 +100,6 @@ loop-at-init g c =
       within = omega arith;
       brings = brings_none c.args.sw.now _;
       alive = c.requires.alive;
+      numbers = (refl, refl, refl, refl);
       follows = λ t h low. following_whole (kind_of c.args.key) (seek (order_by (kind_of c.args.key)) (key_in c.args.sw.now c.args.key)) old c.args.root c.args.bound t h low;
     }

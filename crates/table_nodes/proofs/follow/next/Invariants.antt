@@ -1,5 +1,6 @@
 -- The next key of the tree is that of the part that is left, which is lower than the bound, or else the last one above.
 use Rattle.std.proofs.Common.{◌≡◌, ◌-◌, ◌≤◌, ◌<◌, IfSome}
+use Rattle.heap_places.specs.obj_layout.Storing.{SameNumbers}
 use Rattle.heap_places.specs.swizzle.Touch.{Keeps}
 use Rattle.avl_trees.specs.Trees.{Tree, height}
 use Rattle.avl_trees.specs.Standing.{seek}
@@ -32,6 +33,7 @@ invariant-loop-at g l =
       within : l.bound ≤ l.initial.bound;
       brings : Brings l.initial.sw l.sw (l.initial.bound - l.bound);
       alive : g.V.Vault.alive l.vault;
+      numbers : SameNumbers g.V.Vault.used_words g.V.Vault.directory_at g.V.Vault.most_words g.V.Vault.access l.initial.vault l.vault;
       follows : (t : Tree (I ks)) → IsTree ks old l.fn.root t → height t < l.initial.bound → Following ks (seek (order_by ks) wanted) now l.at l.last l.span l.bound t;
     }
 

@@ -4,9 +4,14 @@ use Rattle.heap_places.specs.obj_layout.declared.kind.Kind.TheVariants.{Text as 
 use Rattle.heap_places.specs.swizzle.Heap.{header_at, ref_at, reference_to}
 use Rattle.heap_places.specs.swizzle.Joint.{name_of}
 use Rattle.heap_places.specs.swizzle.Touch.{Denotes}
-use Rattle.table_nodes.proofs.NodeLaws.{grows_touch}
+use Rattle.table_nodes.proofs.NodeLaws.{seat_at, grows_touch, grows_refused}
 use Rattle.table_nodes.proofs.SoughtLaws.{text_of_key, text_not_nil}
-use Rattle.table_nodes.proofs.BringLaws.{brings_only, brings_other, brings_same, keeps_same}
+use Rattle.heap_places.specs.obj_layout.declared.reference.Reference.{Reference}
+use Rattle.heap_places.proofs.PlaceLaws.{slot-name}
+use Rattle.node_rows.specs.Keys.{by_texts}
+use Rattle.table_nodes.specs.Nodes.{seen}
+use Rattle.table_nodes.proofs.SeenLaws.{touch_failed_seen}
+use Rattle.table_nodes.proofs.BringLaws.{brings_only, brings_other, brings_same}
 use Rattle.table_nodes.specs.Faults.{misfit, no_key, no_text}
 use Rattle.table_nodes.proofs.FaultLaws.{touch_failed}
 use Rattle.table_nodes.proofs.SpanLaws.{slot_shown}
@@ -47,7 +52,7 @@ pub returns-in-Err-clause-brings : goal.returns-in-Err-clause-brings
 returns-in-Err-clause-brings g c = brings_same _ _ 1 c.in-Err.ensures.refused
 
 pub returns-in-Err-clause-still : goal.returns-in-Err-clause-still
-returns-in-Err-clause-still g c = keeps_same _ _ c.in-Err.ensures.refused
+returns-in-Err-clause-still g c = grows_refused _ _ _ _ c.sound.ensures c.in-Err.ensures.call c.in-Err.ensures.refused
 
 pub returns-else-eq-clause-fault : goal.returns-else-eq-clause-fault
 returns-else-eq-clause-fault g c = misfit c.in-Ok-Some.text _ _ (subst (λ (t : Option ℕ). Denotes c.touch_slot.new.self t (name_of c.args.sw.now (ref_at c.args.sw.now c.args.at 2))) c.in-Ok-Some.field-0-is c.in-Ok-Some.ensures.target).0 (no_text (λ k. absurd (grind (arith, common_steps, k))) (grind (arith, common_steps)) refl) c.damaged.ensures
@@ -63,3 +68,16 @@ returns-in-Err-clause-fault g c = touch_failed (g.V.Vault.outside c.args.vault.n
 pub returns-then-eq-clause-slot : goal.returns-then-eq-clause-slot
 returns-then-eq-clause-slot g c = slot_shown c.args.sw.now c.touch_slot.new.self c.args.at 2 c.in-Ok-Some.text c.in-Ok-Some.ensures.keeps c.requires.node.held
     (subst (λ (t : Option ℕ). Denotes c.touch_slot.new.self t (name_of c.args.sw.now (ref_at c.args.sw.now c.args.at 2))) c.in-Ok-Some.field-0-is c.in-Ok-Some.ensures.target)
+
+pub returns-else-eq-clause-still : goal.returns-else-eq-clause-still
+returns-else-eq-clause-still g c = grows_touch c.args.sw.now c.touch_slot.new.self (g.V.Vault.outside c.args.vault.now) (g.V.Vault.outside c.touch_slot.new.vault) _ c.sound.ensures c.sound-in-Ok-Some.ensures c.in-Ok-Some.ensures.call c.in-Ok-Some.ensures.keeps c.in-Ok-Some.ensures.joint
+
+pub returns-in-Ok-None-clause-still : goal.returns-in-Ok-None-clause-still
+returns-in-Ok-None-clause-still g c = grows_touch c.args.sw.now c.touch_slot.new.self (g.V.Vault.outside c.args.vault.now) (g.V.Vault.outside c.touch_slot.new.vault) _ c.sound.ensures c.sound-in-Ok-None.ensures c.in-Ok-None.ensures.call c.in-Ok-None.ensures.keeps c.in-Ok-None.ensures.joint
+
+pub returns-in-Err-clause-read : goal.returns-in-Err-clause-read
+returns-in-Err-clause-read g c n row named r =
+    let a = g.V.Vault.outside c.args.vault.now in
+    let k = (seat_at by_texts c.args.sw.now a c.args.at n row c.sound.ensures named r).key in
+    touch_failed_seen c.args.sw.now c.touch_slot.new.self a (g.V.Vault.outside c.touch_slot.new.vault) (ref_at c.args.sw.now c.args.at 2) c.in-Err.fault c.sound.ensures
+    (λ pid f. record { it = k.it; is = subst (λ (m : Reference). seen c.args.sw.now a m k.it) (slot-name c.args.sw.now c.args.at 2) k.there }) c.in-Err.ensures.fault c.in-Err.ensures.call

@@ -3,8 +3,12 @@ use Rattle.heap_places.specs.swizzle.Heap.{ref_at, reference_to}
 use Rattle.heap_places.specs.swizzle.Joint.{name_of}
 use Rattle.heap_places.specs.swizzle.Touch.{Denotes}
 use Rattle.heap_places.proofs.PlaceLaws.{slot-name}
-use Rattle.table_nodes.proofs.NodeLaws.{seat_at, grows_touch}
-use Rattle.table_nodes.proofs.BringLaws.{brings_only, brings_same, keeps_same}
+use Rattle.table_nodes.proofs.NodeLaws.{seat_at, grows_touch, grows_refused}
+use Rattle.heap_places.specs.obj_layout.declared.reference.Reference.{Reference}
+use Rattle.heap_places.specs.swizzle.Changes.{IsKnown}
+use Rattle.table_nodes.specs.Nodes.{seen}
+use Rattle.table_nodes.proofs.SeenLaws.{touch_failed_seen}
+use Rattle.table_nodes.proofs.BringLaws.{brings_only, brings_same}
 use Rattle.table_nodes.specs.Faults.{misfit, no_value}
 use Rattle.table_nodes.proofs.FaultLaws.{touch_failed}
 use Rattle.table_nodes.proofs.SpanLaws.{slot_shown}
@@ -35,7 +39,7 @@ pub returns-in-Err-clause-brings : goal.returns-in-Err-clause-brings
 returns-in-Err-clause-brings g c = brings_same _ _ 1 c.in-Err.ensures.refused
 
 pub returns-in-Err-clause-still : goal.returns-in-Err-clause-still
-returns-in-Err-clause-still g c = keeps_same _ _ c.in-Err.ensures.refused
+returns-in-Err-clause-still g c = grows_refused _ _ _ _ c.sound.ensures c.in-Err.ensures.call c.in-Err.ensures.refused
 
 pub returns-in-Ok-None-clause-fault : goal.returns-in-Ok-None-clause-fault
 returns-in-Ok-None-clause-fault g c =
@@ -48,3 +52,14 @@ returns-in-Err-clause-fault g c = touch_failed (g.V.Vault.outside c.args.vault.n
 pub returns-in-Ok-Some-clause-slot : goal.returns-in-Ok-Some-clause-slot
 returns-in-Ok-Some-clause-slot g c = slot_shown c.args.sw.now c.touch_slot.new.self c.args.at 3 c.in-Ok-Some.value c.in-Ok-Some.ensures.keeps c.requires.node.held
     (subst (λ (t : Option ℕ). Denotes c.touch_slot.new.self t (name_of c.args.sw.now (ref_at c.args.sw.now c.args.at 3))) c.in-Ok-Some.field-0-is c.in-Ok-Some.ensures.target)
+
+pub returns-in-Ok-None-clause-still : goal.returns-in-Ok-None-clause-still
+returns-in-Ok-None-clause-still g c = grows_touch c.args.sw.now c.touch_slot.new.self (g.V.Vault.outside c.args.vault.now) (g.V.Vault.outside c.touch_slot.new.vault) _ c.sound.ensures c.sound-in-Ok-None.ensures c.in-Ok-None.ensures.call c.in-Ok-None.ensures.keeps c.in-Ok-None.ensures.joint
+
+pub returns-in-Err-clause-read : goal.returns-in-Err-clause-read
+returns-in-Err-clause-read g c ks n row named r some known =
+    let a = g.V.Vault.outside c.args.vault.now in
+    let s = seat_at ks c.args.sw.now a c.args.at n row c.sound.ensures named r in
+    let e = sym s.value ∙ slot-name c.args.sw.now c.args.at 3 in
+    touch_failed_seen c.args.sw.now c.touch_slot.new.self a (g.V.Vault.outside c.touch_slot.new.vault) (ref_at c.args.sw.now c.args.at 3) c.in-Err.fault c.sound.ensures
+    (λ pid f. subst (λ (m : Reference). IsKnown (seen c.args.sw.now a) m) e known) c.in-Err.ensures.fault c.in-Err.ensures.call

@@ -4,12 +4,13 @@ use Rattle.avl_trees.specs.Standing.{row_of, root_of}
 use Rattle.avl_trees.proofs.Standing.{stands_grown}
 use Rattle.table_nodes.specs.Sought.{kind_of}
 use Rattle.table_nodes.specs.Steps.{place, rows_of}
-use Rattle.table_nodes.proofs.NodeLaws.{fetch_back}
+use Rattle.table_nodes.proofs.SeenLaws.{fetch_back}
 use Rattle.table_nodes.proofs.StepLaws.{is_side, linked_kept, touches_then}
 use Rattle.heap_places.proofs.of_swizzle.TouchLaws.{keeps-trans}
 use Rattle.table_nodes.proofs.BringLaws.{brings_more, brings_touched}
 use Rattle.table_nodes.proofs.FaultLaws.{node_fault_back}
 use Rattle.table_nodes.proofs.SpanLaws.{span_kept, within_kept}
+use Rattle.table_nodes.proofs.NodeLaws.{grows_then}
 use Rattle.table_nodes.proofs.opening.open_node.Goals as goal
 
 pub returns-in-Err-clause-opens : goal.returns-in-Err-clause-opens
@@ -21,7 +22,7 @@ returns-in-Err-side-clause-opens g c x b y s named rising within =
     let p = place c.args.sw.now (g.V.Vault.outside c.args.vault.now) in
     let m = place c.place_key.new.sw (g.V.Vault.outside c.place_key.new.vault) in
     let t = stands_grown (rows_of ks p) (rows_of ks m) (c.in-Ok.ensures.grows.rows ks) (node x b y) s in
-    fetch_back p.outside m.outside c.in-Err-side.fault c.in-Ok.ensures.grows.leaves.contents
+    fetch_back p.heap m.heap p.outside m.outside c.in-Err-side.fault c.in-Ok.ensures.grows
     (c.in-Err-side.ensures.sound ks b.name (row_of x b y) (c.in-Ok.ensures.grows.named c.args.at b.name named) t.0 (is_side ks m x t.1))
 
 pub returns-in-Err-side-2-clause-opens : goal.returns-in-Err-side-2-clause-opens
@@ -31,8 +32,8 @@ returns-in-Err-side-2-clause-opens g c x b y s named rising within =
     let m = place c.place_key.new.sw (g.V.Vault.outside c.place_key.new.vault) in
     let m1 = place c.side.new.sw (g.V.Vault.outside c.side.new.vault) in
     let t = stands_grown (rows_of ks m) (rows_of ks m1) (c.in-Ok-side.ensures.grows.rows ks) (node x b y) (stands_grown (rows_of ks p) (rows_of ks m) (c.in-Ok.ensures.grows.rows ks) (node x b y) s) in
-    fetch_back p.outside m.outside c.in-Err-side-2.fault c.in-Ok.ensures.grows.leaves.contents
-    (fetch_back m.outside m1.outside c.in-Err-side-2.fault c.in-Ok-side.ensures.grows.leaves.contents
+    fetch_back p.heap m.heap p.outside m.outside c.in-Err-side-2.fault c.in-Ok.ensures.grows
+    (fetch_back m.heap m1.heap m.outside m1.outside c.in-Err-side-2.fault c.in-Ok-side.ensures.grows
     (c.in-Err-side-2.ensures.sound ks b.name (row_of x b y) (c.in-Ok-side.ensures.grows.named c.args.at b.name (c.in-Ok.ensures.grows.named c.args.at b.name named)) t.0 (is_side ks m1 y t.2)))
 
 pub returns-clause-opens : goal.returns-clause-opens
@@ -61,19 +62,19 @@ pub returns-in-Err-clause-brings : goal.returns-in-Err-clause-brings
 returns-in-Err-clause-brings g c = brings_more _ _ 1 2 (omega arith) c.in-Err.ensures.brings
 
 pub returns-in-Err-side-clause-brings : goal.returns-in-Err-side-clause-brings
-returns-in-Err-side-clause-brings g c = brings_touched _ _ _ 0 1 2 c.in-Err-side.ensures.still (omega arith) c.in-Ok.ensures.brings c.side.ensures.brings
+returns-in-Err-side-clause-brings g c = brings_touched _ _ _ 0 1 2 c.in-Err-side.ensures.still.keeps (omega arith) c.in-Ok.ensures.brings c.side.ensures.brings
 
 pub returns-in-Err-side-2-clause-brings : goal.returns-in-Err-side-2-clause-brings
-returns-in-Err-side-2-clause-brings g c = brings_touched _ _ _ 1 1 2 c.in-Err-side-2.ensures.still (omega arith) (brings_touched _ _ _ 0 1 1 c.in-Ok-side.ensures.keeps (omega arith) c.in-Ok.ensures.brings c.side.ensures.brings) c.side-2.ensures.brings
+returns-in-Err-side-2-clause-brings g c = brings_touched _ _ _ 1 1 2 c.in-Err-side-2.ensures.still.keeps (omega arith) (brings_touched _ _ _ 0 1 1 c.in-Ok-side.ensures.keeps (omega arith) c.in-Ok.ensures.brings c.side.ensures.brings) c.side-2.ensures.brings
 
 pub returns-clause-brings : goal.returns-clause-brings
 returns-clause-brings g c = brings_touched _ _ _ 1 1 2 c.in-Ok-side-2.ensures.keeps (omega arith) (brings_touched _ _ _ 0 1 1 c.in-Ok-side.ensures.keeps (omega arith) c.in-Ok.ensures.brings c.side.ensures.brings) c.side-2.ensures.brings
 
 pub returns-in-Err-side-clause-still : goal.returns-in-Err-side-clause-still
-returns-in-Err-side-clause-still g c = keeps-trans _ _ _ c.in-Ok.ensures.keeps c.in-Err-side.ensures.still
+returns-in-Err-side-clause-still g c = grows_then _ _ _ _ _ _ c.in-Ok.ensures.grows c.in-Err-side.ensures.still
 
 pub returns-in-Err-side-2-clause-still : goal.returns-in-Err-side-2-clause-still
-returns-in-Err-side-2-clause-still g c = keeps-trans _ _ _ (keeps-trans _ _ _ c.in-Ok.ensures.keeps c.in-Ok-side.ensures.keeps) c.in-Err-side-2.ensures.still
+returns-in-Err-side-2-clause-still g c = grows_then _ _ _ _ _ _ (grows_then _ _ _ _ _ _ c.in-Ok.ensures.grows c.in-Ok-side.ensures.grows) c.in-Err-side-2.ensures.still
 
 pub returns-in-Err-side-clause-fault : goal.returns-in-Err-side-clause-fault
 returns-in-Err-side-clause-fault g c = node_fault_back (g.V.Vault.outside c.args.vault.now) (g.V.Vault.outside c.place_key.new.vault) _ _ c.in-Err-side.fault c.in-Ok.ensures.grows.leaves c.in-Err-side.ensures.fault

@@ -2,13 +2,13 @@ use Rattle.std.proofs.Common.{w32, to_z, of_z, ◌≡◌, true, Some, Ok, Err, r
 use Rattle.heap_places.specs.ps_heap.Operators.{is_int}
 use Rattle.heap_places.specs.swizzle.Heap.{num_at}
 use Rattle.heap_places.specs.Words.{int_in}
-use Rattle.heap_places.proofs.of_swizzle.TouchLaws.{keeps-refl}
 use Rattle.table_nodes.specs.Sought.{keys_of}
 use Rattle.table_nodes.specs.Spans.{ReadsKey}
 use Rattle.table_nodes.specs.declared.keys.Key.TheVariants.{Int, Text}
 use Rattle.table_nodes.specs.Steps.{place}
 use Rattle.table_nodes.proofs.BringLaws.{brings_none}
 use Rattle.table_nodes.proofs.SoughtLaws.{int_key_same, int_read, int_same, same_ok}
+use Rattle.table_nodes.proofs.NodeLaws.{grows_none}
 use Rattle.table_nodes.proofs.placing.key_of.Goals as goal
 
 pub returns-in-Ok-clause-read : goal.returns-in-Ok-clause-read
@@ -39,7 +39,7 @@ pub returns-in-Err-clause-brings : goal.returns-in-Err-clause-brings
 returns-in-Err-clause-brings g c = brings_none _ 1
 
 pub returns-in-Err-clause-still : goal.returns-in-Err-clause-still
-returns-in-Err-clause-still g c = keeps-refl _
+returns-in-Err-clause-still g c = grows_none c.args.sw.now (g.V.Vault.outside c.args.vault.now) c.sound.ensures
 
 pub returns-in-Ok-clause-has : goal.returns-in-Ok-clause-has
 returns-in-Ok-clause-has g c =

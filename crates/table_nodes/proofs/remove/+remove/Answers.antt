@@ -2,11 +2,12 @@ use Rattle.std.proofs.Common.{rules, ◌+◌, ◌*◌, ◌-◌, Ok, refl, sym, �
 use Rattle.avl_trees.specs.Trees.{leaf, node}
 use Rattle.avl_trees.specs.Standing.{row_of}
 use Rattle.avl_trees.proofs.Standing.{stands_grown}
-use Rattle.heap_places.proofs.of_swizzle.TouchLaws.{keeps-refl, keeps-trans}
+use Rattle.heap_places.proofs.of_swizzle.ReadingLaws.{leaves-then}
+use Rattle.heap_places.proofs.of_swizzle.TouchLaws.{keeps-trans}
 use Rattle.table_nodes.specs.Sought.{kind_of, key_in}
 use Rattle.table_nodes.specs.Steps.{place, rows_of}
 use Rattle.table_nodes.proofs.BringLaws.{brings_more, brings_none, brings_then, brings_touched, brings_written, keeps_lasts}
-use Rattle.table_nodes.proofs.NodeLaws.{fetch_back}
+use Rattle.table_nodes.proofs.SeenLaws.{fetch_back}
 use Rattle.table_nodes.proofs.SoughtLaws.{key_in_kept}
 use Rattle.table_nodes.proofs.StepLaws.{place_touched, touches_then}
 use Rattle.table_nodes.proofs.Putting.{root_named, no_root, tree_left, tree_right}
@@ -15,6 +16,7 @@ use Rattle.table_nodes.proofs.Sparing.{spares_none, spares_then, spares_touched}
 use Rattle.table_nodes.proofs.WingLaws.{wing_held_kept}
 use Rattle.table_nodes.proofs.FaultLaws.{node_fault_back, height_tested, the_node}
 use Rattle.table_nodes.proofs.SpanLaws.{span_kept}
+use Rattle.table_nodes.proofs.NodeLaws.{grows_none, grows_then}
 use Rattle.table_nodes.proofs.remove.+remove.Goals as goal
 
 pub returns-in_default-clause-removed : goal.returns-in_default-clause-removed
@@ -52,7 +54,7 @@ returns-in-Err-open_right-clause-removed g t c (node x b y) p h within lower =
     let m0 = place c.open_node.new.sw (g.V.Vault.outside c.open_node.new.vault) in
     let o0 = c.in-Ok.ensures.opens x b y h.stands named h.rising within in
     let s = stands_grown (rows_of ks old) (rows_of ks m0) (c.in-Ok.ensures.grows.rows ks) (node x b y) h.stands in
-    fetch_back old.outside m0.outside c.in-Err-open_right.fault c.in-Ok.ensures.grows.leaves.contents (c.in-Err-open_right.ensures.wing ks x y s.1 s.2 o0.left o0.right (omega (arith, e)) (omega (arith, e)))
+    fetch_back old.heap m0.heap old.outside m0.outside c.in-Err-open_right.fault c.in-Ok.ensures.grows (c.in-Err-open_right.ensures.wing ks x y s.1 s.2 o0.left o0.right (omega (arith, e)) (omega (arith, e)))
 
 pub returns-in-Ok-remove-clause-removed : goal.returns-in-Ok-remove-clause-removed
 returns-in-Ok-remove-clause-removed g t c leaf p h within lower = absurd (no_root c.args.sw.now c.args.root c.in-Some.at c.in-Some.is h.root_is)
@@ -99,7 +101,7 @@ returns-in-Err-remove-clause-removed g t c (node x b y) p h within lower =
     let keeps = keeps-trans old.heap m0.heap m.heap c.in-Ok.ensures.keeps c.in-Ok-open_right.ensures.keeps in
     let same = key_in_kept old.heap m.heap c.args.key keeps c.requires.key in
     let side = tree_left ks old m c.args.root c.in-Ok.opened.left grows x b y h o.left in
-    fetch_back old.outside m.outside c.in-Err-remove.fault grows.leaves.contents (c.in-Err-remove.ensures.removed x here side (o.left_keys c.in-Less.is) ready.1)
+    fetch_back old.heap m.heap old.outside m.outside c.in-Err-remove.fault grows (c.in-Err-remove.ensures.removed x here side (o.left_keys c.in-Less.is) ready.1)
 
 pub returns-in-Err-open_left-clause-removed : goal.returns-in-Err-open_left-clause-removed
 returns-in-Err-open_left-clause-removed g t c leaf p h within lower = absurd (no_root c.args.sw.now c.args.root c.in-Some.at c.in-Some.is h.root_is)
@@ -112,7 +114,7 @@ returns-in-Err-open_left-clause-removed g t c (node x b y) p h within lower =
     let m0 = place c.open_node.new.sw (g.V.Vault.outside c.open_node.new.vault) in
     let o0 = c.in-Ok.ensures.opens x b y h.stands named h.rising within in
     let s = stands_grown (rows_of ks old) (rows_of ks m0) (c.in-Ok.ensures.grows.rows ks) (node x b y) h.stands in
-    fetch_back old.outside m0.outside c.in-Err-open_left.fault c.in-Ok.ensures.grows.leaves.contents (c.in-Err-open_left.ensures.wing ks y x s.2 s.1 o0.right o0.left (omega (arith, e)) (omega (arith, e)))
+    fetch_back old.heap m0.heap old.outside m0.outside c.in-Err-open_left.fault c.in-Ok.ensures.grows (c.in-Err-open_left.ensures.wing ks y x s.2 s.1 o0.right o0.left (omega (arith, e)) (omega (arith, e)))
 
 pub returns-in-Ok-remove-2-clause-removed : goal.returns-in-Ok-remove-2-clause-removed
 returns-in-Ok-remove-2-clause-removed g t c leaf p h within lower = absurd (no_root c.args.sw.now c.args.root c.in-Some.at c.in-Some.is h.root_is)
@@ -159,7 +161,7 @@ returns-in-Err-remove-2-clause-removed g t c (node x b y) p h within lower =
     let keeps = keeps-trans old.heap m0.heap m.heap c.in-Ok.ensures.keeps c.in-Ok-open_left.ensures.keeps in
     let same = key_in_kept old.heap m.heap c.args.key keeps c.requires.key in
     let side = tree_right ks old m c.args.root c.in-Ok.opened.right grows x b y h o.right in
-    fetch_back old.outside m.outside c.in-Err-remove-2.fault grows.leaves.contents (c.in-Err-remove-2.ensures.removed y here side (o.right_keys c.in-Greater.is) ready.1)
+    fetch_back old.heap m.heap old.outside m.outside c.in-Err-remove-2.fault grows (c.in-Err-remove-2.ensures.removed y here side (o.right_keys c.in-Greater.is) ready.1)
 
 pub returns-in-Ok-merge_sides-clause-removed : goal.returns-in-Ok-merge_sides-clause-removed
 returns-in-Ok-merge_sides-clause-removed g t c leaf p h within lower = absurd (no_root c.args.sw.now c.args.root c.in-Some.at c.in-Some.is h.root_is)
@@ -254,7 +256,7 @@ pub returns-then-height-eq0-clause-brings : goal.returns-then-height-eq0-clause-
 returns-then-height-eq0-clause-brings g t c = brings_none c.args.sw.now _
 
 pub returns-then-height-eq0-clause-still : goal.returns-then-height-eq0-clause-still
-returns-then-height-eq0-clause-still g t c = keeps-refl c.args.sw.now
+returns-then-height-eq0-clause-still g t c = grows_none c.args.sw.now (g.V.Vault.outside c.args.vault.now) c.sound.ensures
 
 pub returns-in-Err-clause-brings : goal.returns-in-Err-clause-brings
 returns-in-Err-clause-brings g t c = brings_more _ _ 2 _ (omega (arith, c.if-height-bound.false)) c.open_node.ensures.brings
@@ -263,10 +265,10 @@ pub returns-in-Ok-merge_sides-clause-brings : goal.returns-in-Ok-merge_sides-cla
 returns-in-Ok-merge_sides-clause-brings g t c = brings_then _ _ _ 2 (3 * c.height-height.result + 1) _ c.in-Ok-merge_sides.ensures.spares.lasts (omega (arith, c.if-height-bound.false)) c.open_node.ensures.brings c.merge_sides.ensures.brings
 
 pub returns-in-Err-merge_sides-clause-brings : goal.returns-in-Err-merge_sides-clause-brings
-returns-in-Err-merge_sides-clause-brings g t c = brings_touched _ _ _ 2 (3 * c.height-height.result + 1) _ c.in-Err-merge_sides.ensures.still (omega (arith, c.if-height-bound.false)) c.open_node.ensures.brings c.merge_sides.ensures.brings
+returns-in-Err-merge_sides-clause-brings g t c = brings_touched _ _ _ 2 (3 * c.height-height.result + 1) _ c.in-Err-merge_sides.ensures.still.keeps (omega (arith, c.if-height-bound.false)) c.open_node.ensures.brings c.merge_sides.ensures.brings
 
 pub returns-in-Err-merge_sides-clause-still : goal.returns-in-Err-merge_sides-clause-still
-returns-in-Err-merge_sides-clause-still g t c = keeps-trans _ _ _ c.in-Ok.ensures.keeps c.in-Err-merge_sides.ensures.still
+returns-in-Err-merge_sides-clause-still g t c = grows_then _ _ _ _ _ _ c.in-Ok.ensures.grows c.in-Err-merge_sides.ensures.still
 
 pub returns-in-Ok-remove-clause-held : goal.returns-in-Ok-remove-clause-held
 returns-in-Ok-remove-clause-held g t c = record {
@@ -278,7 +280,7 @@ pub returns-in-Ok-remove-clause-spares : goal.returns-in-Ok-remove-clause-spares
 returns-in-Ok-remove-clause-spares g t c = spares_then _ _ _ _ _ _ (spares_then _ _ _ _ _ _ (spares_touched _ _ _ _ c.in-Ok.ensures.keeps c.in-Ok.ensures.grows) (spares_touched _ _ _ _ c.in-Ok-open_right.ensures.keeps c.in-Ok-open_right.ensures.grows)) (spares_then _ _ _ _ _ _ c.in-Ok-remove.ensures.spares c.balance-root.ensures.spares)
 
 pub returns-in-Err-open_right-clause-brings : goal.returns-in-Err-open_right-clause-brings
-returns-in-Err-open_right-clause-brings g t c = brings_touched _ _ _ 2 4 _ c.in-Err-open_right.ensures.still (omega (arith, c.if-height-eq0.false, c.if-height-bound.false)) c.open_node.ensures.brings c.in-Err-open_right.ensures.brings
+returns-in-Err-open_right-clause-brings g t c = brings_touched _ _ _ 2 4 _ c.in-Err-open_right.ensures.still.keeps (omega (arith, c.if-height-eq0.false, c.if-height-bound.false)) c.open_node.ensures.brings c.in-Err-open_right.ensures.brings
 
 pub returns-in-Ok-remove-clause-brings : goal.returns-in-Ok-remove-clause-brings
 returns-in-Ok-remove-clause-brings g t c =
@@ -287,14 +289,14 @@ returns-in-Ok-remove-clause-brings g t c =
 
 pub returns-in-Err-remove-clause-brings : goal.returns-in-Err-remove-clause-brings
 returns-in-Err-remove-clause-brings g t c =
-    brings_then _ _ _ (2 + (3 * c.height-height.result + 1 - 3 * c.in-Ok-open_right.ready.bound)) (3 * c.in-Ok-open_right.ready.bound) _ (keeps_lasts _ _ c.in-Err-remove.ensures.still) (omega (arith, c.if-height-bound.false, c.in-Ok-open_right.ensures.bound))
+    brings_then _ _ _ (2 + (3 * c.height-height.result + 1 - 3 * c.in-Ok-open_right.ready.bound)) (3 * c.in-Ok-open_right.ready.bound) _ (keeps_lasts _ _ c.in-Err-remove.ensures.still.keeps) (omega (arith, c.if-height-bound.false, c.in-Ok-open_right.ensures.bound))
     (brings_touched _ _ _ 2 (3 * c.height-height.result + 1 - 3 * c.in-Ok-open_right.ready.bound) (2 + (3 * c.height-height.result + 1 - 3 * c.in-Ok-open_right.ready.bound)) c.in-Ok-open_right.ensures.keeps (omega arith) c.open_node.ensures.brings c.in-Ok-open_right.ensures.brings) c.remove.ensures.brings
 
 pub returns-in-Err-open_right-clause-still : goal.returns-in-Err-open_right-clause-still
-returns-in-Err-open_right-clause-still g t c = keeps-trans _ _ _ c.in-Ok.ensures.keeps c.in-Err-open_right.ensures.still
+returns-in-Err-open_right-clause-still g t c = grows_then _ _ _ _ _ _ c.in-Ok.ensures.grows c.in-Err-open_right.ensures.still
 
 pub returns-in-Err-remove-clause-still : goal.returns-in-Err-remove-clause-still
-returns-in-Err-remove-clause-still g t c = keeps-trans _ _ _ (keeps-trans _ _ _ c.in-Ok.ensures.keeps c.in-Ok-open_right.ensures.keeps) c.in-Err-remove.ensures.still
+returns-in-Err-remove-clause-still g t c = grows_then _ _ _ _ _ _ (grows_then _ _ _ _ _ _ c.in-Ok.ensures.grows c.in-Ok-open_right.ensures.grows) c.in-Err-remove.ensures.still
 
 pub returns-in-Ok-remove-2-clause-held : goal.returns-in-Ok-remove-2-clause-held
 returns-in-Ok-remove-2-clause-held g t c = record {
@@ -306,7 +308,7 @@ pub returns-in-Ok-remove-2-clause-spares : goal.returns-in-Ok-remove-2-clause-sp
 returns-in-Ok-remove-2-clause-spares g t c = spares_then _ _ _ _ _ _ (spares_then _ _ _ _ _ _ (spares_touched _ _ _ _ c.in-Ok.ensures.keeps c.in-Ok.ensures.grows) (spares_touched _ _ _ _ c.in-Ok-open_left.ensures.keeps c.in-Ok-open_left.ensures.grows)) (spares_then _ _ _ _ _ _ c.in-Ok-remove-2.ensures.spares c.balance-root-in-Ok-remove-2.ensures.spares)
 
 pub returns-in-Err-open_left-clause-brings : goal.returns-in-Err-open_left-clause-brings
-returns-in-Err-open_left-clause-brings g t c = brings_touched _ _ _ 2 4 _ c.in-Err-open_left.ensures.still (omega (arith, c.if-height-eq0.false, c.if-height-bound.false)) c.open_node.ensures.brings c.in-Err-open_left.ensures.brings
+returns-in-Err-open_left-clause-brings g t c = brings_touched _ _ _ 2 4 _ c.in-Err-open_left.ensures.still.keeps (omega (arith, c.if-height-eq0.false, c.if-height-bound.false)) c.open_node.ensures.brings c.in-Err-open_left.ensures.brings
 
 pub returns-in-Ok-remove-2-clause-brings : goal.returns-in-Ok-remove-2-clause-brings
 returns-in-Ok-remove-2-clause-brings g t c =
@@ -315,14 +317,14 @@ returns-in-Ok-remove-2-clause-brings g t c =
 
 pub returns-in-Err-remove-2-clause-brings : goal.returns-in-Err-remove-2-clause-brings
 returns-in-Err-remove-2-clause-brings g t c =
-    brings_then _ _ _ (2 + (3 * c.height-height.result + 1 - 3 * c.in-Ok-open_left.ready.bound)) (3 * c.in-Ok-open_left.ready.bound) _ (keeps_lasts _ _ c.in-Err-remove-2.ensures.still) (omega (arith, c.if-height-bound.false, c.in-Ok-open_left.ensures.bound))
+    brings_then _ _ _ (2 + (3 * c.height-height.result + 1 - 3 * c.in-Ok-open_left.ready.bound)) (3 * c.in-Ok-open_left.ready.bound) _ (keeps_lasts _ _ c.in-Err-remove-2.ensures.still.keeps) (omega (arith, c.if-height-bound.false, c.in-Ok-open_left.ensures.bound))
     (brings_touched _ _ _ 2 (3 * c.height-height.result + 1 - 3 * c.in-Ok-open_left.ready.bound) (2 + (3 * c.height-height.result + 1 - 3 * c.in-Ok-open_left.ready.bound)) c.in-Ok-open_left.ensures.keeps (omega arith) c.open_node.ensures.brings c.in-Ok-open_left.ensures.brings) c.remove-in-Greater.ensures.brings
 
 pub returns-in-Err-open_left-clause-still : goal.returns-in-Err-open_left-clause-still
-returns-in-Err-open_left-clause-still g t c = keeps-trans _ _ _ c.in-Ok.ensures.keeps c.in-Err-open_left.ensures.still
+returns-in-Err-open_left-clause-still g t c = grows_then _ _ _ _ _ _ c.in-Ok.ensures.grows c.in-Err-open_left.ensures.still
 
 pub returns-in-Err-remove-2-clause-still : goal.returns-in-Err-remove-2-clause-still
-returns-in-Err-remove-2-clause-still g t c = keeps-trans _ _ _ (keeps-trans _ _ _ c.in-Ok.ensures.keeps c.in-Ok-open_left.ensures.keeps) c.in-Err-remove-2.ensures.still
+returns-in-Err-remove-2-clause-still g t c = grows_then _ _ _ _ _ _ (grows_then _ _ _ _ _ _ c.in-Ok.ensures.grows c.in-Ok-open_left.ensures.grows) c.in-Err-remove-2.ensures.still
 
 pub balance-root-requires-clause-wing : goal.balance-root-requires-clause-wing
 balance-root-requires-clause-wing g t c = wing_held_kept c.open_right.new.sw c.remove.new.sw c.in-Ok-remove.ensures.held.nodes c.in-Ok-open_right.ready.wing c.in-Ok-open_right.ensures.held
@@ -359,3 +361,9 @@ pub remove-requires-in-Greater : goal.remove-requires-in-Greater
 remove-requires-in-Greater g t c =
     let span = span_kept c.open_node.new.sw c.open_left.new.sw c.in-Ok.opened.span c.in-Ok-open_left.ensures.keeps c.in-Ok.ensures.span in
     search (rules, span)
+
+pub returns-in-Ok-remove-clause-leaves : goal.returns-in-Ok-remove-clause-leaves
+returns-in-Ok-remove-clause-leaves g t c = leaves-then _ _ _ (leaves-then _ _ _ c.in-Ok.ensures.grows.leaves c.in-Ok-open_right.ensures.grows.leaves) c.in-Ok-remove.ensures.leaves
+
+pub returns-in-Ok-remove-2-clause-leaves : goal.returns-in-Ok-remove-2-clause-leaves
+returns-in-Ok-remove-2-clause-leaves g t c = leaves-then _ _ _ (leaves-then _ _ _ c.in-Ok.ensures.grows.leaves c.in-Ok-open_left.ensures.grows.leaves) c.in-Ok-remove-2.ensures.leaves

@@ -2,17 +2,18 @@ use Rattle.std.proofs.Common.{◌+◌, ◌*◌, ◌-◌, Some, refl, subst, arit
 use Rattle.avl_trees.specs.Trees.{leaf, node}
 use Rattle.avl_trees.specs.Standing.{row_of, root_of}
 use Rattle.avl_trees.proofs.Standing.{stands_grown}
-use Rattle.heap_places.proofs.of_swizzle.TouchLaws.{keeps-refl, keeps-trans}
+use Rattle.heap_places.proofs.of_swizzle.ReadingLaws.{leaves-then}
 use Rattle.table_nodes.specs.Nodes.{IsLinked, IsNode}
 use Rattle.table_nodes.specs.Steps.{place, rows_of}
 use Rattle.table_nodes.proofs.BringLaws.{brings_more, brings_none, brings_then, brings_touched, brings_written, keeps_lasts}
-use Rattle.table_nodes.proofs.NodeLaws.{fetch_back}
+use Rattle.table_nodes.proofs.SeenLaws.{fetch_back}
 use Rattle.table_nodes.proofs.StepLaws.{linked_kept, place_touched, side_map, touches_then}
 use Rattle.table_nodes.proofs.Putting.{no_root, tree_left}
 use Rattle.table_nodes.proofs.Removal.{least_here, least_sides, least_known, least_above}
 use Rattle.table_nodes.proofs.Sparing.{spares_then, spares_touched}
 use Rattle.table_nodes.proofs.WingLaws.{wing_held_kept}
 use Rattle.table_nodes.proofs.FaultLaws.{node_fault_back, height_tested}
+use Rattle.table_nodes.proofs.NodeLaws.{grows_none, grows_then}
 use Rattle.table_nodes.proofs.remove.+take_least.Goals as goal
 
 pub returns-then-height-eq0-clause-taken : goal.returns-then-height-eq0-clause-taken
@@ -42,7 +43,7 @@ returns-in-Err-open_right-clause-taken g t c ks (node u d v) b y p h lower =
     let ends = c.in-Ok.ensures.ends ks x b y h.stands h.root_is in
     let hh = c.height-height.ensures.some ks c.args.at b.name (row_of x b y) refl h.root_is h.stands.0 in
     let s = stands_grown (rows_of ks old) (rows_of ks m0) (c.in-Ok.ensures.grows.rows ks) (node x b y) h.stands in
-    fetch_back old.outside m0.outside c.in-Err-open_right.fault c.in-Ok.ensures.grows.leaves.contents (c.in-Err-open_right.ensures.wing ks x y s.1 s.2 ends.0 ends.1 (omega (arith, hh)) (omega (arith, hh)))
+    fetch_back old.heap m0.heap old.outside m0.outside c.in-Err-open_right.fault c.in-Ok.ensures.grows (c.in-Err-open_right.ensures.wing ks x y s.1 s.2 ends.0 ends.1 (omega (arith, hh)) (omega (arith, hh)))
 
 pub returns-in-Err-take_least-clause-taken : goal.returns-in-Err-take_least-clause-taken
 returns-in-Err-take_least-clause-taken g t c ks leaf b y p h lower =
@@ -61,7 +62,7 @@ returns-in-Err-take_least-clause-taken g t c ks (node u d v) b y p h lower =
     let left_now = linked_kept m0.heap m.heap c.in-Ok-open_right.ensures.grows.named c.in-Ok.sides.left (root_of x) ends.0 in
     let right_is = linked_kept m0.heap m.heap c.in-Ok-open_right.ensures.grows.named c.in-Ok.sides.right (root_of y) ends.1 in
     let below = tree_left ks old m (Some c.args.at) (Some c.in-Some.below) grows x b y h (subst (λ s. IsLinked m.heap s (Some d.name)) c.in-Some.is left_now) in
-    fetch_back old.outside m.outside c.in-Err-take_least.fault grows.leaves.contents (c.in-Err-take_least.ensures.taken ks u d v (place_touched old m grows p) below ready.1)
+    fetch_back old.heap m.heap old.outside m.outside c.in-Err-take_least.fault grows (c.in-Err-take_least.ensures.taken ks u d v (place_touched old m grows p) below ready.1)
 
 pub returns-clause-taken : goal.returns-clause-taken
 returns-clause-taken g t c ks leaf b y p h lower =
@@ -107,7 +108,7 @@ pub returns-then-height-eq0-clause-brings : goal.returns-then-height-eq0-clause-
 returns-then-height-eq0-clause-brings g t c = brings_none c.args.sw.now _
 
 pub returns-then-height-eq0-clause-still : goal.returns-then-height-eq0-clause-still
-returns-then-height-eq0-clause-still g t c = keeps-refl c.args.sw.now
+returns-then-height-eq0-clause-still g t c = grows_none c.args.sw.now (g.V.Vault.outside c.args.vault.now) c.sound.ensures
 
 pub returns-in-Err-clause-brings : goal.returns-in-Err-clause-brings
 returns-in-Err-clause-brings g t c = brings_more _ _ 2 _ (omega (arith, c.if-height-bound.false)) c.open_sides.ensures.brings
@@ -116,11 +117,11 @@ pub returns-in_default-clause-brings : goal.returns-in_default-clause-brings
 returns-in_default-clause-brings g t c = brings_more _ _ 2 _ (omega (arith, c.if-height-bound.false)) c.open_sides.ensures.brings
 
 pub returns-in-Err-open_right-clause-brings : goal.returns-in-Err-open_right-clause-brings
-returns-in-Err-open_right-clause-brings g t c = brings_touched _ _ _ 2 4 _ c.in-Err-open_right.ensures.still (omega (arith, c.if-height-eq0.false, c.if-height-bound.false)) c.open_sides.ensures.brings c.in-Err-open_right.ensures.brings
+returns-in-Err-open_right-clause-brings g t c = brings_touched _ _ _ 2 4 _ c.in-Err-open_right.ensures.still.keeps (omega (arith, c.if-height-eq0.false, c.if-height-bound.false)) c.open_sides.ensures.brings c.in-Err-open_right.ensures.brings
 
 pub returns-in-Err-take_least-clause-brings : goal.returns-in-Err-take_least-clause-brings
 returns-in-Err-take_least-clause-brings g t c =
-    brings_then _ _ _ (2 + (3 * c.height-height.result + 1 - 3 * c.in-Ok-open_right.ready.bound)) (3 * c.in-Ok-open_right.ready.bound) _ (keeps_lasts _ _ c.in-Err-take_least.ensures.still) (omega (arith, c.if-height-bound.false, c.in-Ok-open_right.ensures.bound))
+    brings_then _ _ _ (2 + (3 * c.height-height.result + 1 - 3 * c.in-Ok-open_right.ready.bound)) (3 * c.in-Ok-open_right.ready.bound) _ (keeps_lasts _ _ c.in-Err-take_least.ensures.still.keeps) (omega (arith, c.if-height-bound.false, c.in-Ok-open_right.ensures.bound))
     (brings_touched _ _ _ 2 (3 * c.height-height.result + 1 - 3 * c.in-Ok-open_right.ready.bound) _ c.in-Ok-open_right.ensures.keeps (omega arith) c.open_sides.ensures.brings c.in-Ok-open_right.ensures.brings) c.take_least.ensures.brings
 
 pub returns-clause-brings : goal.returns-clause-brings
@@ -129,10 +130,10 @@ returns-clause-brings g t c =
     (brings_touched _ _ _ 2 (3 * c.height-height.result + 1 - 3 * c.in-Ok-open_right.ready.bound) _ c.in-Ok-open_right.ensures.keeps (omega arith) c.open_sides.ensures.brings c.in-Ok-open_right.ensures.brings) c.take_least.ensures.brings
 
 pub returns-in-Err-open_right-clause-still : goal.returns-in-Err-open_right-clause-still
-returns-in-Err-open_right-clause-still g t c = keeps-trans _ _ _ c.in-Ok.ensures.keeps c.in-Err-open_right.ensures.still
+returns-in-Err-open_right-clause-still g t c = grows_then _ _ _ _ _ _ c.in-Ok.ensures.grows c.in-Err-open_right.ensures.still
 
 pub returns-in-Err-take_least-clause-still : goal.returns-in-Err-take_least-clause-still
-returns-in-Err-take_least-clause-still g t c = keeps-trans _ _ _ (keeps-trans _ _ _ c.in-Ok.ensures.keeps c.in-Ok-open_right.ensures.keeps) c.in-Err-take_least.ensures.still
+returns-in-Err-take_least-clause-still g t c = grows_then _ _ _ _ _ _ (grows_then _ _ _ _ _ _ c.in-Ok.ensures.grows c.in-Ok-open_right.ensures.grows) c.in-Err-take_least.ensures.still
 
 pub balance-root-requires-clause-at : goal.balance-root-requires-clause-at
 balance-root-requires-clause-at g t c = c.in-Ok-take_least.ensures.held.nodes _ (c.in-Ok-open_right.ensures.grows.nodes _ (c.in-Ok.ensures.grows.nodes _ c.requires.node))
@@ -152,3 +153,6 @@ returns-in-Err-open_right-clause-fault g t c = node_fault_back (g.V.Vault.outsid
 pub returns-in-Err-take_least-clause-fault : goal.returns-in-Err-take_least-clause-fault
 returns-in-Err-take_least-clause-fault g t c =
     node_fault_back (g.V.Vault.outside c.args.vault.now) (g.V.Vault.outside c.open_sides.new.vault) _ _ c.in-Err-take_least.fault c.in-Ok.ensures.grows.leaves (node_fault_back (g.V.Vault.outside c.open_sides.new.vault) (g.V.Vault.outside c.open_right.new.vault) _ _ c.in-Err-take_least.fault c.in-Ok-open_right.ensures.grows.leaves c.in-Err-take_least.ensures.fault)
+
+pub returns-clause-leaves : goal.returns-clause-leaves
+returns-clause-leaves g t c = leaves-then _ _ _ (leaves-then _ _ _ c.in-Ok.ensures.grows.leaves c.in-Ok-open_right.ensures.grows.leaves) c.in-Ok-take_least.ensures.leaves

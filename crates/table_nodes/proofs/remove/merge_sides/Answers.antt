@@ -1,16 +1,16 @@
 use Rattle.std.proofs.Common.{◌+◌, ◌*◌, ◌-◌, Some, subst, arith}
 use Rattle.avl_trees.specs.Trees.{leaf, node, items, merge}
-use Rattle.heap_places.proofs.of_swizzle.TouchLaws.{keeps-trans}
 use Rattle.table_nodes.specs.Steps.{place}
 use Rattle.table_nodes.specs.Removing.{Leaves}
 use Rattle.table_nodes.proofs.BringLaws.{brings_more, brings_none, brings_then, brings_written, keeps_lasts}
-use Rattle.table_nodes.proofs.NodeLaws.{fetch_back}
+use Rattle.table_nodes.proofs.SeenLaws.{fetch_back}
 use Rattle.table_nodes.proofs.StepLaws.{place_touched}
 use Rattle.table_nodes.proofs.Putting.{no_root, root_named, tree_right}
 use Rattle.table_nodes.proofs.Removal.{leaves_touched, tree_grown, merge_left, merge_right, merge_sides_of, merge_known, merge_done}
 use Rattle.table_nodes.proofs.Sparing.{spares_none, spares_then, spares_touched}
 use Rattle.table_nodes.proofs.WingLaws.{wing_held_kept}
-use Rattle.table_nodes.proofs.FaultLaws.{node_fault_back}
+use Rattle.table_nodes.proofs.FaultLaws.{node_fault_back, the_node}
+use Rattle.table_nodes.proofs.NodeLaws.{grows_then}
 use Rattle.table_nodes.proofs.remove.merge_sides.Goals as goal
 
 pub returns-in_default-clause-merged : goal.returns-in_default-clause-merged
@@ -49,7 +49,7 @@ returns-in-Err-take_least-clause-merged g c ks at (node u d v) a (node x b y) p 
     let grows = c.in-Ok.ensures.grows in
     let t = tree_grown ks old m at (Some at) grows l a r h.root_is h in
     let side = tree_right ks old m (Some at) (Some c.in-Some.above) grows l a r h (grows.named c.in-Some.above b.name above) in
-    fetch_back old.outside m.outside c.in-Err-take_least.fault grows.leaves.contents (c.in-Err-take_least.ensures.taken ks x b y (place_touched old m grows p) side ready.1)
+    fetch_back old.heap m.heap old.outside m.outside c.in-Err-take_least.fault grows (c.in-Err-take_least.ensures.taken ks x b y (place_touched old m grows p) side ready.1)
 
 pub returns-clause-merged : goal.returns-clause-merged
 returns-clause-merged g c ks at l a leaf p h e f lower = absurd (no_root c.args.sw.now c.args.right c.in-Some.above c.in-Some.is f)
@@ -99,16 +99,19 @@ pub returns-in-Err-clause-brings : goal.returns-in-Err-clause-brings
 returns-in-Err-clause-brings g c = brings_more _ _ 4 _ (omega (arith, c.requires.some)) c.in-Err.ensures.brings
 
 pub returns-in-Err-take_least-clause-brings : goal.returns-in-Err-take_least-clause-brings
-returns-in-Err-take_least-clause-brings g c = brings_then _ _ _ (3 * c.args.bound + 1 - 3 * c.in-Ok.ready.bound) (3 * c.in-Ok.ready.bound) _ (keeps_lasts _ _ c.in-Err-take_least.ensures.still) (omega (arith, c.in-Ok.ensures.bound)) c.in-Ok.ensures.brings c.take_least.ensures.brings
+returns-in-Err-take_least-clause-brings g c = brings_then _ _ _ (3 * c.args.bound + 1 - 3 * c.in-Ok.ready.bound) (3 * c.in-Ok.ready.bound) _ (keeps_lasts _ _ c.in-Err-take_least.ensures.still.keeps) (omega (arith, c.in-Ok.ensures.bound)) c.in-Ok.ensures.brings c.take_least.ensures.brings
 
 pub returns-clause-brings : goal.returns-clause-brings
 returns-clause-brings g c = brings_written _ _ _ _ (3 * c.args.bound + 1 - 3 * c.in-Ok.ready.bound) (3 * c.in-Ok.ready.bound) _ c.in-Ok-take_least.ensures.spares.lasts c.balance-root.ensures.spares.lasts c.balance-root.ensures.none (omega (arith, c.in-Ok.ensures.bound)) c.in-Ok.ensures.brings c.take_least.ensures.brings
 
 pub returns-in-Err-take_least-clause-still : goal.returns-in-Err-take_least-clause-still
-returns-in-Err-take_least-clause-still g c = keeps-trans _ _ _ c.in-Ok.ensures.keeps c.in-Err-take_least.ensures.still
+returns-in-Err-take_least-clause-still g c = grows_then _ _ _ _ _ _ c.in-Ok.ensures.grows c.in-Err-take_least.ensures.still
 
 pub balance-root-requires-clause-wing : goal.balance-root-requires-clause-wing
 balance-root-requires-clause-wing g c = wing_held_kept c.open_left.new.sw c.take_least.new.sw c.in-Ok-take_least.ensures.held.nodes c.in-Ok.ready.wing c.in-Ok.ensures.held
 
 pub returns-in-Err-take_least-clause-fault : goal.returns-in-Err-take_least-clause-fault
 returns-in-Err-take_least-clause-fault g c = node_fault_back (g.V.Vault.outside c.args.vault.now) (g.V.Vault.outside c.open_left.new.vault) _ _ c.in-Err-take_least.fault c.in-Ok.ensures.grows.leaves c.in-Err-take_least.ensures.fault
+
+pub balance-root-requires-clause-left : goal.balance-root-requires-clause-left
+balance-root-requires-clause-left g c = c.in-Ok-take_least.ensures.held.nodes _ (c.in-Ok.ensures.grows.nodes _ (the_node c.args.sw.now c.args.left c.in-Some-left.below c.in-Some-left.is c.requires.left))

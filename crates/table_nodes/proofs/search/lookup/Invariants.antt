@@ -1,5 +1,6 @@
 -- What is sought in the tree is sought in the part that is left, which is lower than the bound; each step lowers it.
 use Rattle.std.proofs.Common.{◌≡◌, ◌+◌, ◌-◌, ◌≤◌, ◌<◌, IfSome}
+use Rattle.heap_places.specs.obj_layout.Storing.{SameNumbers}
 use Rattle.heap_places.specs.swizzle.Touch.{Keeps}
 use Rattle.avl_trees.specs.Trees.{Tree, height}
 use Rattle.table_nodes.specs.Bringing.{Brings}
@@ -30,7 +31,8 @@ invariant-loop-at g l =
       more : l.initial.steps ≤ l.steps;
       brings : Brings l.initial.sw l.sw (l.steps - l.initial.steps);
       alive : g.V.Vault.alive l.vault;
-      sought : (t : Tree (I ks)) → IsTree ks old l.fn.root t → height t < l.initial.bound → Sought ks wanted now l.at l.span l.bound l.initial.steps l.steps t;
+      numbers : SameNumbers g.V.Vault.used_words g.V.Vault.directory_at g.V.Vault.most_words g.V.Vault.access l.initial.vault l.vault;
+      sought : (t : Tree (I ks)) → IsTree ks old l.fn.root t → height t < l.initial.bound → Sought ks wanted old now l.at l.span l.bound l.initial.steps l.steps t;
     }
 
 abbrev pub decreases-loop-at : goal.decreases-loop-at

@@ -5,11 +5,12 @@ use Rattle.heap_places.proofs.of_swizzle.TouchLaws.{keeps-refl, keeps-trans}
 use Rattle.table_nodes.specs.Nodes.{IsLinked}
 use Rattle.table_nodes.specs.Steps.{place, rows_of}
 use Rattle.table_nodes.proofs.BringLaws.{brings_more, brings_none, brings_touched}
-use Rattle.table_nodes.proofs.NodeLaws.{fetch_back}
+use Rattle.table_nodes.proofs.SeenLaws.{fetch_back}
 use Rattle.table_nodes.proofs.Putting.{root_named, no_root}
 use Rattle.table_nodes.proofs.StepLaws.{height_is, touches_none, touches_then}
 use Rattle.table_nodes.proofs.WingLaws.{ends_kept, held_kept}
 use Rattle.table_nodes.proofs.FaultLaws.{node_fault_back, height_failed, the_node}
+use Rattle.table_nodes.proofs.NodeLaws.{grows_none, grows_then}
 use Rattle.table_nodes.proofs.wings.open_right.Goals as goal
 
 pub returns-then-above-height-clause-wing : goal.returns-then-above-height-clause-wing
@@ -40,7 +41,7 @@ returns-in-Err-open_inner-clause-wing g c ks l (node x b y) s t e f low high =
     let m = place c.open_sides.new.sw (g.V.Vault.outside c.open_sides.new.vault) in
     let ends = c.in-Ok.ensures.ends ks x b y t (root_named c.args.sw.now c.args.high c.in-Some.at b.name c.in-Some.is f) in
     let s2 = stands_grown (rows_of ks p) (rows_of ks m) (c.in-Ok.ensures.grows.rows ks) (node x b y) t in
-    fetch_back p.outside m.outside c.in-Err-open_inner.fault c.in-Ok.ensures.grows.leaves.contents (c.in-Err-open_inner.ensures.ends ks y x s2.2 s2.1 ends.1 ends.0)
+    fetch_back p.heap m.heap p.outside m.outside c.in-Err-open_inner.fault c.in-Ok.ensures.grows (c.in-Err-open_inner.ensures.ends ks y x s2.2 s2.1 ends.1 ends.0)
 
 pub returns-in-Ok-open_inner-clause-wing : goal.returns-in-Ok-open_inner-clause-wing
 returns-in-Ok-open_inner-clause-wing g c ks l leaf s t e f low high = absurd (no_root c.args.sw.now c.args.high c.in-Some.at c.in-Some.is f)
@@ -63,7 +64,7 @@ pub returns-in-Ok-open_inner-clause-keeps : goal.returns-in-Ok-open_inner-clause
 returns-in-Ok-open_inner-clause-keeps g c = keeps-trans _ _ _ c.in-Ok.ensures.keeps c.in-Ok-open_inner.ensures.keeps
 
 pub returns-in-Err-open_inner-clause-still : goal.returns-in-Err-open_inner-clause-still
-returns-in-Err-open_inner-clause-still g c = keeps-trans _ _ _ c.in-Ok.ensures.keeps c.in-Err-open_inner.ensures.still
+returns-in-Err-open_inner-clause-still g c = grows_then _ _ _ _ _ _ c.in-Ok.ensures.grows c.in-Err-open_inner.ensures.still
 
 pub returns-then-above-height-clause-grows : goal.returns-then-above-height-clause-grows
 returns-then-above-height-clause-grows g c = touches_none (place c.args.sw.now (g.V.Vault.outside c.args.vault.now)) c.sound.ensures
@@ -78,7 +79,7 @@ pub returns-in_default-clause-keeps : goal.returns-in_default-clause-keeps
 returns-in_default-clause-keeps g c = keeps-refl c.args.sw.now
 
 pub returns-then-above-bound-clause-still : goal.returns-then-above-bound-clause-still
-returns-then-above-bound-clause-still g c = keeps-refl c.args.sw.now
+returns-then-above-bound-clause-still g c = grows_none c.args.sw.now (g.V.Vault.outside c.args.vault.now) c.sound.ensures
 
 pub returns-then-above-height-clause-brings : goal.returns-then-above-height-clause-brings
 returns-then-above-height-clause-brings g c = brings_none c.args.sw.now _
@@ -93,7 +94,7 @@ pub returns-in-Err-clause-brings : goal.returns-in-Err-clause-brings
 returns-in-Err-clause-brings g c = brings_more _ _ 2 4 (omega arith) c.open_sides.ensures.brings
 
 pub returns-in-Err-open_inner-clause-brings : goal.returns-in-Err-open_inner-clause-brings
-returns-in-Err-open_inner-clause-brings g c = brings_touched _ _ _ 2 2 4 c.in-Err-open_inner.ensures.still (omega arith) c.open_sides.ensures.brings c.open_inner.ensures.brings
+returns-in-Err-open_inner-clause-brings g c = brings_touched _ _ _ 2 2 4 c.in-Err-open_inner.ensures.still.keeps (omega arith) c.open_sides.ensures.brings c.open_inner.ensures.brings
 
 pub returns-in-Ok-open_inner-clause-brings : goal.returns-in-Ok-open_inner-clause-brings
 returns-in-Ok-open_inner-clause-brings g c = brings_touched _ _ _ 2 2 _ c.in-Ok-open_inner.ensures.keeps (omega (arith, c.if-above-bound.false)) c.open_sides.ensures.brings c.open_inner.ensures.brings

@@ -2,13 +2,13 @@ use Rattle.std.proofs.Common.{arith}
 use Rattle.avl_trees.specs.Trees.{node}
 use Rattle.avl_trees.specs.Standing.{row_of, root_of}
 use Rattle.avl_trees.proofs.Standing.{stands_grown}
-use Rattle.heap_places.proofs.of_swizzle.TouchLaws.{keeps-trans}
 use Rattle.table_nodes.specs.Nodes.{IsNode}
 use Rattle.table_nodes.specs.Steps.{place, rows_of}
 use Rattle.table_nodes.proofs.BringLaws.{brings_more, brings_touched}
-use Rattle.table_nodes.proofs.NodeLaws.{fetch_back}
+use Rattle.table_nodes.proofs.SeenLaws.{fetch_back}
 use Rattle.table_nodes.proofs.StepLaws.{is_side, linked_kept, side_map, touches_then}
 use Rattle.table_nodes.proofs.FaultLaws.{node_fault_back}
+use Rattle.table_nodes.proofs.NodeLaws.{grows_then}
 use Rattle.table_nodes.proofs.wings.open_sides.Goals as goal
 
 pub returns-in-Err-clause-ends : goal.returns-in-Err-clause-ends
@@ -19,7 +19,7 @@ returns-in-Err-side-clause-ends g c ks x b y s named =
     let p = place c.args.sw.now (g.V.Vault.outside c.args.vault.now) in
     let m = place c.side.new.sw (g.V.Vault.outside c.side.new.vault) in
     let t = stands_grown (rows_of ks p) (rows_of ks m) (c.in-Ok.ensures.grows.rows ks) (node x b y) s in
-    fetch_back p.outside m.outside c.in-Err-side.fault c.in-Ok.ensures.grows.leaves.contents
+    fetch_back p.heap m.heap p.outside m.outside c.in-Err-side.fault c.in-Ok.ensures.grows
     (c.in-Err-side.ensures.sound ks b.name (row_of x b y) (c.in-Ok.ensures.grows.named c.args.at b.name named) t.0 (is_side ks m y t.2))
 
 pub returns-clause-ends : goal.returns-clause-ends
@@ -38,13 +38,13 @@ pub returns-in-Err-clause-brings : goal.returns-in-Err-clause-brings
 returns-in-Err-clause-brings g c = brings_more _ _ 1 2 (omega arith) c.side.ensures.brings
 
 pub returns-in-Err-side-clause-brings : goal.returns-in-Err-side-clause-brings
-returns-in-Err-side-clause-brings g c = brings_touched _ _ _ 1 1 2 c.in-Err-side.ensures.still (omega arith) c.side.ensures.brings c.side-2.ensures.brings
+returns-in-Err-side-clause-brings g c = brings_touched _ _ _ 1 1 2 c.in-Err-side.ensures.still.keeps (omega arith) c.side.ensures.brings c.side-2.ensures.brings
 
 pub returns-clause-brings : goal.returns-clause-brings
 returns-clause-brings g c = brings_touched _ _ _ 1 1 2 c.in-Ok-side.ensures.keeps (omega arith) c.side.ensures.brings c.side-2.ensures.brings
 
 pub returns-in-Err-side-clause-still : goal.returns-in-Err-side-clause-still
-returns-in-Err-side-clause-still g c = keeps-trans _ _ _ c.in-Ok.ensures.keeps c.in-Err-side.ensures.still
+returns-in-Err-side-clause-still g c = grows_then _ _ _ _ _ _ c.in-Ok.ensures.grows c.in-Err-side.ensures.still
 
 pub returns-in-Err-side-clause-fault : goal.returns-in-Err-side-clause-fault
 returns-in-Err-side-clause-fault g c = node_fault_back (g.V.Vault.outside c.args.vault.now) (g.V.Vault.outside c.side.new.vault) _ _ c.in-Err-side.fault c.in-Ok.ensures.grows.leaves c.in-Err-side.ensures.fault

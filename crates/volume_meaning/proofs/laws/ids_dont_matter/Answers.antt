@@ -1,4 +1,4 @@
-use Rattle.volume_meaning.proofs.SameHeaps.{stands-same}
+use Rattle.volume_meaning.proofs.Images.{stands-same}
 use Rattle.volume_meaning.proofs.laws.ids_dont_matter.Goals as goal
 
 pub returns : goal.returns

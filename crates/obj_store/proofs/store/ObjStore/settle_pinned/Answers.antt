@@ -1,4 +1,4 @@
-use Rattle.std.proofs.Common.{◌∙◌, List, Option, length, sym, ap, subst, arith, Ok}
+use Rattle.std.proofs.Common.{◌∙◌, List, Option, length, sym, ap, subst, arith, true, Ok, Some}
 use Rattle.std.proofs.lemmas.List.{length-map}
 use Rattle.obj_layout.specs.ps_outside.Outside.{Outside}
 use Rattle.obj_layout.specs.Stored.{Space}
@@ -7,6 +7,7 @@ use Rattle.paged_volume.specs.declared.committed.Committed.{Committed}
 use Rattle.paged_volume.specs.declared.pinned.Pinned.{Pinned as PinHeld}
 use Rattle.obj_store.specs.Calls.{SettlesAll}
 use Rattle.obj_store.specs.Store.{access_of, outside_of, used_of}
+use Rattle.obj_store.proofs.LendLaws.{others_stay, others_outdated, others_repinned}
 use Rattle.obj_store.proofs.ViewLaws.{spaces_same, viewed_pin}
 use Rattle.obj_store.proofs.store.ObjStore.settle_pinned.Goals as goal
 
@@ -34,3 +35,17 @@ returns-in-Ok-clause-viewed g c = viewed_pin c.settle_staged.new.self.table c.pi
 pub returns-in-Ok-clause-same : goal.returns-in-Ok-clause-same
 returns-in-Ok-clause-same g c =
     (c.pin.ensures.same.0 ∙ c.in-Ok.ensures.same.0, ap (λ (k : Committed). k.pages) c.pin.ensures.pins.committed ∙ c.in-Ok.ensures.same.1)
+
+pub returns-in-Ok-clause-unstaged : goal.returns-in-Ok-clause-unstaged
+returns-in-Ok-clause-unstaged g c = c.pin.ensures.same.1 ∙ c.in-Ok.ensures.unstaged
+
+pub returns-in-Ok-clause-others : goal.returns-in-Ok-clause-others
+returns-in-Ok-clause-others g c =
+    let was = c.args.self.now.table in
+    let mid = c.settle_staged.new.self.table in
+    let committed = mid.committed in
+    others_repinned mid c.pin.new.self.table c.args.pin (Some (record { note = committed.note; current = true })) mid.map.committed c.pin.ensures.pins
+    ∙ others_outdated was mid c.args.pin c.in-Ok.ensures.outdated c.settle_staged.ensures.lists
+
+pub returns-in-Err-clause-others : goal.returns-in-Err-clause-others
+returns-in-Err-clause-others g c = others_stay c.args.self.now.table c.settle_staged.new.self.table c.args.pin c.in-Err.ensures.kept c.settle_staged.ensures.lists

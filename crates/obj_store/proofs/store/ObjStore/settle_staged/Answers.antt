@@ -1,4 +1,4 @@
-use Rattle.std.proofs.Common.{◌∙◌, ◌<◌, sym, ap, subst, arith, Bool, true, Ok, Err}
+use Rattle.std.proofs.Common.{◌∙◌, ◌<◌, sym, ap, subst, arith, Bool, Ok, Err}
 use Rattle.paged_volume.specs.Planning.{switched}
 use Rattle.obj_store.specs.Calls.{SettlesAll}
 use Rattle.obj_store.specs.Spaces.{spaces}
@@ -41,17 +41,15 @@ invariant_of-self g c = record {
 
 pub returns-in-Ok-clause-same : goal.returns-in-Ok-clause-same
 returns-in-Ok-clause-same g c =
-    let is = c.settle_all.ensures in
-    let alone = ap {B = Bool} is_alone c.in-Ok.ensures.outdated ∙ alone_outdated c.self.inside.volume.table.pins.items in (
-      ap (λ (s : Store g.row.H.Denot). s.used) c.self.view_is,
-      is.pages ∙ ap (λ (s : Store g.row.H.Denot). s.table.committed.pages) c.self.view_is,
-      (λ i. record { writes = true; alone = alone i }) ∙ ap (λ (s : Store g.row.H.Denot). access_of s) c.self.view_is,
-    )
+    (ap (λ (s : Store g.row.H.Denot). s.used) c.self.view_is, c.settle_all.ensures.pages ∙ ap (λ (s : Store g.row.H.Denot). s.table.committed.pages) c.self.view_is)
 
 pub returns-in-Err-clause-same : goal.returns-in-Err-clause-same
 returns-in-Err-clause-same g c =
-    let is = c.settle_all.ensures in (
-      ap (λ (s : Store g.row.H.Denot). s.used) c.self.view_is,
-      is.pages ∙ ap (λ (s : Store g.row.H.Denot). s.table.committed.pages) c.self.view_is,
-      (λ i. record { writes = true; alone = is_alone (c.in-Err.ensures.pins i) }) ∙ ap (λ (s : Store g.row.H.Denot). access_of s) c.self.view_is,
-    )
+    (ap (λ (s : Store g.row.H.Denot). s.used) c.self.view_is, c.settle_all.ensures.pages ∙ ap (λ (s : Store g.row.H.Denot). s.table.committed.pages) c.self.view_is)
+
+pub returns-in-Ok-clause-alone : goal.returns-in-Ok-clause-alone
+returns-in-Ok-clause-alone g c =
+    ap {B = Bool} is_alone c.in-Ok.ensures.outdated ∙ alone_outdated c.self.inside.volume.table.pins.items ∙ ap (λ (s : Store g.row.H.Denot). is_alone s.table.pins.items) c.self.view_is
+
+pub returns-in-Err-clause-alone : goal.returns-in-Err-clause-alone
+returns-in-Err-clause-alone g c = ap {B = Bool} is_alone c.in-Err.ensures.pins ∙ ap (λ (s : Store g.row.H.Denot). is_alone s.table.pins.items) c.self.view_is

@@ -1,4 +1,6 @@
-use Rattle.obj_store.proofs.CallLaws.{dead_of, staged_numbers}
+use Rattle.std.proofs.Common.{ap}
+use Rattle.obj_store.specs.Store.{is_alone}
+use Rattle.obj_store.proofs.CallLaws.{dead_of, staged_numbers, store_users}
 use Rattle.obj_store.proofs.store.ObjStoreVault.append.Goals as goal
 
 pub returns-clause-pid : goal.returns-clause-pid
@@ -26,7 +28,10 @@ pub returns-clause-used : goal.returns-clause-used
 returns-clause-used g c = c.append_new.ensures.appends.used_is
 
 pub returns-clause-numbers : goal.returns-clause-numbers
-returns-clause-numbers g c = staged_numbers c.args.self.now c.append_new.new.self c.append_new.ensures.pins c.append_new.ensures.committed
+returns-clause-numbers g c = staged_numbers c.args.self.now c.append_new.new.self c.append_new.ensures.committed
+
+pub returns-clause-users : goal.returns-clause-users
+returns-clause-users g c = store_users c.args.self.now c.append_new.new.self (ap is_alone c.append_new.ensures.pins.pins)
 
 pub returns-clause-dead : goal.returns-clause-dead
 returns-clause-dead g c = dead_of c.append_new.result c.append_new.new.self.live c.append_new.ensures.dead

@@ -1,4 +1,4 @@
-use Rattle.obj_store.proofs.CallLaws.{dead_of, settled_numbers}
+use Rattle.obj_store.proofs.CallLaws.{dead_of, settled_numbers, store_users, store_settled}
 use Rattle.obj_store.proofs.store.ObjStoreVault.settle.Goals as goal
 
 pub returns-clause-told : goal.returns-clause-told
@@ -21,6 +21,12 @@ returns-clause-directory g c = c.settle_staged.ensures.directory
 
 pub returns-clause-numbers : goal.returns-clause-numbers
 returns-clause-numbers g c = settled_numbers c.args.self.now c.settle_staged.new.self c.settle_staged.ensures.same
+
+pub returns-clause-users : goal.returns-clause-users
+returns-clause-users g c = store_users c.args.self.now c.settle_staged.new.self c.settle_staged.ensures.alone
+
+pub returns-clause-unstaged : goal.returns-clause-unstaged
+returns-clause-unstaged g c = store_settled c.settle_staged.result c.args.self.now c.settle_staged.new.self c.settle_staged.ensures.alone c.settle_staged.ensures.unstaged
 
 pub returns-clause-dead : goal.returns-clause-dead
 returns-clause-dead g c = dead_of c.settle_staged.result c.settle_staged.new.self.live c.settle_staged.ensures.dead

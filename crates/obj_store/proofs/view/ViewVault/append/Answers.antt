@@ -5,6 +5,7 @@ use Rattle.obj_store.specs.Calls.{Appends}
 use Rattle.obj_store.specs.Spaces.{used_in, directory_by}
 use Rattle.obj_store.specs.Store.{access_of, bounded, most_of, outside_at}
 use Rattle.obj_store.proofs.CallLaws.{dead_of, staged_numbers}
+use Rattle.obj_store.proofs.LendLaws.{others_stay, view_users}
 use Rattle.obj_store.proofs.view.ViewVault.append.Goals as goal
 
 pub returns-clause-pid : goal.returns-clause-pid
@@ -47,8 +48,14 @@ returns-clause-pages g c = λ held wanted pages e. (refl, (c.append_new.ensures.
 
 pub returns-clause-numbers : goal.returns-clause-numbers
 returns-clause-numbers g c =
-    let same = staged_numbers c.args.self.now.store.now c.append_new.new.self c.append_new.ensures.pins c.append_new.ensures.committed in
-    (ap (λ (k : Committed). directory_by c.args.self.now.source k.note.directory) c.append_new.ensures.committed, same.1, refl)
+    let same = staged_numbers c.args.self.now.store.now c.append_new.new.self c.append_new.ensures.committed in
+    (ap (λ (k : Committed). directory_by c.args.self.now.source k.note.directory) c.append_new.ensures.committed, same.1)
+
+pub returns-clause-users : goal.returns-clause-users
+returns-clause-users g c =
+    let was = c.args.self.now.store.now in
+    let pins = c.append_new.ensures.pins in
+    view_users c.args.self.now.store.ghost_name c.args.self.now.pin c.args.self.now.source was c.append_new.new.self (others_stay was.table c.append_new.new.self.table c.args.self.now.pin pins.pins pins.lists)
 
 pub returns-clause-dead : goal.returns-clause-dead
 returns-clause-dead g c = dead_of c.append_new.result c.append_new.new.self.live c.append_new.ensures.dead

@@ -1,6 +1,6 @@
-use Rattle.std.proofs.Common.{refl}
 use Rattle.obj_store.proofs.CallLaws.{dead_of, view_numbers}
 use Rattle.obj_store.proofs.ViewLaws.{viewed_source}
+use Rattle.obj_store.proofs.LendLaws.{view_same}
 use Rattle.obj_store.proofs.view.ViewVault.fetch.Goals as goal
 
 pub returns-clause-told : goal.returns-clause-told
@@ -28,7 +28,8 @@ pub returns-clause-pages : goal.returns-clause-pages
 returns-clause-pages g c = c.fetch_in.ensures.fetches.pages
 
 pub returns-clause-numbers : goal.returns-clause-numbers
-returns-clause-numbers g c = let same = view_numbers c.args.self.now.source c.args.self.now.store.now c.fetch_in.new.self c.fetch_in.ensures.same in (same.0, same.1, same.2, refl)
+returns-clause-numbers g c = let same = view_numbers c.args.self.now.source c.args.self.now.store.now c.fetch_in.new.self c.fetch_in.ensures.same in
+    (same.0, same.1, same.2, view_same c.args.self.now.store.ghost_name c.args.self.now.pin c.args.self.now.source c.args.self.now.store.now c.fetch_in.new.self c.fetch_in.ensures.same.0 c.fetch_in.ensures.same.2)
 
 pub returns-clause-dead : goal.returns-clause-dead
 returns-clause-dead g c = dead_of c.fetch_in.result c.fetch_in.new.self.live c.fetch_in.ensures.dead

@@ -1,6 +1,6 @@
-use Rattle.std.proofs.Common.{refl}
 use Rattle.obj_store.proofs.CallLaws.{dead_of, view_numbers}
 use Rattle.obj_store.proofs.ViewLaws.{viewed_source}
+use Rattle.obj_store.proofs.LendLaws.{view_same}
 use Rattle.obj_store.proofs.view.ViewVault.length.Goals as goal
 
 pub returns-clause-told : goal.returns-clause-told
@@ -25,7 +25,8 @@ pub returns-clause-pages : goal.returns-clause-pages
 returns-clause-pages g c = c.length_in.ensures.measures.pages
 
 pub returns-clause-numbers : goal.returns-clause-numbers
-returns-clause-numbers g c = let same = view_numbers c.args.self.now.source c.args.self.now.store.now c.length_in.new.self c.length_in.ensures.same in (same.0, same.1, same.2, refl)
+returns-clause-numbers g c = let same = view_numbers c.args.self.now.source c.args.self.now.store.now c.length_in.new.self c.length_in.ensures.same in
+    (same.0, same.1, same.2, view_same c.args.self.now.store.ghost_name c.args.self.now.pin c.args.self.now.source c.args.self.now.store.now c.length_in.new.self c.length_in.ensures.same.0 c.length_in.ensures.same.2)
 
 pub returns-clause-dead : goal.returns-clause-dead
 returns-clause-dead g c = dead_of c.length_in.result c.length_in.new.self.live c.length_in.ensures.dead

@@ -1,5 +1,5 @@
-use Rattle.std.proofs.Common.{refl}
 use Rattle.obj_store.proofs.CallLaws.{dead_of, view_numbers}
+use Rattle.obj_store.proofs.LendLaws.{view_same}
 use Rattle.obj_store.proofs.view.ViewVault.put.Goals as goal
 
 pub returns-clause-told : goal.returns-clause-told
@@ -15,7 +15,8 @@ pub returns-clause-sound : goal.returns-clause-sound
 returns-clause-sound g c = c.put_in.ensures.never.2
 
 pub returns-clause-numbers : goal.returns-clause-numbers
-returns-clause-numbers g c = let same = view_numbers c.args.self.now.source c.args.self.now.store.now c.put_in.new.self c.put_in.ensures.same in (same.0, same.1, same.2, refl)
+returns-clause-numbers g c = let same = view_numbers c.args.self.now.source c.args.self.now.store.now c.put_in.new.self c.put_in.ensures.same in
+    (same.0, same.1, same.2, view_same c.args.self.now.store.ghost_name c.args.self.now.pin c.args.self.now.source c.args.self.now.store.now c.put_in.new.self c.put_in.ensures.same.0 c.put_in.ensures.same.2)
 
 pub returns-clause-dead : goal.returns-clause-dead
 returns-clause-dead g c = dead_of c.put_in.result c.put_in.new.self.live c.put_in.ensures.dead

@@ -8,6 +8,7 @@ use Rattle.obj_store.specs.Store.{access_of, bounded, outside_at}
 use Rattle.obj_store.specs.Viewing.{IsViewed}
 use Rattle.obj_store.proofs.CallLaws.{dead_of}
 use Rattle.obj_store.proofs.ViewLaws.{viewed_below}
+use Rattle.obj_store.proofs.LendLaws.{view_users, on_settled}
 use Rattle.obj_store.proofs.view.ViewVault.settle.Goals as goal
 
 pub returns-clause-told : goal.returns-clause-told
@@ -36,7 +37,14 @@ returns-clause-pages g c = λ held wanted pages e. (refl, (c.settle_pinned.ensur
 pub returns-clause-numbers : goal.returns-clause-numbers
 returns-clause-numbers g c =
     let same = c.settle_pinned.ensures.same in
-    (ap (λ (n : ℕ). bounded (used_in c.args.self.now.source n)) same.0, ap (λ (n : ℕ). min (capacity_of n) (2 ^ 30 - 1)) same.1, refl)
+    (ap (λ (n : ℕ). bounded (used_in c.args.self.now.source n)) same.0, ap (λ (n : ℕ). min (capacity_of n) (2 ^ 30 - 1)) same.1)
+
+pub returns-clause-users : goal.returns-clause-users
+returns-clause-users g c = view_users c.args.self.now.store.ghost_name c.args.self.now.pin c.args.self.now.source c.args.self.now.store.now c.settle_pinned.new.self c.settle_pinned.ensures.others
+
+pub returns-clause-unstaged : goal.returns-clause-unstaged
+returns-clause-unstaged g c =
+    on_settled c.settle_pinned.result c.args.self.now.store.ghost_name c.args.self.now.pin c.args.self.now.source c.args.self.now.store.now c.settle_pinned.new.self c.settle_pinned.ensures.others c.settle_pinned.ensures.unstaged
 
 pub returns-clause-directory : goal.returns-clause-directory
 returns-clause-directory g c = subst (λ (s : Source). OnOk c.settle_pinned.result (directory_in s c.settle_pinned.new.self.table ≡ c.args.directory)) (sym c.in-Staged.is) c.settle_pinned.ensures.directory

@@ -124,3 +124,12 @@ returns-then-pages-held-clause-fault g c =
 pub returns-in-Err-clause-kept : goal.returns-in-Err-clause-kept
 returns-in-Err-clause-kept g c =
     (subst (λ (k : Committed). IsPlanned c.args.self.now.table k c.plan.new.table) c.next_committed-next.ensures c.plan.ensures).pins
+
+pub returns-in-Ok-clause-lists : goal.returns-in-Ok-clause-lists
+returns-in-Ok-clause-lists g c =
+    let plan = subst (λ (k : Committed). IsPlanned c.args.self.now.table k c.plan.new.table) c.next_committed-next.ensures c.plan.ensures in
+    c.turn.ensures.lists.1 ∙ plan.lists.1
+
+pub returns-in-Err-clause-lists : goal.returns-in-Err-clause-lists
+returns-in-Err-clause-lists g c =
+    (subst (λ (k : Committed). IsPlanned c.args.self.now.table k c.plan.new.table) c.next_committed-next.ensures c.plan.ensures).lists.1

@@ -1,0 +1,4 @@
+pub mod Steps
+pub mod Shown
+pub mod Numbers
+pub use Rattle.ps_outside.specs as ps_outside

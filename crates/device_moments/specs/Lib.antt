@@ -1,0 +1,3 @@
+pub mod Held
+pub use Rattle.commit_moments.specs as commit_moments
+pub use Rattle.obj_store.specs as obj_store

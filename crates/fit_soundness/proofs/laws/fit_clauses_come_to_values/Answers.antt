@@ -1,0 +1,8 @@
+use Rattle.ps_soundness.proofs.Telling.{Told}
+use Rattle.fit_soundness.proofs.Bodies.{comes_to_fit}
+use Rattle.fit_soundness.proofs.laws.fit_clauses_come_to_values.Goals as goal
+
+pub returns : goal.returns
+returns c =
+    let told : Told = record { types = c.type_texts_tell_types_apart.ensures; classes = c.class_texts_tell_classes_apart.ensures } in
+    comes_to_fit told

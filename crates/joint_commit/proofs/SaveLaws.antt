@@ -1,0 +1,257 @@
+-- What a commit that saved leaves on the vault stands for the heap that the meaning saves.
+use Rattle.std.proofs.Common.{true, inl, inr, ◌≡◌, ◌≢◌, ℕ, List, [], map, refl, sym, ap, ◌∙◌, subst, Option, Some, None, IfSome}
+use Rattle.std.specs.Prelude.{Result, Ok, Err}
+use Rattle.swizzle.specs.obj_layout.ps_outside.Outside.{Outside}
+use Rattle.swizzle.specs.obj_layout.declared.kind.Kind.TheVariants as kind
+use Rattle.swizzle.specs.obj_layout.declared.reference.Reference.{Reference}
+use Rattle.swizzle.specs.obj_layout.declared.reference.Reference.TheVariants.{Pid}
+use Rattle.swizzle.specs.obj_layout.Stored.{Space, without_file}
+use Rattle.swizzle.specs.obj_layout.Storing.{Becomes, Settles}
+use Rattle.swizzle.specs.obj_layout.declared.vault.VaultFault.{VaultFault}
+use Rattle.swizzle.specs.declared.fault.SwizzleFault.{SwizzleFault}
+use Rattle.swizzle.specs.declared.fault.SwizzleFault.TheVariants.{AreaFull, Vault}
+use Rattle.swizzle.specs.Heap.{Heap, IsHeap, IsHeld}
+use Rattle.swizzle.specs.Joint.{Shown}
+use Rattle.commit_walk.specs.declared.homes.Source.{Source}
+use Rattle.heap_meaning.specs.heap_places.Shapes.{word_in}
+use Rattle.heap_meaning.specs.Paired.{paired}
+use Rattle.heap_meaning.proofs.TableLaws.{no-node}
+use Rattle.heap_meaning.specs.ps_heap.Held.{Held, StoredHeap, home_at}
+use Rattle.heap_meaning.specs.ps_heap.Commit.{homes_after, Decision, NotWritable, NothingToDo, Saves, saved, decision, after_decision}
+use Rattle.database_meaning.proofs.CommitLaws.{saved-is}
+use Rattle.ps_code_laws.specs.Compiled.{compiled_held, compiled_stored}
+use Rattle.ps_code_laws.proofs.CommitCompiling.{compiled_decision, decision_compiled}
+use Rattle.joint_ops.specs.World.{seen}
+use Rattle.joint_ops.proofs.SeenLaws.{seen-one}
+use Rattle.reach_commit.specs.declared.commit.CommitAnswer.{CommitAnswer}
+use Rattle.reach_commit.specs.declared.commit.CommitAnswer.TheVariants as answer
+use Rattle.commit_images.specs.Saved.{saved as stored_by, saving}
+use Rattle.reach_commit.specs.Deciding.{AreWritable}
+use Rattle.reach_commit.specs.Committing.{Commits, BreaksOff, pid_of}
+use Rattle.reach_commit.specs.Telling.{after_step, Tells}
+use Rattle.reach_commit.specs.Answers.{Decides, LeavesAll, Stores}
+use Rattle.joint_held.specs.Held.{IsAtHome, HoldsRun}
+use Rattle.space_meaning.specs.heap_fit.Heaps.{IsFitHeap}
+use Rattle.space_meaning.specs.Space.{SeenIn}
+use Rattle.space_meaning.specs.Stands.{IsHome, SpaceStands}
+use Rattle.space_meaning.specs.Keeping.{HaveUnits}
+use Rattle.space_meaning.proofs.Seen.{seen-one as one-seen}
+use Rattle.space_meaning.proofs.StandLaws.{space-stands}
+use Rattle.joint_reach.specs.Meets.{DecidesAs, MeetsHomes}
+use Rattle.joint_reach.proofs.DecideLaws.{decides-as}
+use Rattle.joint_reach.proofs.HomeLaws.{meets-homes}
+use Rattle.joint_reach.proofs.NodeLaws.{meets-nodes}
+use Rattle.joint_commit.specs.Saving.{none_made, ContentsStand, ImagesStand, LeavesEither}
+use Rattle.joint_commit.specs.Answers.{IsOwed, CommitsRun}
+use Rattle.joint_commit.proofs.StoredLaws.{Setting, row, things-kept, space-keeps}
+use Rattle.joint_commit.proofs.HomeLaws.{homes-hold}
+use Rattle.joint_commit.proofs.DirectoryLaws.{directory-stands}
+use Rattle.joint_commit.proofs.RunLaws.{held_after, run-after, saves-asked}
+
+-- The decision over the meaning's heap, from that over the compiled one.
+
+refused-back : (d : Decision) → compiled_decision d ≡ NotWritable → d ≡ NotWritable
+refused-back NotWritable e = refl
+refused-back NothingToDo e = absurd (cc)
+refused-back (Saves heap) e = absurd (cc)
+
+nothing-back : (d : Decision) → compiled_decision d ≡ NothingToDo → d ≡ NothingToDo
+nothing-back NotWritable e = absurd (cc)
+nothing-back NothingToDo e = refl
+nothing-back (Saves heap) e = absurd (cc)
+
+saves-back : (d : Decision) (made : StoredHeap) → compiled_decision d ≡ Saves made → (heap : StoredHeap) × (d ≡ Saves heap) × (made ≡ compiled_stored heap)
+saves-back NotWritable made e = absurd (cc)
+saves-back NothingToDo made e = absurd (cc)
+saves-back (Saves heap) made e = (heap, refl, cc)
+
+-- the meaning saves, and its heap is the compiled one's
+pub record SavesBoth (h : Held) : Type 0 where
+  pub saves : decision h ≡ Saves (saved h)
+  pub made : saved (compiled_held h) ≡ compiled_stored (saved h)
+
+saves-both : (h : Held) → decision (compiled_held h) ≡ Saves (saved (compiled_held h)) → SavesBoth h
+saves-both h e =
+    let b = saves-back (decision h) (saved (compiled_held h)) (sym (decision_compiled h) ∙ e) in
+    let is = (saved-is h b.0 b.1).1 in
+    record { saves = b.1 ∙ ap (λ (heap : StoredHeap). Saves heap) is; made = b.2 ∙ ap compiled_stored is }
+
+homes-same : (h : Held) → saved (compiled_held h) ≡ compiled_stored (saved h) → homes_after (compiled_held h) ≡ homes_after h
+unfolding saved
+homes-same h e = ap (λ (heap : StoredHeap). heap.homes) e
+
+abbrev saved_parts : Held → StoredHeap
+saved_parts h = record { objects = h.objects; homes = homes_after h; directory = h.directory }
+
+saved-is_parts : (h : Held) → saved h ≡ saved_parts h
+unfolding saved
+saved-is_parts h = refl
+
+run-same : (h : Held) → homes_after (compiled_held h) ≡ homes_after h → held_after (compiled_held h) ≡ compiled_held (after_decision (Saves (saved h)) h)
+unfolding saved
+run-same h e = ap (λ (homes : List (Option ℕ)). record (compiled_held h) { homes = homes; created = []; assigned = [] }) e
+
+module _ (old new : Heap) (before after : Outside Space) (names : List Reference) (writing : List Source) (directory : Option ℕ) (h : Held)
+    (s : Setting old new before after names writing directory (compiled_held h))
+    (meets : MeetsHomes old new names writing directory (compiled_held h))
+    (fit : IsFitHeap (saved h))
+    (units : HaveUnits h.objects)
+    (both : SavesBoth h)
+    (asked : h.asked ≡ true) where
+  abbrev ρ : Reference → Reference
+  ρ = (s.tells.moved s.holds.current.told).to
+
+  home-in : (space : Space) (is : after.contents space) (pid id : ℕ) → paired (map ρ names) (Pid pid) id → (it : Shown) → SeenIn (without_file space) (Pid pid) it
+      → IsHome (word_in it 0) (home_at (homes_after h) id)
+  home-in space is pid id p it there =
+      by (home_at (homes_after h) id)
+      (subst (λ (homes : List (Option ℕ)). IsAtHome (seen new after) (Pid pid) (home_at homes id)) (homes-same h both.made)
+      (homes-hold old new before after names writing directory (compiled_held h) s meets (Pid pid) id p))
+    where
+      by : (home : Option ℕ) → IsAtHome (seen new after) (Pid pid) home → IsHome (word_in it 0) home
+      by None a = absurd a
+      by (Some number) a =
+          let b = (row old new before after names writing directory (compiled_held h) s).stands.both (Pid pid) id p in
+          let same : a.0 ≡ b.it = seen-one new after s.good s.one (Pid pid) a.0 b.it a.1 b.there in
+          let other : (a.0).kind ≢ kind.Node =
+          λ e. no-node (seen new after) (paired (map ρ names)) b.it b.object b.like (ap (λ (x : Shown). x.kind) (sym same) ∙ e) in
+          let mine = things-kept old new before after names writing directory (compiled_held h) s space is pid a.0 a.1 other in
+          ap (λ (x : Shown). word_in x 0) (one-seen (without_file space) (Pid pid) it a.0 there mine) ∙ a.2
+
+  pub contents-stand : ContentsStand after (saved h)
+  contents-stand space is =
+      let cut = (s.tells.told s.holds.current.told).cut space is in
+      subst (SpaceStands (without_file space)) (sym (saved-is_parts h))
+      (space-stands (seen new after) (without_file space) (saved_parts h) (map ρ names) (row old new before after names writing directory (compiled_held h) s) units
+      (space-keeps old new before after names writing directory (compiled_held h) s space is) (home-in space is)
+      (directory-stands old new before after names writing directory (compiled_held h) s space is asked) cut.objects cut.cut (subst IsFitHeap (saved-is_parts h) fit))
+
+-- What a crash leaves, of a commit that was answered.
+module _ (before after : Outside Space) (most : ℕ) (step : Space → Space) (heap : StoredHeap)
+    (settles : Settles {T = Unit {0}} before after most step (Ok tt))
+    (stands : ContentsStand after heap) where
+  moments-stand : Becomes before after step → LeavesEither before after heap
+  moments-stand becomes start stood m image low high at =
+      elim (settles.images.each m (without_file image) low high (record { from = image; was = at; by = refl })) [
+        | inl a ↦ inl (subst (λ (x : Space). SpaceStands x start) a.by (stood a.from a.was))
+        | inr k ↦ inr (subst (λ (x : Space). SpaceStands (without_file x) heap) k.2 (stands (step k.0) (becomes.told k.0 k.1)))
+      ]
+
+  last-stands : (content : Space) → before.contents content → ImagesStand after after.clock heap
+  last-stands content is image at = stands (without_file image) (settles.durable content (without_file image) is (record { from = image; was = at; by = refl }))
+
+-- Of one that broke off: either it leaves what it left before, or what would be held stands.
+broken-stands : (old new : Heap) (writing : List Source) (directory : Option ℕ) (before after : Outside Space) (used most : ℕ) (fault : VaultFault) (heap : StoredHeap)
+    (b : BreaksOff old new writing directory before after used most fault)
+    → (Tells old new before (after_step before (stored_by new b.fresh b.changed (pid_of new directory))) b.fresh b.changed (pid_of new directory)
+    → ContentsStand (after_step before (stored_by new b.fresh b.changed (pid_of new directory))) heap) → LeavesEither before after heap
+broken-stands old new writing directory before after used most fault heap b stands start stood m image low high at =
+    elim b.whole [
+      | inl same ↦
+          let a = same.each m (without_file image) low high (record { from = image; was = at; by = refl }) in
+          inl (subst (λ (x : Space). SpaceStands x start) a.by (stood a.from a.was))
+      | inr tells ↦ elim (b.settles.images.each m (without_file image) low high (record { from = image; was = at; by = refl })) [
+        | inl a ↦ inl (subst (λ (x : Space). SpaceStands x start) a.by (stood a.from a.was))
+        | inr k ↦ inr (stands tells (without_file image) (record { from = k.0; was = k.1; by = k.2 }))
+      ]
+    ]
+
+-- what is held after a step
+held-step : (outside : Outside Space) (step : Space → Space) → Becomes outside (after_step outside step) step
+held-step outside step = record { told = λ space held. record { from = space; was = held; by = refl }; no_other = λ after held. (held.from, held.was, held.by) }
+
+one-step : (outside : Outside Space) (step : Space → Space) → ((a b : Space) → outside.contents a → outside.contents b → a ≡ b)
+    → (a b : Space) → (after_step outside step).contents a → (after_step outside step).contents b → a ≡ b
+one-step outside step only a b p q = sym p.by ∙ (ap step (only p.from q.from p.was q.was) ∙ q.by)
+
+-- where nothing changed area and vault hold the run as before
+abbrev pub Keeps : Heap → Outside Space → List Reference → List Source → Option ℕ → Held → Result CommitAnswer SwizzleFault → Type 0
+Keeps new after names writing directory h (Ok (answer.NotWritable object home)) = HoldsRun new after names writing directory h
+Keeps new after names writing directory h (Ok answer.Nothing) = HoldsRun new after names writing directory h
+Keeps new after names writing directory h _ = Unit {0}
+
+pub keeps-run : {V : Type 0} (outside : V → Outside Space) (old new : Heap) (before after : V) (names : List Reference) (writing : List Source) (directory : Option ℕ) (h : Held)
+    (result : Result CommitAnswer SwizzleFault) → HoldsRun old (outside before) names writing directory h → LeavesAll old new before after result → Keeps new (outside after) names writing directory h result
+keeps-run outside old new before after names writing directory h (Ok (answer.NotWritable object home)) holds same =
+    subst (λ (x : Heap). HoldsRun x (outside after) names writing directory h) (sym same.0) (subst (λ v. HoldsRun old (outside v) names writing directory h) (sym same.1) holds)
+keeps-run outside old new before after names writing directory h (Ok answer.Nothing) holds same =
+    subst (λ (x : Heap). HoldsRun x (outside after) names writing directory h) (sym same.0) (subst (λ v. HoldsRun old (outside v) names writing directory h) (sym same.1) holds)
+keeps-run outside old new before after names writing directory h (Ok (answer.Saved fresh rewritten)) holds same = tt
+keeps-run outside old new before after names writing directory h (Err fault) holds same = tt
+
+-- A commit, by what it answers.
+module _ (old new : Heap) (before after : Outside Space) (names : List Reference) (writing : List Source) (directory : Option ℕ) (h : Held) (used now most named : ℕ)
+    (sound : IsHeap old)
+    (good : IsHeap new)
+    (only : (a b : Space) → before.contents a → before.contents b → a ≡ b)
+    (one : (a b : Space) → after.contents a → after.contents b → a ≡ b)
+    (given : IfSome directory (IsHeld old))
+    (holds : HoldsRun old before names writing directory (compiled_held h))
+    (owed : IsOwed h) where
+  decides : (result : Result CommitAnswer SwizzleFault) → Decides old writing result → DecidesAs (compiled_held h) result
+  decides result d = decides-as old before names writing directory (compiled_held h) sound (seen-one old before sound only) holds result d
+
+  -- the parts of a commit that stored
+  abbrev setting : (then : Outside Space) (fresh changed : List ℕ) → AreWritable old writing → ((a b : Space) → then.contents a → then.contents b → a ≡ b)
+      → Commits old new writing directory used fresh changed → Becomes before then (stored_by new fresh changed (pid_of new directory))
+      → Tells old new before then fresh changed (pid_of new directory) → Setting old new before then names writing directory (compiled_held h)
+  setting then fresh changed writable single commits becomes tells = record {
+    used = used;
+    fresh = fresh;
+    changed = changed;
+    sound = sound;
+    good = good;
+    only = only;
+    one = single;
+    given = given;
+    holds = holds;
+    commits = commits;
+    becomes = becomes;
+    tells = tells;
+    meets = meets-nodes old before names writing directory (compiled_held h) sound (seen-one old before sound only) holds writable;
+  }
+
+  homes : (fresh changed : List ℕ) → AreWritable old writing → Commits old new writing directory used fresh changed → MeetsHomes old new names writing directory (compiled_held h)
+  homes fresh changed writable commits =
+      meets-homes old before names writing directory (compiled_held h) sound (seen-one old before sound only) holds writable new used fresh changed commits
+
+  pub commits-run : (result : Result CommitAnswer SwizzleFault) → Decides old writing result → Stores old new writing directory before after used now most named result
+      → Keeps new after names writing directory (compiled_held h) result → CommitsRun old new before after names writing directory h result
+  commits-run (Ok (answer.NotWritable object home)) d stores keeps =
+      (refused-back (decision h) (sym (decision_compiled h) ∙ decides (Ok (answer.NotWritable object home)) d), keeps)
+  commits-run (Ok answer.Nothing) d stores keeps = (nothing-back (decision h) (sym (decision_compiled h) ∙ decides (Ok answer.Nothing) d), keeps)
+  commits-run (Err (AreaFull top wanted size)) d stores keeps = absurd stores
+  commits-run (Err (Vault fault)) d stores keeps =
+      let made = decides (Err (Vault fault)) d in
+      let both = saves-both h made in
+      let asked = saves-asked (compiled_held h) directory made holds.unasked in
+      let step = stored_by new stores.fresh stores.changed (pid_of new directory) in (
+        both.saves,
+        broken-stands old new writing directory before after used most fault (saved h) stores (λ tells.
+            contents-stand old new before (after_step before step) names writing directory h
+            (setting (after_step before step) stores.fresh stores.changed d.0 (one-step before step only) stores.commits (held-step before step) tells)
+            (homes stores.fresh stores.changed d.0 stores.commits) owed.fit owed.units both asked),
+      )
+  commits-run (Ok (answer.Saved fresh rewritten)) d stores keeps =
+      let made = decides (Ok (answer.Saved fresh rewritten)) d in
+      let both = saves-both h made in
+      let asked = saves-asked (compiled_held h) directory made holds.unasked in
+      let s = setting after stores.fresh stores.changed d.0 one stores.commits stores.becomes stores.tells in
+      let at_home = homes stores.fresh stores.changed d.0 stores.commits in
+      let stands = contents-stand old new before after names writing directory h s at_home owed.fit owed.units both asked in
+      let t = holds.current.told in
+      let m = stores.tells.moved t in
+      let step = stored_by new stores.fresh stores.changed (pid_of new directory) in (
+        both.saves,
+        record {
+          more = map m.to names;
+          holds = subst (HoldsRun new after (map m.to names) (none_made writing) directory) (run-same h (homes-same h both.made))
+              (run-after old new before after names writing directory (compiled_held h) s stores.unassigned at_home asked);
+          values = λ at v e. m.values names at v e;
+          scopes = λ at scope e. m.scopes names at scope e;
+          units = m.units;
+          contents = stands;
+          moments = moments-stand before after (saving new stores.fresh stores.changed now) step (saved h) stores.settles stands stores.becomes;
+          last = last-stands before after (saving new stores.fresh stores.changed now) step (saved h) stores.settles stands t.content t.is;
+        },
+      )

@@ -1,0 +1,11 @@
+pub mod TreeLaws
+pub mod ImageLaws
+pub mod GainLaws
+pub mod MadeLaws
+pub mod IdLaws
+pub mod EmptyLaws
+pub mod WriteLaws
+pub mod ValueLaws
+pub mod EnterLaws
+pub mod OpenLaws
+pub mod NewTableLaws

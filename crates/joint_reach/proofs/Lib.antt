@@ -1,0 +1,11 @@
+pub mod SeenLaws
+pub mod RowLaws
+pub mod TreeLaws
+pub mod Tied
+pub mod MeetLaws
+pub mod TiedLaws
+pub mod SourceLaws
+pub mod ReachLaws
+pub mod DecideLaws
+pub mod HomeLaws
+pub mod NodeLaws

@@ -1,0 +1,41 @@
+use Rattle.std.proofs.Common.{sym, subst, ℕ, List}
+use Rattle.joint_ops.proofs.SeenLaws.{text-denoted}
+use Rattle.table_lib.specs.table_nodes.Steps.{place}
+use Rattle.table_lib.specs.table_nodes.node_rows.Keys.{by_texts}
+use Rattle.table_lib.specs.Entries.{Enters}
+use Rattle.joint_tables.proofs.SeenLaws.{alive-unless, changes-fail, err-leaves, pid-low}
+use Rattle.joint_tables.proofs.EnterLaws.{entered-key}
+use Rattle.joint_tables.proofs.tables.enter_text.Goals as goal
+
+pub returns-clause-entered : goal.returns-clause-entered
+returns-clause-entered g c of names bytes v w world dk d dw pntr =
+    let before = g.V.Vault.outside c.args.vault.now in
+    let after = g.V.Vault.outside c.enter_text-done.new.vault in
+    let old = c.args.sw.now in
+    let new = c.enter_text-done.new.sw in
+    let leaves = err-leaves old new before after c.enter_text-done.result c.enter_text-done.ensures.leaves c.enter_text-done.ensures.still in
+    let same = (text-denoted old before names c.args.key bytes c.sound.ensures dk).bytes_are in
+    entered-key old new before after of names c.sound.ensures c.sound-2.ensures world (g.met.V.Vault.one c.args.vault.now)
+    (λ pid words there. pid-low before (g.V.Vault.used_words c.args.vault.now) (g.V.Vault.directory_at c.args.vault.now) pid words
+    (g.met.V.Vault.space c.args.vault.now) (g.met.V.Vault.bounds c.args.vault.now).1 there)
+    by_texts bytes c.args.table v c.enter_text-done.result d
+    (changes-fail before after new c.args.table c.enter_text-done.result leaves c.enter_text-done.ensures.fault) c.enter_text-done.ensures.spares c.enter_text-done.ensures.still c.args.to w pntr dw
+    (subst (λ (b : List ℕ). Enters by_texts (place old before)
+    (place new after) c.args.table b c.args.to c.enter_text-done.result) same c.enter_text-done.ensures.entered)
+
+pub returns-clause-leaves : goal.returns-clause-leaves
+returns-clause-leaves g c =
+    err-leaves c.args.sw.now c.enter_text-done.new.sw (g.V.Vault.outside c.args.vault.now)
+    (g.V.Vault.outside c.enter_text-done.new.vault) c.enter_text-done.result c.enter_text-done.ensures.leaves c.enter_text-done.ensures.still
+
+pub returns-clause-fails : goal.returns-clause-fails
+returns-clause-fails g c =
+    let before = g.V.Vault.outside c.args.vault.now in
+    let after = g.V.Vault.outside c.enter_text-done.new.vault in
+    changes-fail before after c.enter_text-done.new.sw c.args.table c.enter_text-done.result
+    (err-leaves c.args.sw.now c.enter_text-done.new.sw before after c.enter_text-done.result c.enter_text-done.ensures.leaves c.enter_text-done.ensures.still) c.enter_text-done.ensures.fault
+
+pub returns-clause-alive : goal.returns-clause-alive
+returns-clause-alive g c =
+    alive-unless (g.V.Vault.alive c.enter_text-done.new.vault) c.enter_text-done.result c.enter_text-done.ensures.alive
+    (λ t e. subst (λ v. g.V.Vault.alive v) (sym (c.enter_text-done.ensures.trapped t e).1) c.requires.alive)
