@@ -14,5 +14,6 @@ pub mod objects;
 mod places;
 
 pub use joint_ops;
+pub use joint_tables;
 pub use joint_ops::{OpFault, Value, obj_layout, swizzle};
 pub use structure_rows;
