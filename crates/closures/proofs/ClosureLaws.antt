@@ -11,7 +11,7 @@ use Rattle.heap_places.specs.swizzle.Objects.{Object}
 use Rattle.heap_places.specs.swizzle.Heap.{Heap, IsHeap, IsHeld, IsMade, top_of, header_at, ref_at, with_ref, reference_to, blank}
 use Rattle.heap_places.specs.swizzle.Joint.{shown_at, name_of}
 use Rattle.heap_places.specs.swizzle.Changes.{Touched}
-use Rattle.heap_places.specs.swizzle.Touch.{Denotes, Keeps, IsNear, IsTouchCall, IsTouchFault}
+use Rattle.heap_places.specs.swizzle.Touch.{Denotes, Keeps, Only, IsNear, IsTouchCall, IsTouchFault}
 use Rattle.heap_places.specs.swizzle.Reading.{joint}
 use Rattle.heap_places.proofs.of_swizzle.NameLaws.{name-not_nil}
 use Rattle.heap_places.proofs.of_swizzle.ReadingLaws.{fails-touch}
@@ -49,17 +49,17 @@ pub opens : (old new : Heap) (a b : Outside Space) (at slot : ℕ) (r : Result (
     → IfOk r (λ to. Denotes new to (name_of old (ref_at old at slot))) → OnOk r (Keeps old new)
     → OnOk r (Touched (joint old a) (joint new b) (name_of old (ref_at old at slot)))
     → ((to : Option ℕ) → ref_at old at slot ≡ reference_to to → new ≡ old)
-    → (IsNear old (name_of old (ref_at old at slot)) → top_of new ≡ top_of old)
+    → (IsNear old (name_of old (ref_at old at slot)) → top_of new ≡ top_of old) → OnOk r (Only old new (name_of old (ref_at old at slot)))
     → IsTouchCall old new a b r → IfErr r (IsTouchFault old a (ref_at old at slot)) → OpensSlot old new a b at slot r
-opens old new a b at slot (Ok (Some part)) shape target keeps touched still near call fault = record {
+opens old new a b at slot (Ok (Some part)) shape target keeps touched still near only call fault = record {
   shape = shape;
   denotes = denotes-slot old new at slot (Some part) target;
-  reads = reads-slot old new a b at slot (Some part) keeps touched near call;
+  reads = reads-slot old new a b at slot (Some part) keeps touched near only call;
 }
-opens old new a b at slot (Ok None) shape target keeps touched still near call fault = record {
+opens old new a b at slot (Ok None) shape target keeps touched still near only call fault = record {
   shape = shape;
   none = denotes-slot old new at slot None target;
   stays = still None (ref-nil old (ref_at old at slot) target);
-  reads = reads-slot old new a b at slot None keeps touched near call;
+  reads = reads-slot old new a b at slot None keeps touched near only call;
 }
-opens old new a b at slot (Err f) shape target keeps touched still near call fault = (fails-touch old new a b f call, inr (shape, fault))
+opens old new a b at slot (Err f) shape target keeps touched still near only call fault = (fails-touch old new a b f call, inr (shape, fault))

@@ -15,7 +15,7 @@ use Rattle.joint_ops.specs.swizzle.Heap.{Heap, IsHeap, IsHeld, top_of, header_at
 use Rattle.joint_ops.specs.swizzle.Text.{text_at}
 use Rattle.joint_ops.specs.swizzle.Joint.{Shown, shown_at, name_at, name_of}
 use Rattle.joint_ops.specs.swizzle.Changes.{Within, Touched}
-use Rattle.joint_ops.specs.swizzle.Touch.{Denotes, Keeps, IsNear, IsTouchCall, IsTouchFault}
+use Rattle.joint_ops.specs.swizzle.Touch.{Denotes, Keeps, Only, IsNear, IsTouchCall, IsTouchFault}
 use Rattle.joint_ops.specs.swizzle.Reading.{joint, FailsReading}
 use Rattle.joint_ops.specs.heap_places.Shapes.{IsText, slot_of, shown_text}
 use Rattle.joint_ops.specs.heap_places.Places.{FailsFetch}
@@ -68,10 +68,10 @@ entry-there old new at slot text of to is denotes kind = record {
 }
 
 pub entry-reads : (old new : Heap) (a b : Outside Space) (at slot : ℕ) (to : Option ℕ) → Keeps old new → Touched (joint old a) (joint new b) (name_of old (ref_at old at slot))
-    → (IsNear old (name_of old (ref_at old at slot)) → top_of new ≡ top_of old) → IsTouchCall old new a b (Ok to) → ReadsSome old new a b
-entry-reads old new a b at slot to keeps touched near call = record {
+    → (IsNear old (name_of old (ref_at old at slot)) → top_of new ≡ top_of old) → Only old new (name_of old (ref_at old at slot)) → IsTouchCall old new a b (Ok to) → ReadsSome old new a b
+entry-reads old new a b at slot to keeps touched near only call = record {
   names = slot_of (shown_at old at) slot ∷ [];
-  reads = reads-slot old new a b at slot to keeps touched near call;
+  reads = reads-slot old new a b at slot to keeps touched near only call;
 }
 
 pub entry-other : (old new : Heap) (a b : Outside Space) (at slot other number wanted : ℕ) (of : Kind) (to : Option ℕ) (fault : SwizzleFault) → to ≡ Some other

@@ -10,7 +10,7 @@ use Rattle.joint_ops.specs.swizzle.Heap.{Heap, IsHeap, IsHeld, top_of, header_at
 use Rattle.joint_ops.specs.swizzle.Fetched.{IsLocal}
 use Rattle.joint_ops.specs.swizzle.Joint.{Shown, shown_at, name_at}
 use Rattle.joint_ops.specs.swizzle.Changes.{Within, Touched}
-use Rattle.joint_ops.specs.swizzle.Touch.{Keeps, IsNear, IsTouchCall, IsTouchFault}
+use Rattle.joint_ops.specs.swizzle.Touch.{Keeps, Only, IsNear, IsTouchCall, IsTouchFault}
 use Rattle.joint_ops.specs.swizzle.Reading.{joint, FailsReading}
 use Rattle.joint_ops.specs.heap_places.Places.{FailsFetch}
 use Rattle.joint_ops.specs.heap_meaning.Standing.{Seen, Pairing}
@@ -62,10 +62,10 @@ big-loaded here outside row used pid (d ∷ ds) h law high is = omega (arith, (s
 
 -- the object of a PID was touched
 pub loaded-reads : (old new : Heap) (a b : Outside Space) (pid at : ℕ) → IsHeap old → Keeps old new → Touched (joint old a) (joint new b) (Pid pid)
-    → ((to : ℕ) → local_of old pid ≡ Some to → new ≡ old) → IsTouchCall old new a b (Ok at) → ReadsSome old new a b
-loaded-reads old new a b pid at h keeps touched near call = record {
+    → ((to : ℕ) → local_of old pid ≡ Some to → new ≡ old) → Only old new (Pid pid) → IsTouchCall old new a b (Ok at) → ReadsSome old new a b
+loaded-reads old new a b pid at h keeps touched near only call = record {
   names = Pid pid ∷ [];
-  reads = reads-touch old new a b (Pid pid) at keeps touched (λ n. stays n (local_of old pid) refl) call;
+  reads = reads-touch old new a b (Pid pid) at keeps touched (λ n. stays n (local_of old pid) refl) only call;
 }
   where
     stays : IsNear old (Pid pid) → (o : Option ℕ) → local_of old pid ≡ o → top_of new ≡ top_of old

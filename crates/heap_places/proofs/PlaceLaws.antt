@@ -12,7 +12,7 @@ use Rattle.heap_texts.specs.swizzle.declared.fault.SwizzleFault.TheVariants.{Vau
 use Rattle.heap_texts.specs.swizzle.Heap.{Heap, IsHeap, IsHeld, Stands, top_of, object_at, header_at, ref_at}
 use Rattle.heap_texts.specs.swizzle.Joint.{shown_at, name_of}
 use Rattle.heap_texts.specs.swizzle.Changes.{Touched}
-use Rattle.heap_texts.specs.swizzle.Touch.{Denotes, Keeps, IsNear, IsTouchCall}
+use Rattle.heap_texts.specs.swizzle.Touch.{Denotes, Keeps, Only, IsNear, IsTouchCall}
 use Rattle.heap_texts.specs.swizzle.Reading.{joint, Reads, LeavesOutside, FailsReading}
 use Rattle.heap_texts.proofs.of_swizzle.NameLaws.{shown-counts, names_at}
 use Rattle.heap_texts.proofs.of_swizzle.ReadingLaws.{reads-touch}
@@ -34,11 +34,11 @@ slot-name heap at slot = names_at heap (object_at heap at).refs slot
 -- A slot was touched.
 pub reads-slot : (old new : Heap) (a b : Outside Space) (at slot : ℕ) (to : Option ℕ) → Keeps old new
     → Touched (joint old a) (joint new b) (name_of old (ref_at old at slot))
-    → (IsNear old (name_of old (ref_at old at slot)) → top_of new ≡ top_of old) → IsTouchCall old new a b (Ok to)
+    → (IsNear old (name_of old (ref_at old at slot)) → top_of new ≡ top_of old) → Only old new (name_of old (ref_at old at slot)) → IsTouchCall old new a b (Ok to)
     → Reads old new a b (slot_of (shown_at old at) slot ∷ [])
-reads-slot old new a b at slot to keeps touched near call =
+reads-slot old new a b at slot to keeps touched near only call =
     subst (λ (name : Reference). Reads old new a b (name ∷ [])) (sym (slot-name old at slot))
-    (reads-touch old new a b (name_of old (ref_at old at slot)) to keeps touched near call)
+    (reads-touch old new a b (name_of old (ref_at old at slot)) to keeps touched near only call)
 
 pub denotes-slot : (old new : Heap) (at slot : ℕ) (to : Option ℕ) → Denotes new to (name_of old (ref_at old at slot))
     → Denotes new to (slot_of (shown_at old at) slot)
@@ -47,11 +47,11 @@ denotes-slot old new at slot to d = subst (Denotes new to) (sym (slot-name old a
 -- a place of references was read
 pub reads-reference : (old new : Heap) (a b : Outside Space) (at index : ℕ) (f : Form) (to : Option ℕ) → f ≡ form.Reference
     → Denotes new to (name_of old (ref_at old at index)) → Keeps old new → Touched (joint old a) (joint new b) (name_of old (ref_at old at index))
-    → (IsNear old (name_of old (ref_at old at index)) → top_of new ≡ top_of old) → IsTouchCall old new a b (Ok to)
+    → (IsNear old (name_of old (ref_at old at index)) → top_of new ≡ top_of old) → Only old new (name_of old (ref_at old at index)) → IsTouchCall old new a b (Ok to)
     → ReadsPlace old new a b at f index (Ok (Ref to))
-reads-reference old new a b at index f to e denotes keeps touched near call =
+reads-reference old new a b at index f to e denotes keeps touched near only call =
     subst (λ (g : Form). ReadsPlace old new a b at g index (Ok (Ref to))) (sym e)
-    (denotes-slot old new at index to denotes, reads-slot old new a b at index to keeps touched near call)
+    (denotes-slot old new at index to denotes, reads-slot old new a b at index to keeps touched near only call)
 
 -- The damage that is named.
 

@@ -19,7 +19,7 @@ use Rattle.heap_texts.specs.swizzle.Heap.{Heap, IsHeap, IsHeld, top_of, header_a
 use Rattle.heap_texts.specs.swizzle.Joint.{shown_at, name_of}
 use Rattle.heap_texts.specs.swizzle.Changes.{Touched}
 use Rattle.heap_texts.specs.swizzle.Text.{text_at}
-use Rattle.heap_texts.specs.swizzle.Touch.{Denotes, Keeps, IsNear, IsTouchCall}
+use Rattle.heap_texts.specs.swizzle.Touch.{Denotes, Keeps, Only, IsNear, IsTouchCall}
 use Rattle.heap_texts.specs.swizzle.Reading.{joint}
 use Rattle.heap_texts.proofs.of_swizzle.NameLaws.{shown-counts, name-not_nil}
 use Rattle.heap_texts.proofs.of_swizzle.ReadingLaws.{leaves-none, leaves-touch}
@@ -46,15 +46,15 @@ text-none heap outside at fault h held none named = (
 -- it refers to a text
 pub text-there : (old new : Heap) (a b : Outside Space) (at text : ℕ) (to : Option ℕ) → to ≡ Some text → Denotes new to (name_of old (ref_at old at 0))
     → Keeps old new → Touched (joint old a) (joint new b) (name_of old (ref_at old at 0))
-    → (IsNear old (name_of old (ref_at old at 0)) → top_of new ≡ top_of old) → IsTouchCall old new a b (Ok to)
+    → (IsNear old (name_of old (ref_at old at 0)) → top_of new ≡ top_of old) → Only old new (name_of old (ref_at old at 0)) → IsTouchCall old new a b (Ok to)
     → nat_eq (kind_number (header_at new text).kind) 1 ≡ true → FirstText old new a b at text
-text-there old new a b at text to is denotes keeps touched near call kind =
+text-there old new a b at text to is denotes keeps touched near only call kind =
     let seen : Denotes new (Some text) (name_of old (ref_at old at 0)) = subst (λ (t : Option ℕ). Denotes new t (name_of old (ref_at old at 0))) is denotes in
     record {
       held = seen.0;
       kind = kinds-same (header_at new text).kind Text kind;
       denotes = denotes-slot old new at 0 (Some text) seen;
-      reads = reads-slot old new a b at 0 to keeps touched near call;
+      reads = reads-slot old new a b at 0 to keeps touched near only call;
     }
 
 -- it refers to what is no text

@@ -1,24 +1,26 @@
 -- Area and vault hold the run after a commit that saved.
-use Rattle.std.proofs.Common.{true, false, Bool, inl, inr, ◌≡◌, ℕ, zero, suc, List, [], ◌∷◌, map, refl, sym, ap, ◌∙◌, subst, Option, Some, None}
+use Rattle.std.proofs.Common.{true, false, Bool, inl, inr, ◌≡◌, ℕ, zero, suc, List, [], ◌∷◌, length, map, arith, refl, sym, ap, ◌∙◌, subst, Option, Some, None}
 use Rattle.std.specs.Prelude.{◌&&◌, not, if◌then◌else◌, nat_eq}
 use Rattle.std.proofs.lemmas.Bool.{cases_Bool}
 use Rattle.swizzle.specs.obj_layout.ps_outside.Outside.{Outside}
 use Rattle.swizzle.specs.obj_layout.declared.reference.Reference.{Reference}
 use Rattle.swizzle.specs.obj_layout.Stored.{Space}
-use Rattle.swizzle.specs.Heap.{Heap, IsHeld, IsListed}
+use Rattle.swizzle.specs.obj_layout.declared.reference.Reference.TheVariants.{Pid}
+use Rattle.swizzle.specs.Heap.{Heap, IsHeld, IsListed, header_at}
+use Rattle.swizzle.proofs.NameLaws.{name-pid}
 use Rattle.reaching.specs.Reaching.{IsIn, is_in}
 use Rattle.reaching.proofs.Lists.{is_in-in, in-is_in}
 use Rattle.commit_walk.specs.declared.homes.Source.{Source}
 use Rattle.commit_walk.specs.Homes.{source_at}
 use Rattle.heap_meaning.specs.Standing.{Seen, Pairing}
 use Rattle.heap_meaning.specs.Paired.{paired}
-use Rattle.heap_meaning.specs.ps_heap.Databases.{Database, Directory, database_from, database_at, root_of, open_for_writing, is_there}
-use Rattle.heap_meaning.specs.ps_heap.Held.{Held, home_at}
-use Rattle.heap_meaning.specs.ps_heap.Commit.{created_with, or_else, first_database, home_after, homes_after, are_writable, is_empty, decision, NotWritable, NothingToDo, Saves, saved}
+use Rattle.heap_meaning.specs.ps_heap.Databases.{Database, Directory, database_from, database_at, root_of, each_once, open_for_writing, is_there}
+use Rattle.heap_meaning.specs.ps_heap.Held.{Place, object_of, Held, home_at, row}
+use Rattle.heap_meaning.specs.ps_heap.Commit.{created_with, or_else, first_database, home_after, homes_after, is_writable, are_writable, is_empty, Decision, decision, NotWritable, NothingToDo, Saves, saved}
 use Rattle.joint_ops.specs.World.{seen, IsWorld}
 use Rattle.db_dir.specs.Directories as area
 use Rattle.db_dir.specs.Directories.{IsDirectoryAt}
-use Rattle.joint_held.specs.Held.{IsOfHeap, AreAssigned, IsCurrent, AreSources, IsUnasked, HoldsRun}
+use Rattle.joint_held.specs.Held.{IsOfHeap, AreAssigned, IsCurrent, AreSources, IsAtHome, HasPlace, HoldsRun}
 use Rattle.joint_reach.specs.Meets.{MeetsHomes}
 use Rattle.joint_commit.specs.Saving.{none_made}
 use Rattle.joint_commit.proofs.StoredLaws.{Setting, named-before, among-back, stored-now}
@@ -83,6 +85,28 @@ there-second (Some x) b e = refl
 
 -- A commit that saves comes after a call on databases.
 
+-- each object with an assigned place has a home
+placed-home : (here : Heap) (outside : Outside Space) (names : List Reference) (writing : List Source) (directory : Option ℕ) (h : Held) (id : ℕ) → HoldsRun here outside names writing directory h
+    → HasPlace h.assigned id → is_there (home_at h.homes id) ≡ true
+placed-home here outside names writing directory h id run k =
+    let n = run.assigned.noted id k in
+    let named = name-pid (header_at here n.0) n.0 n.2.stored in
+    by (header_at here n.0).pid (home_at h.homes id) (run.homes (Pid (header_at here n.0).pid) id (subst (λ (m : Reference). paired names m id) named n.1.named))
+  where
+    by : (pid : ℕ) (home : Option ℕ) → IsAtHome (seen here outside) (Pid pid) home → is_there home ≡ true
+    by pid None at = absurd at
+    by pid (Some number) at = refl
+
+-- so none is writable where no database is open for writing
+none-assigned : (homes : List (Option ℕ)) (places : List Place) → ((id : ℕ) → HasPlace places id → is_there (home_at homes id) ≡ true) → are_writable homes [] places ≡ true → places ≡ []
+unfolding are_writable is_in
+none-assigned homes [] there e = refl
+none-assigned homes (place ∷ places) there e = by (home_at homes (object_of place)) (there (object_of place) (inl refl)) e
+  where
+    by : (home : Option ℕ) → is_there home ≡ true → (if is_writable [] home then are_writable homes [] places else false) ≡ true → place ∷ places ≡ []
+    by None t e = absurd (cc)
+    by (Some n) t e = absurd (cc)
+
 empty-nothing : (refuses : Bool) (h : Held) → h.assigned ≡ [] → h.created ≡ []
     → (if refuses then NotWritable else if is_empty h.assigned && is_empty h.created then NothingToDo else Saves (saved h)) ≡ Saves (saved h) → ⊥
 empty-nothing refuses h a c e = by refuses (is_empty h.assigned && is_empty h.created) (both h.assigned h.created a c) e
@@ -97,12 +121,36 @@ empty-nothing refuses h a c e = by refuses (is_empty h.assigned && is_empty h.cr
     by false true p q = cc
     by false false p q = cc
 
-pub saves-asked : (h : Held) (directory : Option ℕ) → decision h ≡ Saves (saved h) → (h.asked ≡ false → IsUnasked h directory) → h.asked ≡ true
-unfolding decision
-saves-asked h directory e unasked = elim (cases_Bool h.asked) [
+refused-saves : (writable : Bool) (h : Held) → writable ≡ false
+    → (if not writable then NotWritable else if is_empty h.assigned && is_empty h.created then NothingToDo else Saves (saved h)) ≡ Saves (saved h) → ⊥
+refused-saves true h r e = cc
+refused-saves false h r e = cc
+
+pub saves-asked : (here : Heap) (outside : Outside Space) (names : List Reference) (writing : List Source) (directory : Option ℕ) (h : Held) → decision h ≡ Saves (saved h)
+    → HoldsRun here outside names writing directory h → h.asked ≡ true
+unfolding decision each_once
+saves-asked here outside names writing directory h e run = elim (cases_Bool h.asked) [
   | inl asked ↦ asked
-  | inr un ↦ let u = unasked un in absurd (empty-nothing (not (are_writable h.homes (open_for_writing h.openings) h.assigned)) h u.assigned u.created e)
+  | inr un ↦
+      let u = run.unasked un in
+      let none_open = ap open_for_writing u.openings in
+      absurd (elim (cases_Bool (are_writable h.homes (open_for_writing h.openings) h.assigned)) [
+        | inl writable ↦
+            let none = none-assigned h.homes h.assigned (λ id k. placed-home here outside names writing directory h id run k)
+            (subst (λ (ns : List ℕ). are_writable h.homes ns h.assigned ≡ true) none_open writable) in
+            empty-nothing (not (are_writable h.homes (open_for_writing h.openings) h.assigned)) h none u.created e
+        | inr refused ↦ refused-saves (are_writable h.homes (open_for_writing h.openings) h.assigned) h refused e
+      ])
 ]
+
+row-long : (f : ℕ → Option ℕ) (from n : ℕ) → length (row f from n) ≡ n
+unfolding row
+row-long f from zero = refl
+row-long f from (suc n) = let rest = row-long f (suc from) n in omega (arith, rest)
+
+homes-long : (h : Held) → length (homes_after h) ≡ length h.objects
+unfolding homes_after
+homes-long h = row-long (home_after h) 0 (length h.objects)
 
 module _ (old new : Heap) (before after : Outside Space) (names : List Reference) (writing : List Source) (directory : Option ℕ) (h : Held)
     (s : Setting old new before after names writing directory h)
@@ -177,6 +225,7 @@ module _ (old new : Heap) (before after : Outside Space) (names : List Reference
   run-after = record {
     world = world-after;
     homes = homes-hold old new before after names writing directory h s meets;
+    homed = omega (arith, homes-long h);
     assigned = assigned-after;
     trees = trees-hold old new before after names writing directory h s unassigned;
     current = current-after;

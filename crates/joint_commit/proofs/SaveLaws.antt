@@ -224,7 +224,7 @@ module _ (old new : Heap) (before after : Outside Space) (names : List Reference
   commits-run (Err (Vault fault)) d stores keeps =
       let made = decides (Err (Vault fault)) d in
       let both = saves-both h made in
-      let asked = saves-asked (compiled_held h) directory made holds.unasked in
+      let asked = saves-asked old before names writing directory (compiled_held h) made holds in
       let step = stored_by new stores.fresh stores.changed (pid_of new directory) in (
         both.saves,
         broken-stands old new writing directory before after used most fault (saved h) stores (λ tells.
@@ -235,7 +235,7 @@ module _ (old new : Heap) (before after : Outside Space) (names : List Reference
   commits-run (Ok (answer.Saved fresh rewritten)) d stores keeps =
       let made = decides (Ok (answer.Saved fresh rewritten)) d in
       let both = saves-both h made in
-      let asked = saves-asked (compiled_held h) directory made holds.unasked in
+      let asked = saves-asked old before names writing directory (compiled_held h) made holds in
       let s = setting after stores.fresh stores.changed d.0 one stores.commits stores.becomes stores.tells in
       let at_home = homes stores.fresh stores.changed d.0 stores.commits in
       let stands = contents-stand old new before after names writing directory h s at_home owed.fit owed.units both asked in

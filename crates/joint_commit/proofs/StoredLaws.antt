@@ -1,10 +1,10 @@
 -- What is seen of area and vault under PIDs after a commit is seen in each space that the vault holds.
-use Rattle.std.proofs.Common.{true, inl, inr, ◌⊎◌, ◌≡◌, ◌≢◌, ℕ, zero, suc, ◌≤◌, List, [], ◌∷◌, map, refl, sym, ap, ◌∙◌, subst, arith, Option, Some, None, IfSome}
+use Rattle.std.proofs.Common.{true, inl, inr, ◌⊎◌, ◌≡◌, ◌≢◌, ℕ, ℤ, zero, suc, ◌≤◌, List, [], ◌∷◌, map, get_or, refl, sym, ap, ◌∙◌, subst, arith, Option, Some, None, IfSome}
 use Rattle.std.specs.Prelude.{unwrap_or}
 use Rattle.swizzle.specs.obj_layout.ps_outside.Outside.{Outside}
 use Rattle.swizzle.specs.obj_layout.declared.kind.Kind.TheVariants.{Node}
 use Rattle.swizzle.specs.obj_layout.declared.reference.Reference.{Reference}
-use Rattle.swizzle.specs.obj_layout.declared.reference.Reference.TheVariants.{Pid, Local}
+use Rattle.swizzle.specs.obj_layout.declared.reference.Reference.TheVariants.{Nil, Pid, Local}
 use Rattle.swizzle.specs.obj_layout.Stored.{Space, without_file}
 use Rattle.swizzle.specs.obj_layout.Storing.{Becomes}
 use Rattle.swizzle.proofs.of_obj_layout.StoredLaws.{HasObject-within}
@@ -17,9 +17,11 @@ use Rattle.commit_walk.specs.Walk.{has_home}
 use Rattle.commit_walk.specs.declared.homes.Source.{Source}
 use Rattle.commit_walk.proofs.AllLaws.{listed-or}
 use Rattle.commit_walk.proofs.SteadyLaws.{in-listed}
-use Rattle.heap_meaning.specs.node_rows.Nodes.{IsAmong}
+use Rattle.heap_meaning.specs.heap_places.Shapes.{slot_of}
+use Rattle.heap_meaning.specs.node_rows.Keys.{by_ints as int_keys}
+use Rattle.heap_meaning.specs.node_rows.Nodes.{IsAmong, link_of}
 use Rattle.heap_meaning.specs.Paired.{paired, StandsRow}
-use Rattle.heap_meaning.specs.ps_heap.Tables.{Table}
+use Rattle.heap_meaning.specs.ps_heap.Tables.{Entry, Table, by_ints}
 use Rattle.heap_meaning.specs.ps_heap.Objects as meaning
 use Rattle.heap_meaning.specs.ps_heap.Held.{Held}
 use Rattle.renames.proofs.TableLaws.{among-moved}
@@ -33,11 +35,12 @@ use Rattle.reach_commit.specs.Telling.{IsTold, Moved, Tells}
 use Rattle.reach_commit.proofs.ReadyLaws.{none-or-some}
 use Rattle.joint_held.specs.Held.{IsNodeOf, IsOfHeap, HoldsRun}
 use Rattle.space_meaning.specs.Space.{SeenIn}
+use Rattle.space_meaning.specs.Stands.{HaveNoKeyTexts}
 use Rattle.space_meaning.specs.Keeping.{IsKept}
 use Rattle.joint_reach.proofs.SourceLaws.{listed-in}
 use Rattle.joint_reach.specs.Meets.{IsToBeStored, MeetsNodes}
 use Rattle.joint_commit.proofs.SpaceLaws.{words-seen, object-seen}
-use Rattle.joint_commit.proofs.NodeLaws.{row-nodes}
+use Rattle.joint_commit.proofs.NodeLaws.{now-refs, get-map, row-nodes}
 
 -- what has a PID lies in the area
 pub held-by_pid : (heap : Heap) (x : ℕ) → 1 ≤ (header_at heap x).pid → IsHeld heap x
@@ -184,6 +187,24 @@ module _ (old new : Heap) (before after : Outside Space) (names : List Reference
       moved.moves.one (name_at old x) m.before known (record { it = k.it; is = k.there }) (sym (moved.index x) ∙ m.now) in
       subst (λ (r : Reference). IsAmong r (r0.stands.tables.nodes id)) (sym name) m.is
 
+  -- the nodes of a table with int keys name no key text, as before
+  plain-now : (pid id : ℕ) (entries : List (Entry ℤ)) → paired (map to names) (Pid pid) id → meaning.object_at h.objects id ≡ Some (meaning.Keyed (by_ints entries))
+      → HaveNoKeyTexts (seen new after) (row.stands.tables.nodes id)
+  plain-now pid id entries p is m it among there =
+      let r0 = s.holds.world.row in
+      let b = named-before to names (Pid pid) id p in
+      let own = r0.stands.tables.each b.before id (by_ints entries) b.is is in
+      let slot : slot_of own.it 0 ≡ own.root = ap (λ (rs : List Reference). get_or rs 0 Nil) own.refs in
+      let tree = s.holds.trees b.before id (by_ints entries) own.it int_keys own.has.tree b.is is tt own.there (ap link_of slot ∙ own.has.root_is) own.has.stands in
+      let nodes = row-nodes (seen old before) (seen new after) to moved.moves (seen-one new after s.good s.one) (nil-unseen new after) h.objects names r0 row b.before id (by_ints entries) b.is is in
+      let was = among-moved to m (r0.stands.tables.nodes id) (subst (IsAmong m) nodes among) in
+      let k = r0.stands.tables.are_nodes id was.before was.is in
+      let w = moved.moves.forth was.before k.it k.there in
+      let same : it ≡ w.now = seen-one new after s.good s.one m it w.now there (subst (λ (r : Reference). seen new after r w.now) (sym was.now) w.there) in
+      let refs : it.refs ≡ map to k.it.refs = ap (λ (x : Shown). x.refs) same ∙ now-refs (seen new after) to (to was.before) k.it w in
+      let none : slot_of k.it 2 ≡ Nil = tree.plain was.before k.it (subst (IsAmong was.before) own.has.nodes_are was.is) k.there in
+      ap (λ (rs : List Reference). get_or rs 2 Nil) refs ∙ (get-map to k.it.refs 2 moved.moves.nil ∙ (ap to none ∙ moved.moves.nil))
+
   module _ (space : Space) (is : after.contents space) where
     abbrev there : Space
     there = without_file space
@@ -224,4 +245,4 @@ module _ (old new : Heap) (before after : Outside Space) (names : List Reference
         area-kept a.at n it a.held (node-pid a.at (s.commits.remains.back a.at a.held) node (to-be-stored b.before id pid b.is (sym b.now))) a.name_is a.shown_is (inr node)
 
     pub space-keeps : IsKept (seen new after) (without_file space) h.objects (map to names) row.stands.tables.nodes
-    space-keeps = record { nil = nil-unseen new after; things = things-kept; in_tables = nodes-kept }
+    space-keeps = record { nil = nil-unseen new after; things = things-kept; in_tables = nodes-kept; plain = plain-now }

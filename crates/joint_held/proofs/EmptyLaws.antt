@@ -1,5 +1,5 @@
 -- A run that holds nothing yet.
-use Rattle.std.proofs.Common.{◌≡◌, ℕ, List, [], refl, sym, ap, ◌∙◌, subst, arith, Some, None}
+use Rattle.std.proofs.Common.{Option, ◌≡◌, ℕ, length, List, [], refl, sym, ap, ◌∙◌, subst, arith, Some, None}
 use Rattle.joint_ops.specs.ps_outside.Outside.{Outside}
 use Rattle.joint_ops.specs.obj_layout.Stored.{Space}
 use Rattle.joint_ops.specs.obj_layout.declared.reference.Reference.{Reference}
@@ -49,6 +49,7 @@ pub empty-run : (outside : Outside Space) (size : ℕ) (h : Held) → ((a b : Sp
 empty-run outside size h one is e = record {
   world = record { row = subst (λ (of : Heap). StandsRow (seen (fresh_heap size) outside) of []) (sym e.objects) (empty-row outside size) };
   homes = λ n id p. absurd (no-name n id p);
+  homed = omega (arith, ap (λ (homes : List (Option ℕ)). length homes) e.homes);
   assigned = record {
     noted = λ id k. absurd (subst (λ (places : List Place). HasPlace places id) e.assigned k);
     placed = λ x id p n. absurd (no-object size x p.held);
@@ -74,5 +75,5 @@ empty-run outside size h one is e = record {
     others = λ number d k away. absurd (no-database number d (ap (λ (ds : Directory). database_at ds number) (sym e.directory) ∙ k));
   };
   asked = λ a. e.directory;
-  unasked = λ a. record { openings = e.openings; created = e.created; assigned = e.assigned; none = refl };
+  unasked = λ a. record { openings = e.openings; created = e.created; none = refl };
 }

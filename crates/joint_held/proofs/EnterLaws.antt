@@ -32,7 +32,7 @@ use Rattle.joint_held.specs.Held.{IsAtHome, IsOf, IsNoted, HasPlace, IsOfHeap, H
 use Rattle.joint_held.specs.Entering.{EntersTable}
 use Rattle.joint_held.proofs.ImageLaws.{far-same}
 use Rattle.joint_held.proofs.GainLaws.{home-by_kind}
-use Rattle.joint_held.proofs.WriteLaws.{with-place, with-this, place-with, none-noted, named-stays}
+use Rattle.joint_held.proofs.WriteLaws.{with-place, with-this, place-with, named-stays}
 
 table-home : (h : Header) → h.kind ≡ kind.Table → has_home h ≡ true
 unfolding has_home
@@ -280,6 +280,7 @@ module _ (old new : area.Heap) (before after : Outside Space) (names : List Refe
   entered-run = record {
     world = w.world;
     homes = homes;
+    homed = omega (arith, run.homed, run.world.row.long, w.world.row.long);
     assigned = record { noted = noted; placed = placed; known = known };
     trees = w.trees;
     current = record {
@@ -308,5 +309,5 @@ module _ (old new : area.Heap) (before after : Outside Space) (names : List Refe
     asked = λ e. directory-new directory (run.asked e);
     unasked = λ e.
         let u = run.unasked e in
-        record { openings = u.openings; created = u.created; assigned = none-noted h.homes place h.assigned (w.unasked e) ∙ u.assigned; none = u.none };
+        record { openings = u.openings; created = u.created; none = u.none };
   }

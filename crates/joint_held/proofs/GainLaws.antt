@@ -38,7 +38,7 @@ use Rattle.reach_commit.specs.commit_images.Images.{image_of}
 use Rattle.reach_commit.specs.commit_images.Stored.{IsWhole}
 use Rattle.reach_commit.specs.Telling.{IsTold}
 use Rattle.joint_held.specs.Held.{IsAtHome, IsOf, IsNoted, IsHere, HasChanged, IsTree, IsKeyed, IsNodeOf, IsOfHeap, HasRoot, HoldsRun}
-use Rattle.joint_held.specs.Keeping.{AreClean, Came, Gains}
+use Rattle.joint_ops.specs.Seeing.{Came, Gains}
 use Rattle.joint_held.proofs.TreeLaws as trees
 use Rattle.joint_held.proofs.TreeLaws.{tree-stays, tree-one, tree-in, nodes-one, node-known, WasOpen, is-tree}
 use Rattle.joint_held.proofs.ImageLaws.{came-image}
@@ -48,9 +48,15 @@ pub home-by_kind : (h i : Header) → h.kind ≡ i.kind → has_home h ≡ has_h
 unfolding has_home
 home-by_kind h i e = ap (λ k. if nat_eq (kind_number k) 2 then true else (if nat_eq (kind_number k) 3 then true else (if nat_eq (kind_number k) 4 then true else nat_eq (kind_number k) 7))) e
 
-module _ (old new : area.Heap) (before after : Outside Space) (names : List Reference) (writing : List Source) (directory : Option ℕ) (h : Held) (was_sound : IsHeap old) (sound : IsHeap new)
-    (was_one : IsOne (seen old before)) (one : IsOne (seen new after)) (wide : (space : Space) → before.contents space → AreWords space.words) (clean : AreClean before) (t : Gains old new before after)
+module _ (old new : area.Heap) (before after : Outside Space) (names : List Reference) (writing : List Source) (directory : Option ℕ) (h : Held)
+    (was_one : IsOne (seen old before)) (one : IsOne (seen new after)) (wide : (space : Space) → before.contents space → AreWords space.words) (t : Gains old new before after)
     (run : HoldsRun old before names writing directory h) where
+  was_sound : IsHeap old
+  was_sound = t.was_sound
+
+  sound : IsHeap new
+  sound = t.sound
+
   abbrev S : Seen
   S = seen old before
 
@@ -180,7 +186,7 @@ module _ (old new : area.Heap) (before after : Outside Space) (names : List Refe
   came-stored : (x : ℕ) → IsHeld new x → Came old new before x → IsStored after (header_at new x).pid (image_of new x)
   came-stored x held c =
       let words_fit : AreWords c.words = Rattle.joint_held.proofs.ImageLaws.held-words before (header_at new x).pid c.words wide c.there.there in
-      let same = came-image new x c.words c.there.header sound held c.there.far words_fit (clean (header_at new x).pid c.words c.there) c.shown in
+      let same = came-image new x c.words c.there.header sound held c.there.far words_fit c.there.clean c.shown in
       subst (IsStored after (header_at new x).pid) (sym same) (stored-stays before after (header_at new x).pid c.words t.contents c.there)
 
   stored : (x : ℕ) → IsHeld new x → 1 ≤ (header_at new x).pid → (IsListed x new.assigned → ⊥) → IsOfHeap new h.objects names world.row.stands.tables.nodes x
@@ -204,7 +210,7 @@ module _ (old new : area.Heap) (before after : Outside Space) (names : List Refe
           counts = Rattle.joint_held.proofs.ImageLaws.contents-same (header_at old x) (header_at new x) w.contents (kind-same x was) s.refs s.nums (ap (λ (i : Shown). i.bytes) s.shown_as) w.counts;
         }
     | inr (inl c) ↦ Rattle.joint_held.proofs.ImageLaws.came-whole new before x c.words sound held c.there c.shown
-    | inr (inr m) ↦ m.whole
+    | inr (inr m) ↦ record { contents = m.whole.0; counts = m.whole.1 }
   ]
 
   told : IsTold new after
@@ -263,6 +269,7 @@ module _ (old new : area.Heap) (before after : Outside Space) (names : List Refe
   holds = record {
     world = world;
     homes = homes;
+    homed = run.homed;
     assigned = record {
       noted = λ id k. let n = run.assigned.noted id k in (n.0, of-new n.0 id n.1, noted-new n.0 n.1.held n.2);
       placed = λ x id p n. let o = noted-old x n in run.assigned.placed x id (of-old x id o.0 p) o.1;

@@ -1,5 +1,6 @@
 -- An object of the area gets the next id.
-use Rattle.std.proofs.Common.{inl, inr, ◌⊎◌, ◌≡◌, ℕ, ◌≤◌, List, [], ◌∷◌, ◌++◌, length, sym, ap, ◌∙◌, subst, Option, Some, None}
+use Rattle.std.proofs.Common.{inl, inr, ◌⊎◌, ◌≡◌, ℕ, zero, suc, ◌≤◌, List, [], ◌∷◌, ◌++◌, length, arith, refl, sym, ap, ◌∙◌, subst, Option, Some, None}
+use Rattle.std.proofs.lemmas.List.{length-append}
 use Rattle.joint_ops.specs.ps_outside.Outside.{Outside}
 use Rattle.joint_ops.specs.obj_layout.Stored.{Space}
 use Rattle.joint_ops.specs.obj_layout.declared.reference.Reference.{Reference}
@@ -27,7 +28,8 @@ use Rattle.db_dir.specs.Directories.{IsDirectoryAt, AreNamed}
 use Rattle.commit_walk.specs.Homes.{source_at}
 use Rattle.commit_walk.specs.declared.homes.Source.{Source}
 use Rattle.joint_held.specs.Held.{IsAtHome, IsOf, IsTree, IsKeyed, IsOfHeap, HasRoot, HoldsRun}
-use Rattle.joint_held.specs.Keeping.{IsFresh, GetsId}
+use Rattle.joint_ops.specs.Made.{IsFresh}
+use Rattle.joint_held.specs.Keeping.{GetsId}
 use Rattle.joint_held.proofs.TreeLaws as trees
 use Rattle.joint_held.proofs.TreeLaws.{nodes-one}
 
@@ -57,6 +59,13 @@ no-keys ks (Keyed (table.by_ints es)) of f e k = f
 some_object : (a b : Object) → Some a ≡ Some b → a ≡ b
 some_object a b e = cc
 
+-- an id beyond the homes has none
+home-past : (homes : List (Option ℕ)) (id : ℕ) → length homes ≤ id → home_at homes id ≡ None
+unfolding home_at
+home-past [] id low = refl
+home-past (home ∷ homes) zero low = absurd (omega (arith, low))
+home-past (home ∷ homes) (suc id) low = home-past homes id (omega (arith, low))
+
 module _ (here : area.Heap) (outside : Outside Space) (names : List Reference) (writing : List Source) (directory : Option ℕ) (h : Held) (at : ℕ) (object : Object) (sound : IsHeap here)
     (one : IsOne (seen here outside)) (g : GetsId here outside names h at object) (run : HoldsRun here outside names writing directory h) where
   abbrev S : Seen
@@ -81,7 +90,7 @@ module _ (here : area.Heap) (outside : Outside Space) (names : List Reference) (
   homes n id p = elim (cases n id p) [
     | inl old ↦ run.homes n id old
     | inr last ↦
-        let none : home_at h.homes id ≡ None = ap (home_at h.homes) last.1 ∙ g.homeless in
+        let none : home_at h.homes id ≡ None = home-past h.homes id (omega (arith, run.homed, last.1)) in
         subst (λ m. IsAtHome S m (home_at h.homes id)) (sym (last.0 ∙ name-is)) (subst (IsAtHome S (Local at)) (sym none) tt)
   ]
 
@@ -152,6 +161,7 @@ module _ (here : area.Heap) (outside : Outside Space) (names : List Reference) (
   id-given = record {
     world = g.world;
     homes = homes;
+    homed = omega (arith, run.homed, length-append h.objects (object ∷ []));
     assigned = record {
       noted = λ id k. let n = run.assigned.noted id k in (n.0, of-more n.0 id n.1, n.2);
       placed = λ x id p n. run.assigned.placed x id (of-old x id p n.stored) n;
@@ -174,5 +184,5 @@ module _ (here : area.Heap) (outside : Outside Space) (names : List Reference) (
       others = run.sources.others;
     };
     asked = λ e. directory-more directory (run.asked e);
-    unasked = λ e. let u = run.unasked e in record { openings = u.openings; created = u.created; assigned = u.assigned; none = u.none };
+    unasked = λ e. let u = run.unasked e in record { openings = u.openings; created = u.created; none = u.none };
   }

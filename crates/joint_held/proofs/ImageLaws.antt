@@ -26,7 +26,7 @@ use Rattle.joint_ops.specs.swizzle.Joint.{Shown, shown, name_of, far_of, shown_a
 use Rattle.swizzle.proofs.FetchedLaws.{Near, near_words, far_header, header-spelled}
 use Rattle.swizzle.proofs.ImageLaws.{refs-long}
 use Rattle.reach_commit.specs.commit_images.Images.{image_of}
-use Rattle.joint_held.specs.Keeping.{IsClean}
+use Rattle.joint_ops.specs.Seeing.{IsClean}
 
 -- references of which none is into the area are their own names
 plain-names : (heap : Heap) (rs : List Reference) → ((slot to : ℕ) → get_or rs slot Nil ≡ Local to → ⊥) → map (name_of heap) rs ≡ rs
@@ -54,7 +54,7 @@ clean-header : (h : Header) → h.flags ≡ 0 → h.pid ≡ 0 → h.chain ≡ 0 
 clean-header h f p c =
     ap (λ x. record h { flags = x; pid = 0; chain = 0 }) (sym f) ∙ (ap (λ x. record h { pid = x; chain = 0 }) (sym p) ∙ ap (λ x. record h { chain = x }) (sym c))
 
-pub came-image : (heap : Heap) (x : ℕ) (words : List ℕ) (header : Header) → IsHeap heap → IsHeld heap x → IsFar words header → AreWords words → IsClean words → shown_at heap x ≡ shown_words words
+pub came-image : (heap : Heap) (x : ℕ) (words : List ℕ) (header : Header) → IsHeap heap → IsHeld heap x → IsFar words header → AreWords words → IsClean header → shown_at heap x ≡ shown_words words
     → image_of heap x ≡ words
 unfolding image_of
 came-image heap x words header sound held far fit clean shows =
@@ -75,9 +75,7 @@ came-image heap x words header sound held far fit clean shows =
     let head : far_header_of o.header ≡ cleared it.header = header-same o.header.kind it.header.kind o.header.refs it.header.refs o.header.nums it.header.nums o.header.bytes it.header.bytes kinds count counts bytes in
     let clear : cleared it.header ≡ it.header = ap cleared n.header_is ∙ sym n.header_is in
     let objects : far_object heap x ≡ it = object-same (far_object heap x) it (head ∙ clear) refs nums in
-    let spelled = far_header words header far in
-    let is_clean : near_header 0 0 header ≡ header =
-    clean-header header (ap (λ (h : Header). h.flags) (sym spelled) ∙ clean.flags) (ap (λ (h : Header). h.pid) (sym spelled) ∙ clean.pid) (ap (λ (h : Header). h.chain) (sym spelled) ∙ clean.chain) in
+    let is_clean : near_header 0 0 header ≡ header = clean-header header clean.flags clean.pid clean.chain in
     ap object_words objects
     ∙ (n.words_are
     ∙ (ap (λ (h : Header). header_words h ++ drop 4 words) is_clean

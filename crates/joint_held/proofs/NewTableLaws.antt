@@ -25,7 +25,7 @@ use Rattle.joint_ops.specs.ps_heap.Held.{Held, home_at, made}
 use Rattle.commit_walk.specs.declared.homes.Source.{Source}
 use Rattle.reach_commit.specs.commit_images.Stored.{IsWhole}
 use Rattle.joint_held.specs.Held.{HoldsRun}
-use Rattle.joint_held.specs.Keeping.{AreClean, IsMaking}
+use Rattle.joint_held.specs.Keeping.{IsMaking}
 use Rattle.joint_held.proofs.GainLaws.{holds}
 use Rattle.joint_held.proofs.MadeLaws.{made-gains}
 use Rattle.joint_held.proofs.IdLaws.{id-given}
@@ -34,8 +34,8 @@ abbrev new_table : Object
 new_table = blank kind.Table 1 3 0
 
 module _ (old new : Heap) (outside : Outside Space) (names : List Reference) (writing : List Source) (directory : Option ℕ) (h : Held) (at : ℕ) (was_sound : IsHeap old) (sound : IsHeap new)
-    (was_one : IsOne (seen old outside)) (one : IsOne (seen new outside)) (wide : (space : Space) → outside.contents space → AreWords space.words) (clean : AreClean outside)
-    (m : IsMade old new at new_table) (homeless : home_at h.homes (length h.objects) ≡ None) (run : HoldsRun old outside names writing directory h) where
+    (was_one : IsOne (seen old outside)) (one : IsOne (seen new outside)) (wide : (space : Space) → outside.contents space → AreWords space.words)
+    (m : IsMade old new at new_table) (run : HoldsRun old outside names writing directory h) where
   head : header_at new at ≡ new_table.header
   head = ap (λ (n : Heap). header_at n at) m.made ∙ (ap (header_at (with_new old new_table)) m.place ∙ ap (λ (o : Object). o.header) (object-top old new_table))
 
@@ -71,5 +71,5 @@ module _ (old new : Heap) (outside : Outside Space) (names : List Reference) (wr
   pub table-made : HoldsRun new outside (and_name names (name_at new at)) writing directory (made (Keyed without_keys) h)
   table-made =
       id-given new outside names writing directory h at (Keyed without_keys) sound one
-      (record { held = held; unstored = unstored; fresh = tt; world = record { row = row }; homeless = homeless })
-      (holds old new outside outside names writing directory h was_sound sound was_one one wide clean (made-gains old new outside was_sound at new_table making) run)
+      (record { held = held; unstored = unstored; fresh = tt; world = record { row = row } })
+      (holds old new outside outside names writing directory h was_one one wide (made-gains old new outside was_sound sound at new_table making) run)

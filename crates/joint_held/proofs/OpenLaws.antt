@@ -144,6 +144,7 @@ module _ (here : area.Heap) (outside : Outside Space) (names : List Reference) (
   known-run directory now d run = record {
     world = run.world;
     homes = run.homes;
+    homed = run.homed;
     assigned = run.assigned;
     trees = run.trees;
     current = run.current;
@@ -174,6 +175,7 @@ module _ (here : area.Heap) (outside : Outside Space) (names : List Reference) (
     same-run number mode same asked = record {
       world = run.world;
       homes = run.homes;
+      homed = run.homed;
       assigned = run.assigned;
       trees = run.trees;
       current = run.current;
@@ -224,6 +226,7 @@ module _ (here : area.Heap) (outside : Outside Space) (names : List Reference) (
     opened-run number fresh asked = record {
       world = run.world;
       homes = run.homes;
+      homed = run.homed;
       assigned = run.assigned;
       trees = run.trees;
       current = run.current;
@@ -268,6 +271,7 @@ module _ (here : area.Heap) (outside : Outside Space) (names : List Reference) (
       created-run = record {
         world = run.world;
         homes = run.homes;
+        homed = run.homed;
         assigned = run.assigned;
         trees = run.trees;
         current = run.current;

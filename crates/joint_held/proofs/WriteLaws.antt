@@ -39,7 +39,8 @@ use Rattle.commit_walk.specs.declared.homes.Source.{Source}
 use Rattle.reach_commit.specs.commit_images.Images.{image_of}
 use Rattle.reach_commit.specs.commit_images.Stored.{IsWhole}
 use Rattle.joint_held.specs.Held.{IsAtHome, IsOf, IsNoted, HasPlace, IsHere, HasChanged, IsTree, IsKeyed, IsOfHeap, HasRoot, HoldsRun}
-use Rattle.joint_held.specs.Writing.{HasParts, WritesObject}
+use Rattle.joint_ops.specs.Writing.{HasParts}
+use Rattle.joint_held.specs.Writing.{WritesObject}
 use Rattle.joint_held.proofs.TreeLaws as trees
 use Rattle.joint_held.proofs.TreeLaws.{tree-stays, tree-one, tree-in, nodes-one, WasOpen, is-tree}
 use Rattle.joint_held.proofs.ImageLaws.{far-same, contents-same}
@@ -119,11 +120,6 @@ place-with homes p ps i k =
                 ]
           ]
     ]
-
--- no place is noted of an object without a home
-pub none-noted : (homes : List (Option ℕ)) (p : Place) (ps : List Place) → home_at homes (object_of p) ≡ None → places_with homes p ps ≡ ps
-unfolding places_with
-none-noted homes p ps e = else_is (is_there (home_at homes (object_of p))) (if is_among p ps then ps else ps ++ p ∷ []) ps (ap is_there e)
 
 -- a directory is seen so still, where texts and tables are
 pub named-stays : (seen now : Seen) (pair : Pairing) (ns : List Reference) (ds : Directory) → ((n : Reference) (bytes : List ℕ) → IsText seen n bytes → IsText now n bytes)
@@ -433,6 +429,7 @@ module _ (old new : area.Heap) (outside : Outside Space) (names : List Reference
   written = record {
     world = w.world;
     homes = homes;
+    homed = omega (arith, run.homed, run.world.row.long, w.world.row.long);
     assigned = record { noted = noted; placed = placed; known = known };
     trees = are-trees;
     current = record {
@@ -464,5 +461,5 @@ module _ (old new : area.Heap) (outside : Outside Space) (names : List Reference
     asked = λ e. directory-new directory (run.asked e);
     unasked = λ e.
         let u = run.unasked e in
-        record { openings = u.openings; created = u.created; assigned = none-noted h.homes place h.assigned (w.unasked e) ∙ u.assigned; none = u.none };
+        record { openings = u.openings; created = u.created; none = u.none };
   }

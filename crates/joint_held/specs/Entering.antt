@@ -43,7 +43,7 @@ pub record HasBrought (old new : area.Heap) (after : Outside Space) : Type 0 whe
   pub whole : (y : ℕ) → IsHeld new y → IsWhole new y
 
 -- The table's id has another table, for which area and vault stand now. Its nodes and those of all others hang together, and a node that lay in the area and
--- is one of a table was one before. Before the first call on databases the table isn't committed.
+-- is one of a table was one before.
 pub record EntersTable (old new : area.Heap) (before after : Outside Space) (names : List Reference) (h : Held) (nodes : ℕ → List Reference) (x id : ℕ) (objects : Heap) : Type 0 where
   pub enter : IsEnter old new before after x
   pub brought : HasBrought old new after
@@ -51,4 +51,3 @@ pub record EntersTable (old new : area.Heap) (before after : Outside Space) (nam
   pub world : IsWorld new after objects names
   pub trees : AreTrees new (seen new after) objects names
   pub were : (y : ℕ) → IsHeld old y → IsOfHeap new objects names world.row.stands.tables.nodes y → IsOfHeap old h.objects names nodes y
-  pub unasked : h.asked ≡ false → home_at h.homes id ≡ None

@@ -141,17 +141,17 @@ pub record AreSources (here : area.Heap) (names : List Reference) (h : Held) (wr
   pub roots : AreNewRoots here writing
   pub others : (number : ℕ) (d : Database) → database_at h.directory number ≡ Some d → (IsIn number h.created → ⊥) → is_there (home_at h.homes d.root) ≡ true
 
--- before the first call on databases none is open, nothing stored was changed, and code has no directory
+-- before the first call on databases none is open and none was made, and code has no directory
 pub record IsUnasked (h : Held) (directory : Option ℕ) : Type 0 where
   pub openings : h.openings ≡ []
   pub created : h.created ≡ []
-  pub assigned : h.assigned ≡ []
   pub none : directory ≡ None
 
 -- Area and vault, the databases that are open for writing and the directory stand for what a run holds, under a row of names.
 pub record HoldsRun (here : area.Heap) (outside : Outside Space) (names : List Reference) (writing : List Source) (directory : Option ℕ) (h : Held) : Type 0 where
   pub world : IsWorld here outside h.objects names
   pub homes : (n : Reference) (id : ℕ) → paired names n id → IsAtHome (seen here outside) n (home_at h.homes id)
+  pub homed : length h.homes ≤ length h.objects
   pub assigned : AreAssigned here names h.assigned
   pub trees : AreTrees here (seen here outside) h.objects names
   pub current : IsCurrent here outside h.objects names world.row.stands.tables.nodes

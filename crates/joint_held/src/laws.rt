@@ -14,22 +14,23 @@ ghost use Rattle.joint_ops.specs.ps_heap.Objects as meant;
 ghost use Rattle.joint_ops.specs.ps_heap.Held.{Held, Place, assigning, home_at, made, object_of};
 ghost use Rattle.joint_ops.specs.ps_heap.Databases.{Database, Reading, Writing, open_for_writing};
 ghost use Rattle.joint_ops.specs.ps_heap.Calls.{directory_known};
-ghost use Rattle.joint_ops.specs.World.{seen};
+ghost use Rattle.joint_ops.specs.Seeing.{Gains, seen};
+ghost use Rattle.joint_ops.specs.Writing.{HasParts, IsBehindHome, IsWrite};
 ghost use Rattle.db_dir.specs.Directories.{IsDirectoryAt};
 ghost use Rattle.reach_commit.specs.commit_walk.reaching.Reaching.{IsIn};
 ghost use Rattle.reach_commit.specs.commit_walk.declared.homes.Source.{Source};
 ghost use Rattle.joint_held.specs.Held.{HoldsRun};
-ghost use Rattle.joint_held.specs.Keeping.{AreClean, Gains, MayBeTouched, IsTouch, IsMaking, GetsId, IsEmpty, word_0};
+ghost use Rattle.joint_held.specs.Keeping.{MayBeTouched, IsTouch, IsMaking, GetsId, IsEmpty, word_0};
 ghost use Rattle.joint_held.specs.Entering.{EntersTable};
 ghost use Rattle.joint_held.specs.Opening.{CreatesDatabase, and_source, with_database, with_opening};
-ghost use Rattle.joint_held.specs.Writing.{HasParts, IsBehindHome, IsWrite, WritesObject, counting_as};
+ghost use Rattle.joint_held.specs.Writing.{WritesObject, counting_as};
 
 use reach_commit::joint_ops::obj_layout::vault::Vault;
 
 /// What a run holds is held still where the area gained objects that came from the vault, or that were made and have no id yet.
 pub fn gains_keep_what_a_run_holds<V: Vault>()
-    ensures { (before after : V) (old new : Heap) (names : List Reference) (writing : List Source) (directory : Option ℕ) (h : Held) → IsHeap old → IsHeap new
-        → AreClean (V.outside before) → Gains old new (V.outside before) (V.outside after) → HoldsRun old (V.outside before) names writing directory h
+    ensures { (before after : V) (old new : Heap) (names : List Reference) (writing : List Source) (directory : Option ℕ) (h : Held)
+        → Gains old new (V.outside before) (V.outside after) → HoldsRun old (V.outside before) names writing directory h
         → HoldsRun new (V.outside after) names writing directory h }
 {}
 
@@ -41,7 +42,7 @@ pub fn touches_are_gains<V: Vault>()
 
 /// So is the making of an object.
 pub fn makings_are_gains<V: Vault>()
-    ensures { (vault : V) (old new : Heap) (at : ℕ) (object : Object) → IsHeap old → IsMaking old new at object → Gains old new (V.outside vault) (V.outside vault) }
+    ensures { (vault : V) (old new : Heap) (at : ℕ) (object : Object) → IsHeap old → IsHeap new → IsMaking old new at object → Gains old new (V.outside vault) (V.outside vault) }
 {}
 
 /// Where an object of the area that isn't stored gets the next id, what the run holds after it was made is held.
@@ -111,7 +112,7 @@ pub fn opened_databases_are_held<V: Vault>()
 
 /// A new table, as `table_new` of `table_lib` makes it: the run with a new table is held.
 pub fn a_new_table_is_held<V: Vault>()
-    ensures { (vault : V) (old new : Heap) (names : List Reference) (writing : List Source) (directory : Option ℕ) (h : Held) (at : ℕ) → IsHeap old → IsHeap new → AreClean (V.outside vault)
-        → IsMade old new at (blank Kind.Table 1 3 0) → home_at h.homes (length h.objects) ≡ None → HoldsRun old (V.outside vault) names writing directory h
+    ensures { (vault : V) (old new : Heap) (names : List Reference) (writing : List Source) (directory : Option ℕ) (h : Held) (at : ℕ) → IsHeap old → IsHeap new
+        → IsMade old new at (blank Kind.Table 1 3 0) → HoldsRun old (V.outside vault) names writing directory h
         → HoldsRun new (V.outside vault) (and_name names (name_at new at)) writing directory (made (Keyed without_keys) h) }
 {}

@@ -25,7 +25,8 @@ use Rattle.heap_meaning.proofs.FieldLaws.{same-text, other-text}
 use Rattle.heap_meaning.proofs.GivenLaws as given
 use Rattle.heap_meaning.specs.swizzle.Touch.{Keeps}
 use Rattle.joint_ops.specs.World.{IsWorld, seen, DenotesIn, Stands, Answers}
-use Rattle.joint_ops.proofs.SeenLaws.{none-nil, some-not_nil, text-denoted, vector-denoted, procedure-kind, StructureAt, structure-pointed, no-class, first-text, Known, known-text, reads-stands, IsCaused, caused-touch, breaks, text-is, no-text, no-damage, joint-one}
+use Rattle.joint_ops.proofs.SeenLaws.{none-nil, some-not_nil, text-denoted, vector-denoted, procedure-kind, StructureAt, structure-pointed, no-class, first-text, Known, known-text, IsCaused, caused-touch, breaks, text-is, no-text, no-damage, joint-one}
+use Rattle.joint_ops.proofs.GainLaws.{reads-stands}
 
 -- A value that a structure denotes is a pointer.
 pub structure-value : (here : area.Heap) (outside : Outside Space) (names : List reference.Reference) (at : ℕ) (o : Value) → IsHeap here
@@ -120,11 +121,11 @@ module _ (old new : area.Heap) (before after : Outside Space) (of : Heap) (names
   pointer-class at id text true s t =
       let same = class-is at id text (t.1.grows) s (t.0.class) in (
         sym (ap (λ (o : Option Object). is_of o text) s.means ∙ ap (λ (c : List ℕ). is_same_text c text) same ∙ same-text text),
-        reads-stands old new before after (slot_of (shown_at old at) 0 ∷ []) of names (t.1) w,
+        reads-stands old new before after (slot_of (shown_at old at) 0 ∷ []) of names h now (class-known at id s, tt) (t.1) w,
       )
   pointer-class at id text false s t = (
     sym (other-class at id text (t.1.grows) s (t.0)),
-    reads-stands old new before after (slot_of (shown_at old at) 0 ∷ []) of names (t.1) w,
+    reads-stands old new before after (slot_of (shown_at old at) 0 ∷ []) of names h now (class-known at id s, tt) (t.1) w,
   )
 
   pub answers-class : (at : ℕ) (given_text text : List ℕ) (o : Value) (is : Bool) → given_text ≡ text → (header_at old at).kind ≡ kind.Structure

@@ -1,12 +1,14 @@
 -- Units of code that are loaded beside a vault, and their constants, wherever those lie.
 use Rattle.std.proofs.Common.{get_or, arith, inl, inr, ◌⊎◌, ◌≡◌, ℕ, zero, suc, ◌+◌, ◌*◌, ◌<◌, ◌≤◌, List, [], ◌∷◌, ◌++◌, length, take, drop, refl, sym, ap, ◌∙◌, subst, Option, Some, None}
-use Rattle.std.specs.Prelude.{Result, Ok, Err, IfOk, OnOk}
+use Rattle.std.specs.Prelude.{Result, Ok, Err, IfOk, OnOk, unwrap_or}
 use Rattle.std.proofs.lemmas.Bool.{cases_eq}
 use Rattle.heap_meaning.specs.ps_base.CodeUnit as units
 use Rattle.heap_meaning.specs.ps_base.CodeUnit.{UnitView, unit, ConstantView, text, literal, ConstantsView, no_constants, constant_then}
 use Rattle.heap_meaning.specs.ps_base.declared.code_unit.Frame.{Frame}
 use Rattle.heap_meaning.specs.ps_outside.Outside.{Outside}
 use Rattle.heap_meaning.specs.obj_area.Words.{bytes_of}
+use Rattle.heap_meaning.specs.obj_layout.Objects as layout
+use Rattle.heap_meaning.specs.obj_layout.Objects.{Contents, HasContents}
 use Rattle.heap_meaning.specs.obj_layout.Stored.{Space}
 use Rattle.heap_meaning.proofs.of_obj_layout.StoredLaws.{Holds-low}
 use Rattle.heap_meaning.specs.obj_layout.declared.kind.Kind.{Kind}
@@ -16,7 +18,7 @@ use Rattle.heap_meaning.specs.obj_layout.declared.reference.Reference.TheVariant
 use Rattle.heap_meaning.specs.obj_layout.declared.vault.VaultFault.TheVariants.{Damaged}
 use Rattle.heap_meaning.specs.swizzle.declared.fault.SwizzleFault.{SwizzleFault}
 use Rattle.heap_meaning.specs.swizzle.declared.fault.SwizzleFault.TheVariants.{AreaFull, Vault}
-use Rattle.heap_meaning.specs.swizzle.Objects.{Object, words_before, size_of, size_of_all}
+use Rattle.heap_meaning.specs.swizzle.Objects.{Object, words_before, size_of, size_of_all, find_from}
 use Rattle.heap_meaning.specs.swizzle.Heap as area
 use Rattle.heap_meaning.specs.swizzle.Heap.{IsHeap, IsHeld, header_at, object_at, ref_at, top_of, local_from, local_of}
 use Rattle.heap_meaning.specs.swizzle.Joint.{Shown, shown_at, name_at, name_of}
@@ -25,23 +27,26 @@ use Rattle.heap_meaning.specs.swizzle.Text.{text_at}
 use Rattle.heap_meaning.specs.swizzle.Touch.{Denotes, Keeps}
 use Rattle.heap_meaning.specs.swizzle.Reading.{LeavesOutside, FailsReading}
 use Rattle.heap_meaning.proofs.of_swizzle.ObjectLaws.{here, elsewhere, size_of_all-append}
-use Rattle.heap_meaning.proofs.of_swizzle.NameLaws.{shown-counts}
+use Rattle.heap_meaning.proofs.of_swizzle.NameLaws.{shown-counts, name-none}
 use Rattle.heap_meaning.proofs.of_heap_places.PlaceLaws.{slot-name}
 use Rattle.heap_meaning.specs.heap_places.Shapes.{slot_of}
 use Rattle.heap_meaning.specs.heap_texts.Texts.{text_object, wanted_of}
-use Rattle.heap_meaning.specs.proc_values.Units.{code_object, unit_objects, constants_objects, constant_objects, constants_places, constant_words, Loads}
+use Rattle.heap_meaning.specs.proc_values.Units.{code_object, unit_objects, constants_objects, constant_objects, constants_places, constant_words, count_of, Loads}
 use Rattle.heap_meaning.specs.proc_values.Reading.{HasConstant, GivesConstant}
 use Rattle.heap_meaning.specs.proc_values.Loaded.{IsUnit, AreNamed, IsConstant, IsFitUnit, constant_numbered}
 use Rattle.heap_meaning.proofs.of_proc_values.UnitLaws.{size-unit}
 use Rattle.heap_meaning.proofs.of_proc_values.LoadedLaws.{loaded-is}
 use Rattle.heap_meaning.proofs.of_proc_values.StayLaws.{keeps-load}
-use Rattle.heap_meaning.specs.ps_heap.Objects.{Heap}
+use Rattle.heap_meaning.proofs.PairedLaws.{row-within}
 use Rattle.heap_meaning.specs.Units.{shown_code, IsUnitSeen, AreSeen, IsConstantSeen}
 use Rattle.heap_meaning.specs.Standing.{Seen}
 use Rattle.heap_meaning.proofs.StandingLaws.{Fixed, fixed-text, unit-more}
-use Rattle.joint_ops.specs.World.{IsWorld, seen, IsUnitIn, Stands, FailsAsReading}
-use Rattle.joint_ops.specs.Code.{unit_weight, LoadsUnit, DenotesConstant, AnswersConstant}
-use Rattle.joint_ops.proofs.SeenLaws.{area-stays, seen-held, seen-is, nil-unseen, shown-bytes, reads-within, keeps-passes, keeps-stands, reads-stands, Known, caused-touch, breaks}
+use Rattle.joint_ops.specs.Seeing.{WasMade, Gains}
+use Rattle.joint_ops.specs.World.{IsWorld, seen, IsUnitIn, FailsAsReading}
+use Rattle.joint_ops.specs.Code.{unit_weight, HasConstants, AllHaveConstants, LoadsUnit, DenotesConstant, AnswersConstant, StandsBy}
+use Rattle.joint_ops.proofs.SeenLaws.{area-stays, seen-held, seen-is, nil-unseen, shown-bytes, reads-within, keeps-passes, keeps-carries, Known, caused-touch, breaks}
+use Rattle.joint_ops.proofs.GainLaws.{local-place, reads-stands}
+use Rattle.joint_ops.proofs.TextLaws.{text-whole}
 
 -- Objects without PIDs that come after others bring none of those that a vault holds.
 
@@ -112,6 +117,116 @@ load-within old new outside u at keeps l n it (inr v) =
       shown_is = v.shown_is;
     })
 
+-- The objects of a unit whose units have constants have the counts of their kinds.
+
+record IsUnstored (o : Object) : Type 0 where
+  pid : o.header.pid ≡ 0
+  contents : Contents
+  has : HasContents o.header contents
+
+AreUnstored : List Object → Type 0
+AreUnstored [] = Unit {0}
+AreUnstored (o ∷ os) = IsUnstored o × AreUnstored os
+
+unstored-append : (os ps : List Object) → AreUnstored os → AreUnstored ps → AreUnstored (os ++ ps)
+unfolding AreUnstored
+unstored-append [] ps a b = b
+unstored-append (o ∷ os) ps a b = (a.0, unstored-append os ps a.1 b)
+
+places-counted : (at : ℕ) (cs : ConstantsView) → length (constants_places at cs) ≡ count_of cs
+unfolding constants_places count_of
+places-counted at no_constants = refl
+places-counted at (constant_then c cs) = omega (arith, places-counted (at + constant_words c) cs)
+
+code-unstored : (at : ℕ) (code : List ℕ) (frame : Frame) (cs : ConstantsView) → 1 ≤ count_of cs → IsUnstored (code_object code frame (constants_places at cs))
+unfolding code_object
+code-unstored at code frame cs some = record {
+  pid = refl;
+  contents = layout.code (count_of cs) (length code);
+  has = record {
+    kind = refl;
+    counted = ap (λ (n : ℕ). layout.counts n (2 + layout.words_for (length code)) (length code)) (places-counted at cs);
+    allowed = some;
+  };
+}
+
+text-unstored : (bytes : List ℕ) → IsUnstored (text_object bytes)
+text-unstored bytes = record { pid = text-pid bytes; contents = layout.text (length bytes); has = text-whole bytes }
+
+mutual
+  unfolding AreUnstored unit_objects constants_objects constant_objects HasConstants AllHaveConstants
+
+  unit-unstored : (at : ℕ) (u : UnitView) → HasConstants u → AreUnstored (unit_objects at u)
+  unit-unstored at (unit code cs frame) has =
+      unstored-append (constants_objects at cs) (code_object code frame (constants_places at cs) ∷ []) (constants-unstored at cs has.1)
+      (code-unstored at code frame cs has.0, tt)
+
+  constants-unstored : (at : ℕ) (cs : ConstantsView) → AllHaveConstants cs → AreUnstored (constants_objects at cs)
+  constants-unstored at no_constants has = tt
+  constants-unstored at (constant_then (text bytes) cs) has =
+      unstored-append (constant_objects at (text bytes)) (constants_objects (at + constant_words (text bytes)) cs) (text-unstored bytes, tt)
+      (constants-unstored (at + constant_words (text bytes)) cs has)
+  constants-unstored at (constant_then (literal u) cs) has =
+      unstored-append (constant_objects at (literal u)) (constants_objects (at + constant_words (literal u)) cs) (unit-unstored at u has.0)
+      (constants-unstored (at + constant_words (literal u)) cs has.1)
+
+-- an object that is found among more lay there, or is one of those
+found-new : (at : ℕ) (ps : List Object) (x : ℕ) (o : Object) → AreUnstored ps → find_from at ps x ≡ Some o → IsUnstored o
+unfolding AreUnstored
+found-new at [] x o a e = absurd (cc)
+found-new at (p ∷ ps) x o a e = elim (cases_eq x at) [
+  | inl same ↦ let both = sym (here x at (Some p) (find_from (at + size_of p) ps x) same) ∙ e in let is : p ≡ o = cc in subst IsUnstored is a.0
+  | inr apart ↦ found-new (at + size_of p) ps x o a.1 (sym (elsewhere x at (Some p) (find_from (at + size_of p) ps x) apart) ∙ e)
+]
+
+found-among : (at : ℕ) (os ps : List Object) (x : ℕ) (o : Object) → AreUnstored ps → find_from at (os ++ ps) x ≡ Some o → (find_from at os x ≡ Some o) ⊎ IsUnstored o
+found-among at [] ps x o a e = inr (found-new at ps x o a e)
+found-among at (p ∷ os) ps x o a e = elim (cases_eq x at) [
+  | inl same ↦
+      inl (here x at (Some p) (find_from (at + size_of p) os x) same ∙ sym (here x at (Some p) (find_from (at + size_of p) (os ++ ps) x) same) ∙ e)
+  | inr apart ↦ elim (found-among (at + size_of p) os ps x o a (sym (elsewhere x at (Some p) (find_from (at + size_of p) (os ++ ps) x) apart) ∙ e)) [
+    | inl was ↦ inl (elsewhere x at (Some p) (find_from (at + size_of p) os x) apart ∙ was)
+    | inr new ↦ inr new
+  ]
+]
+
+option-cases : (o : Option Object) → ((p : Object) × (o ≡ Some p)) ⊎ (o ≡ None)
+option-cases None = inr refl
+option-cases (Some p) = inl (p, refl)
+
+load-gains : (old new : area.Heap) (outside : Outside Space) (u : UnitView) (at : ℕ) → IsHeap old → IsHeap new → Keeps old new → HasConstants u
+    → Loads old new u (Ok at) → Gains old new outside outside
+load-gains old new outside u at h now keeps has l = record {
+  was_sound = h;
+  sound = now;
+  keeps = keeps;
+  grows = load-within old new outside u at keeps l;
+  came = λ x held. elim (option-cases (area.found old x)) [
+    | inl was ↦ inl (record { object = was.0; is = was.1 })
+    | inr none ↦ elim (found-among 1 old.objects (unit_objects (top_of old) u) x held.object (unit-unstored (top_of old) u has) (sym (ap (λ (n : area.Heap). area.found n x) (l.0)) ∙ held.is)) [
+      | inl was ↦ inl (record { object = held.object; is = was })
+      | inr new_one ↦ inr (inr (made x held none new_one))
+    ]
+  ];
+  contents = record { kept = λ s is. is; no_other = λ s is. is };
+}
+  where
+    made : (x : ℕ) → (held : IsHeld new x) → area.found old x ≡ None → IsUnstored held.object → WasMade old new outside x
+    made x held none k =
+        let is : object_at new x ≡ held.object = ap (λ (o : Option Object). unwrap_or o area.nothing) held.is in
+        let no_pid : (header_at new x).pid ≡ 0 = ap (λ (o : Object). o.header.pid) is ∙ k.pid in
+        record {
+          unstored = no_pid;
+          unseen = λ it s. unseen x none it (subst (λ (n : reference.Reference). seen old outside n it) (name-none (header_at new x) x no_pid) s);
+          whole = (k.contents, subst (λ (o : Object). HasContents o.header k.contents) (sym is) k.has);
+        }
+      where
+        unseen : (x : ℕ) → area.found old x ≡ None → (it : Shown) → seen old outside (name.Local x) it → ⊥
+        unseen x none it (inl a) =
+            let same = local-place old a.at x (sym a.name_is) in
+            let bad : Some a.held.object ≡ None = sym a.held.is ∙ ap (area.found old) same ∙ none in cc
+        unseen x none it (inr v) = let bad : name.Local x ≡ name.Pid v.pid = v.name_is in absurd (cc)
+
 -- What lies in the area is seen.
 
 pub code-bytes : (here : area.Heap) (at : ℕ) → (header_at here at).kind ≡ kind.Code → text_at here at ≡ shown_code (shown_at here at)
@@ -170,9 +285,9 @@ loaded-top old new u at l =
     let sizes = size_of_all-append old.objects (unit_objects (top_of old) u) in
     omega (arith, ap top_of (l.0), sizes, size-unit (top_of old) u)
 
-loads-unit : (old new : area.Heap) (outside : Outside Space) (u : UnitView) (at : ℕ) → IsHeap old → IsFitUnit u → Loads old new u (Ok at)
+loads-unit : (old new : area.Heap) (outside : Outside Space) (u : UnitView) (at : ℕ) → IsHeap old → IsHeap new → IsFitUnit u → Loads old new u (Ok at)
     → LoadsUnit old new outside u (Ok at)
-loads-unit old new outside u at h fit l =
+loads-unit old new outside u at h now fit l =
     let keeps = keeps-load old new u (Ok at) h l in
     let is = loaded-is old new u at fit l in
     record {
@@ -180,7 +295,11 @@ loads-unit old new outside u at h fit l =
       fit = fit;
       top = loaded-top old new u at l;
       bare = no-names new outside;
-      stands = λ of names w. keeps-stands old new outside outside of names keeps (load-within old new outside u at keeps l) w;
+      stands = λ of names w. record {
+        world = record { row = row-within (seen old outside) (seen new outside) of names (load-within old new outside u at keeps l) w.row };
+        carries = keeps-carries old new outside outside names names keeps (load-within old new outside u at keeps l) (λ n id p. p);
+      };
+      gains = λ whole. load-gains old new outside u at h now keeps whole l;
     }
 
 loads-cut : (old new : area.Heap) (outside : Outside Space) (u : UnitView) (fault : SwizzleFault) → IsHeap new → Loads old new u (Err fault)
@@ -201,7 +320,7 @@ loads-cut old new outside u fault h l =
 
 pub loads : (old new : area.Heap) (outside : Outside Space) (u : UnitView) (r : Result ℕ SwizzleFault) → IsHeap old → IsHeap new → OnOk r (IsFitUnit u)
     → Loads old new u r → LoadsUnit old new outside u r
-loads old new outside u (Ok at) h now fit l = loads-unit old new outside u at h fit l
+loads old new outside u (Ok at) h now fit l = loads-unit old new outside u at h now fit l
 loads old new outside u (Err fault) h now fit l = loads-cut old new outside u fault now l
 
 unit-kind : (here : area.Heap) (at : ℕ) (u : UnitView) → IsUnit here at u → (header_at here at).kind ≡ kind.Code
@@ -322,12 +441,18 @@ module _ (old new : area.Heap) (before after : Outside Space) (code index : ℕ)
       let c = found (g.0) in
       inr (c.0, c.1, breaks old new before after fault (g.2) (caused-touch old new before after code index fault h (constant-known (c.0) (c.2)) (g.1)))
 
+unit-known : (old : area.Heap) (before : Outside Space) (code index : ℕ) (u : UnitView) → IsHeap old → IsHeld old code → IsUnitIn old before code u
+    → HasConstant old code index → Known old before (name_of old (ref_at old code index))
+unit-known old before code index (unit bytes cs frame) h held i has =
+    let c = has-code old before code bytes cs frame h i in
+    let f = found old old before before code index cs h h held c has in
+    subst (λ (n : reference.Reference). Known old before n) (slot-name old code index) (constant-known old old before before code index cs h h held c (f.0) (f.2))
+
 pub constant-world : (old new : area.Heap) (before after : Outside Space) (code index : ℕ) (r : Result ℕ SwizzleFault)
-    → GivesConstant old new before after code index r
-    → OnOk r ((of : Heap) (names : List reference.Reference) → IsWorld old before of names → Stands old new before after of names)
-constant-world old new before after code index (Ok at) g =
-    λ of names w. reads-stands old new before after (name_of old (ref_at old code index) ∷ []) of names (g.2) w
-constant-world old new before after code index (Err fault) g = tt
+    → IsHeap old → IsHeap new → IsHeld old code → GivesConstant old new before after code index r → OnOk r (StandsBy old new before after code)
+constant-world old new before after code index (Ok at) h now held g = λ u i of names w.
+    reads-stands old new before after (name_of old (ref_at old code index) ∷ []) of names h now (unit-known old before code index u h held i (g.0), tt) (g.2) w
+constant-world old new before after code index (Err fault) h now held g = tt
 
 -- What is said whatever the vault.
 

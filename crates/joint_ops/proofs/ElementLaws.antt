@@ -1,5 +1,5 @@
 -- Vectors that are read and written, wherever the vector, its type, and what an element denotes lie.
-use Rattle.std.proofs.Common.{w32, to_z, of_z, zero, ◌^◌, negsuc, nat_lt, arith, inl, inr, ◌⊎◌, ◌≡◌, ℕ, suc, ◌+◌, ◌<◌, ℤ, pos, List, [], ◌∷◌, length, get_or, set, replicate, refl, sym, ap, ◌∙◌, subst, Option, Some, None, true, nat_eq, if◌then◌else◌}
+use Rattle.std.proofs.Common.{w32, to_z, of_z, zero, ◌^◌, negsuc, nat_lt, arith, inl, inr, ◌⊎◌, ◌≡◌, ℕ, suc, ◌+◌, ◌<◌, ◌≤◌, ℤ, pos, List, [], ◌∷◌, length, get_or, set, replicate, refl, sym, ap, ◌∙◌, subst, Option, Some, None, true, nat_eq, if◌then◌else◌}
 use Rattle.std.proofs.lemmas.Int.{ints, to_z-of_z}
 use Rattle.std.proofs.lemmas.Bool.{ltb-true, and_parts}
 use Rattle.std.specs.Prelude.{Result, Ok, Err, IfOk, ◌+ℤ◌, ◌-ℤ◌}
@@ -43,11 +43,12 @@ use Rattle.heap_meaning.proofs.GivenLaws.{shown_with}
 use Rattle.heap_meaning.specs.heap_ops.Outcomes.{UnlessFault}
 use Rattle.joint_ops.specs.World.{IsWorld, seen, IsForIn, IsOfForm, Stands, Answers, Writes, BreaksOff, BreaksAsReading}
 use Rattle.joint_ops.specs.Operands as operands
-use Rattle.joint_ops.proofs.SeenLaws.{VectorAt, first-text, Known, known-text, known-value, reads-within, as-within, reads-stands, IsCaused, caused-touch, caused-fetch, breaks, text-is, no-text, no-damage, joint-one}
+use Rattle.joint_ops.proofs.SeenLaws.{VectorAt, first-text, Known, known-text, known-value, reads-within, as-within, IsCaused, caused-touch, caused-fetch, breaks, text-is, no-text, no-damage, joint-one}
 use Rattle.joint_ops.proofs.FormLaws.{int-read, holds-form, holds-near, form-stored, form-fitted}
-use Rattle.joint_ops.proofs.FieldLaws.{as-slot}
+use Rattle.joint_ops.proofs.GainLaws.{reads-stands}
+use Rattle.joint_ops.proofs.FieldLaws.{as-slot, known-touched}
 use Rattle.joint_ops.proofs.RewriteLaws.{rewritten, write-stands, for-carried}
-use Rattle.joint_ops.proofs.PutLaws.{kind-with, no-bytes}
+use Rattle.joint_ops.proofs.PutLaws.{kind-with, no-bytes, was-written}
 
 -- Of one vector.
 
@@ -55,6 +56,11 @@ index-slot : (f : Form) (n : ℕ) → f ≡ form.Reference → 1 + n ≡ index_o
 index-slot form.Reference n e = refl
 index-slot form.Number n e = absurd (cc)
 index-slot form.Flag n e = absurd (cc)
+
+index-behind : (f : Form) (n : ℕ) → 1 ≤ index_of f n
+index-behind form.Reference n = omega arith
+index-behind form.Number n = omega arith
+index-behind form.Flag n = omega arith
 
 -- what an element holds fits its form
 element-fits : (a : Seen) (pair : Pairing) (it : Shown) (ty : List ℕ) (low : ℤ) (vs : List Value) (n : ℕ) → IsVector a pair it ty low vs
@@ -231,7 +237,7 @@ module _ (old new : area.Heap) (before after : Outside Space) (of : Heap) (names
         operands.form_in of id,
         refl,
         e ∙ ap element_of (sym same) ∙ sym (form-is old before of names at id v),
-        reads-stands old new before after (slot_of (shown_at old at) 0 ∷ []) of names t.reads w,
+        reads-stands old new before after (slot_of (shown_at old at) 0 ∷ []) of names h now (type-known old before of names at id v, tt) t.reads w,
       )
 
   pub breaks-form : (at id : ℕ) (fault : SwizzleFault) → VectorAt old before of names at id → TouchesText old new before after at (Err fault)
@@ -247,7 +253,7 @@ module _ (old new : area.Heap) (before after : Outside Space) (of : Heap) (names
     meaning.low_of of (Vector id),
     refl,
     t.2 ∙ low-is (seen old before) (paired names) (shown_at old at) v.ty v.low v.elements v.is ∙ sym (ap low_in v.means),
-    reads-stands old new before after (slot_of (shown_at old at) 0 ∷ []) of names (t.1.reads) w,
+    reads-stands old new before after (slot_of (shown_at old at) 0 ∷ []) of names h now (type-known old before of names at id v, tt) (t.1.reads) w,
   )
 
   pub answers-high : (at id : ℕ) (z : ℤ) → VectorAt old before of names at id → TellsHigh old new before after at (Ok z)
@@ -263,7 +269,7 @@ module _ (old new : area.Heap) (before after : Outside Space) (of : Heap) (names
         refl,
         t.2 ∙ ap (λ (l : ℤ). l +ℤ (pos (count_of it (element_of (t.0))) -ℤ pos 1)) low ∙ ap (λ (n : ℕ). v.low +ℤ (pos n -ℤ pos 1)) count
             ∙ sym (ap (λ (o : Option Object). low_in o +ℤ (pos (length (elements_in o)) -ℤ pos 1)) v.means),
-        reads-stands old new before after (slot_of it 0 ∷ []) of names (t.1.reads) w,
+        reads-stands old new before after (slot_of it 0 ∷ []) of names h now (type-known old before of names at id v, tt) (t.1.reads) w,
       )
 
   pub breaks-low : (at id : ℕ) (fault : SwizzleFault) → VectorAt old before of names at id → TellsLow old new before after at (Err fault)
@@ -296,13 +302,18 @@ module _ (old new : area.Heap) (before after : Outside Space) (of : Heap) (names
               (vector-within (seen old before) (seen new after) (paired names) it v.ty v.low v.elements
               (reads-within old new before after touched g.reads) v.is) p.below holds,
         ),
-        reads-stands old new before after touched of names g.reads w,
+        reads-stands old new before after touched of names h now (
+          type-known old before of names at id v,
+          known-touched (seen old before) it (element_of g.text) (index_of (element_of g.text) g.n)
+              (λ e. subst (λ (x : List ℕ). Known old before (slot_of it (index_of (element_of x) g.n))) same
+              (element-touched old before of names it v.ty v.low v.elements g.n v.is p.below (ap element_of same ∙ e))),
+        ) g.reads w,
       )
   answers-element at id z y (Err (op.Trap t)) e v g =
       let same = type-is at id (g.1.0) (g.1.1.reads.grows) v (g.1.1.is.type) in (
         ap (λ (x : ℤ). meaning.element_of of (Vector id) x) (sym e) ∙ element-meant old before of names at id y v
             ∙ ap (λ (o : Option ℕ). found_at o v.elements) (place-none old before of names at id y (g.1.0) v same (g.1.2)) ∙ ap Fails (sym (g.0)),
-        reads-stands old new before after (slot_of (shown_at old at) 0 ∷ []) of names (g.1.1.reads) w,
+        reads-stands old new before after (slot_of (shown_at old at) 0 ∷ []) of names h now (type-known old before of names at id v, tt) (g.1.1.reads) w,
       )
   answers-element at id z y (Err (op.Swizzle fault)) e v g =
       breaks old new before after fault (g.0) (elim (g.1) [
@@ -327,7 +338,7 @@ module _ (old new : area.Heap) (before after : Outside Space) (of : Heap) (names
       let shaped : IsOfForm (element_of v.ty) c = subst (λ (f : Form). IsOfForm f c) (form-is old before of names at id v) form in
       let stored : c ≡ g.stored = let both : Some c ≡ Some g.stored = sym (form-fitted (element_of v.ty) c shaped)
       ∙ ap (λ (t : List ℕ). fitted (element_of t) c) same ∙ g.fits in cc in
-      let read = reads-stands old mid before after touched of names reads w in
+      let read = reads-stands old mid before after touched of names h g.heap (type-known old before of names at id v, tt) reads w in
       let there : IsVector (seen mid after) (paired names) (shown_at mid at) v.ty v.low v.elements =
       subst (λ (it : Shown). IsVector (seen mid after) (paired names) it v.ty v.low v.elements) (sym stays.shown_as)
       (vector-within (seen old before) (seen mid after) (paired names) (shown_at old at) v.ty v.low v.elements
@@ -339,20 +350,21 @@ module _ (old new : area.Heap) (before after : Outside Space) (of : Heap) (names
         with_object of id object,
         ap (λ (x : ℤ). with_element of (Vector id) x e) (sym q) ∙ put-meant old before of names at id y e v
             ∙ ap (λ (o : Option ℕ). put_at of (Vector id) o e) p.place ∙ put-some old before of names at id g.n e v,
-        write-stands old mid new before after of names at id (shown_with mid (shown_at mid at) index c) object g.heap is_one read stays.held
+        write-stands old mid new before after of names at id (shown_with mid (shown_at mid at) index c) object g.heap now is_one read stays.held
             (subst (λ (m : reference.Reference). paired names m id) (sym stays.name) v.pair)
             (no-bytes (header_at mid at).kind kind.Vector there.rows.kind_is (λ x. cc) (λ x. cc))
             (kind-with mid (shown_at mid at) index c)
             (element-written mid (seen mid after) (paired names) (shown_at mid at) v.ty v.low v.elements g.n c e there p.below
             (form-stored after mid names (element_of v.ty) c e shaped (for-carried old mid before after names names c e read.carries for)))
             tt
+            (was-written mid new at index c kind.Vector g.heap stays.held there.rows.kind_is tt (index-behind (element_of v.ty) g.n) written)
             (rewritten mid new at index c g.heap stays.held written),
       )
   writes-element at id z y c e (Err (op.Trap t)) q v form for g =
       let same = type-is old new before after of names h now w was_one is_one at id (g.1.0) (g.1.1.reads.grows) v (g.1.1.is.type) in (
         ap (λ (x : ℤ). with_element of (Vector id) x e) (sym q) ∙ put-meant old before of names at id y e v
             ∙ ap (λ (o : Option ℕ). put_at of (Vector id) o e) (place-none old before of names at id y (g.1.0) v same (g.1.2)) ∙ ap Fails (sym (g.0)),
-        reads-stands old new before after (slot_of (shown_at old at) 0 ∷ []) of names (g.1.1.reads) w,
+        reads-stands old new before after (slot_of (shown_at old at) 0 ∷ []) of names h now (type-known old before of names at id v, tt) (g.1.1.reads) w,
       )
   writes-element at id z y c e (Err (op.Swizzle fault)) q v form for g =
       breaks old new before after fault (g.0) (elim (g.1) [

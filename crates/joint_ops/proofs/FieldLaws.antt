@@ -1,5 +1,5 @@
 -- Fields of structures that are read, whatever the residence of the structure, of its class, and of what the field denotes.
-use Rattle.std.proofs.Common.{arith, inl, inr, ◌≡◌, ◌≢◌, ℕ, suc, ◌+◌, List, [], ◌∷◌, get_or, refl, sym, ap, ◌∙◌, subst, Option, Some, None}
+use Rattle.std.proofs.Common.{arith, inl, inr, ◌⊎◌, ◌≡◌, ◌≢◌, ℕ, suc, ◌+◌, List, [], ◌∷◌, get_or, refl, sym, ap, ◌∙◌, subst, Option, Some, None}
 use Rattle.std.specs.Prelude.{Result, Ok, Err, IfOk}
 use Rattle.heap_meaning.specs.ps_base.declared.trap.Trap.TheVariants as trap
 use Rattle.heap_meaning.specs.ps_outside.Outside.{Outside}
@@ -11,7 +11,8 @@ use Rattle.heap_meaning.specs.swizzle.declared.fault.SwizzleFault.{SwizzleFault}
 use Rattle.heap_meaning.specs.swizzle.Heap as area
 use Rattle.heap_meaning.specs.swizzle.Heap.{IsHeap, header_at}
 use Rattle.heap_meaning.specs.swizzle.Joint.{Shown, shown_at}
-use Rattle.heap_meaning.specs.swizzle.Reading.{LeavesOutside}
+use Rattle.heap_meaning.specs.swizzle.Changes.{IsKnown}
+use Rattle.heap_meaning.specs.swizzle.Reading.{AreKnown, LeavesOutside}
 use Rattle.heap_meaning.specs.text_forms.declared.forms.Form.{Form}
 use Rattle.heap_meaning.specs.text_forms.declared.forms.Form.TheVariants as form
 use Rattle.heap_meaning.specs.text_forms.declared.forms.Located.{Located}
@@ -34,9 +35,10 @@ use Rattle.heap_meaning.proofs.GivenLaws.{located-at, field-read, field-fits}
 use Rattle.heap_meaning.specs.heap_ops.Outcomes.{UnlessFault}
 use Rattle.heap_meaning.specs.swizzle.Touch.{Keeps}
 use Rattle.joint_ops.specs.World.{IsWorld, seen, DenotesIn, IsForIn, IsOfForm, Answers, BreaksAsReading}
-use Rattle.joint_ops.proofs.SeenLaws.{none-nil, some-not_nil, text-denoted, pointer-denoted, vector-denoted, procedure-kind, StructureAt, structure-pointed, no-class, Known, known-value, reads-within, as-within, reads-stands, IsCaused, caused-fetch, breaks, text-is, no-damage, joint-one}
+use Rattle.joint_ops.proofs.SeenLaws.{none-nil, some-not_nil, StructureAt, structure-pointed, no-class, Known, known-value, reads-within, as-within, IsCaused, caused-fetch, breaks, text-is, no-damage, joint-one}
+use Rattle.joint_ops.proofs.GainLaws.{reads-stands}
 use Rattle.joint_ops.proofs.FormLaws.{holds-form, holds-near}
-use Rattle.joint_ops.proofs.ClassLaws.{class-text, class-is, other-class, field-at, caused-fields}
+use Rattle.joint_ops.proofs.ClassLaws.{structure-value, class-text, class-known, class-is, other-class, field-at, caused-fields}
 
 step : (n : ℕ) → suc n ≡ 1 + n
 step n = omega arith
@@ -51,6 +53,13 @@ as-slot a pair it of text first forms vs n s is =
     (subst (λ (k : ℕ). StandsFor a pair (get_or (s.text_name ∷ s.names) k name.Nil) (get_or vs n Nothing))
     (step (before_in form.Reference forms n)) r)
 
+-- the name of a place of references is the only one that is touched
+pub known-touched : (a : Seen) (it : Shown) (f : Form) (index : ℕ) → (f ≡ form.Reference → (slot_of it index ≡ name.Nil) ⊎ IsKnown a (slot_of it index))
+    → AreKnown a (touched_by it f index)
+known-touched a it form.Reference index known = (known refl, tt)
+known-touched a it form.Number index known = tt
+known-touched a it form.Flag index known = tt
+
 module _ (old new : area.Heap) (before after : Outside Space) (of : Heap) (names : List reference.Reference)
     (h : IsHeap old) (now : IsHeap new) (w : IsWorld old before of names)
     (was_one : (a b : Space) → before.contents a → before.contents b → a ≡ b) (is_one : (a b : Space) → after.contents a → after.contents b → a ≡ b) where
@@ -63,6 +72,11 @@ module _ (old new : area.Heap) (before after : Outside Space) (of : Heap) (names
       known-value old before names (slot_of it (suc l.place.index)) (get_or fields n Nothing)
       (subst (λ (k : ℕ). StandsFor (seen old before) (paired names) (slot_of it k) (get_or fields n Nothing)) (omega (arith, index))
       (as-slot (seen old before) (paired names) it kind.Structure text (λ home. home ∷ []) (forms_of text) fields n s (at.form_is ∙ ap Some reference)))
+
+  -- what is touched for it is known
+  field-touched : (it : Shown) (text : List ℕ) (fields : List Value) (n : ℕ) (l : Located) → IsStructure (seen old before) (paired names) it text fields
+      → located_in (forms_of text) n ≡ Some l → AreKnown (seen old before) (touched_by it l.place.form (suc l.place.index))
+  field-touched it text fields n l s is = known-touched (seen old before) it l.place.form (suc l.place.index) (field-slot it text fields n l s is)
 
   caused-value : (at id : ℕ) (text : List ℕ) (n : ℕ) (l : Located) (fault : SwizzleFault) → StructureAt old before of names at id
       → located_in (forms_of text) n ≡ Some l → FailsValue old before at text l.rows l.place.form (suc l.place.index) fault
@@ -81,19 +95,6 @@ module _ (old new : area.Heap) (before after : Outside Space) (of : Heap) (names
   abbrev Gives : Attempt Value → Located → Result code.Value OpFault → Type 0
   Gives attempt l result = Answers old new before after (λ c v. IsOfForm l.place.form c × IsForIn new after names c v) of names attempt result
 
-  -- what the field operations answer to what is no structure
-  other-field : (at : ℕ) (text : List ℕ) (l : Located) (attempt : Attempt Value) (result : Result code.Value OpFault)
-      → (header_at old at).kind ≢ kind.Structure → attempt ≡ Fails trap.WrongClass → GetsField old new before after (Some at) text l result
-      → Gives attempt l result
-  other-field at text l attempt (Ok v) ne e g = absurd (ne (g.0.class.kind))
-  other-field at text l attempt (Err (op.Trap t)) ne e g =
-      (e ∙ ap Fails (sym (g.0)), reads-stands old new before after (slot_of (shown_at old at) 0 ∷ []) of names (g.2) w)
-  other-field at text l attempt (Err (op.Swizzle fault)) ne e g =
-      elim (g.1) [
-        | inl fields ↦ elim fields [ inl c ↦ absurd (ne (c.0)) | inr d ↦ absurd (ne (d.2.kind)) ]
-        | inr v ↦ absurd (ne (v.class.kind))
-      ]
-
   pointer-field : (at id : ℕ) (text : List ℕ) (n : ℕ) (l : Located) (result : Result code.Value OpFault) → StructureAt old before of names at id
       → located_in (forms_of text) n ≡ Some l → GetsField old new before after (Some at) text l result → Gives (field_of of (Pointer id) text n) l result
   pointer-field at id text n l (Ok v) s is g =
@@ -108,11 +109,13 @@ module _ (old new : area.Heap) (before after : Outside Space) (of : Heap) (names
           holds-form new it l.place.form (suc l.place.index) v (g.1),
           field-read new (seen new after) (paired names) it text s.fields n l v later is (g.1),
         ),
-        reads-stands old new before after touched of names (g.2) w,
+        reads-stands old new before after touched of names h now
+            (class-known old new before after of names h now w was_one is_one at id s, field-touched it text s.fields n l f.is is) (g.2) w,
       )
   pointer-field at id text n l (Err (op.Trap t)) s is g = (
     no-field of id text n (other-class old new before after of names h now w was_one is_one at id text (g.2.grows) s (g.1)) ∙ ap Fails (sym (g.0)),
-    reads-stands old new before after (slot_of (shown_at old at) 0 ∷ []) of names (g.2) w,
+    reads-stands old new before after (slot_of (shown_at old at) 0 ∷ []) of names h now
+        (class-known old new before after of names h now w was_one is_one at id s, tt) (g.2) w,
   )
   pointer-field at id text n l (Err (op.Swizzle fault)) s is g =
       breaks old new before after fault (g.0) (elim (g.1) [
@@ -120,45 +123,34 @@ module _ (old new : area.Heap) (before after : Outside Space) (of : Heap) (names
         | inr v ↦ caused-value at id text n l fault s is v
       ])
 
-  none-field : (text : List ℕ) (n : ℕ) (l : Located) (result : Result code.Value OpFault) → GetsField old new before after None text l result
-      → Gives (field_of of Nil text n) l result
-  unfolding field_of
-  none-field text n l (Ok v) g = absurd g
-  none-field text n l (Err (op.Trap t)) g = (ap Fails (sym (g.0)), reads-stands old new before after [] of names (g.1) w)
-  none-field text n l (Err (op.Swizzle fault)) g = absurd g
+  pub answers-field : (at : ℕ) (given_text text : List ℕ) (n : ℕ) (o : Value) (l : Located) (result : Result code.Value OpFault)
+      → given_text ≡ text → (header_at old at).kind ≡ kind.Structure → DenotesIn old before names (Some at) o → located_in (forms_of text) n ≡ Some l
+      → GetsField old new before after (Some at) given_text l result → Gives (field_of of o text n) l result
+  answers-field at given_text text n o l result e k d is g =
+      let p = structure-value old before names at o h d k in
+      let s = structure-pointed old before of names at (p.0) h w (subst (DenotesIn old before names (Some at)) (p.1) d) k in
+      subst (λ (v : Value). Gives (field_of of v text n) l result) (sym (p.1))
+      (pointer-field at (p.0) text n l result s is (subst (λ (t : List ℕ). GetsField old new before after (Some at) t l result) e g))
 
-  some-field : (at : ℕ) (text : List ℕ) (n : ℕ) (o : Value) (l : Located) (result : Result code.Value OpFault)
-      → DenotesIn old before names (Some at) o → located_in (forms_of text) n ≡ Some l
-      → GetsField old new before after (Some at) text l result → Gives (field_of of o text n) l result
-  unfolding field_of
-  some-field at text n (Pointer id) l result d is g = elim (pointer-denoted old before names at id h d).kind [
-    | inl k ↦ pointer-field at id text n l result (structure-pointed old before of names at id h w d k) is g
-    | inr k ↦
-        let ne : (header_at old at).kind ≢ kind.Structure = λ s. let bad : kind.Table ≡ kind.Structure = sym k ∙ s in absurd (cc) in
-        other-field at text l (field_of of (Pointer id) text n) result ne (no-field of id text n (no-class old before of names at id text h w d ne)) g
-  ]
-  some-field at text n (Text bytes) l result d is g =
-      other-field at text l (Fails trap.WrongClass) result
-      (λ k. let bad : kind.Text ≡ kind.Structure = sym (text-denoted old before names at bytes h d).kind ∙ k in cc) refl g
-  some-field at text n (Vector id) l result d is g =
-      other-field at text l (Fails trap.WrongClass) result
-      (λ k. let bad : kind.Vector ≡ kind.Structure = sym (vector-denoted old before names at id h d).kind ∙ k in cc) refl g
-  some-field at text n Nil l result d is g = absurd (some-not_nil old before names at d)
-  some-field at text n (Num z) l result d is g = absurd (d.stands)
-  some-field at text n (Flag b) l result d is g = absurd (d.stands)
-  some-field at text n (Procedure does scope) l result d is g =
-      other-field at text l (Fails trap.WrongClass) result
-      (λ k. let bad : kind.Closure ≡ kind.Structure = sym (procedure-kind old before names at does scope h d) ∙ k in cc) refl g
-  some-field at text n Nothing l result d is g = absurd (d.stands)
+-- What is no structure has no field, and nothing is read.
 
-  pub answers-field : (object : Option ℕ) (given_text text : List ℕ) (n : ℕ) (o : Value) (l : Located) (result : Result code.Value OpFault)
-      → given_text ≡ text → DenotesIn old before names object o → located_in (forms_of text) n ≡ Some l
-      → GetsField old new before after object given_text l result → Gives (field_of of o text n) l result
-  answers-field (Some at) given_text text n o l result e d is g =
-      some-field at text n o l result d is (subst (λ (t : List ℕ). GetsField old new before after (Some at) t l result) e g)
-  answers-field None given_text text n o l result e d is g =
-      subst (λ (v : Value). Gives (field_of of v text n) l result) (sym (none-nil old before names o d))
-      (none-field text n l result (subst (λ (t : List ℕ). GetsField old new before after None t l result) e g))
+pub wrong-class : (here : area.Heap) (outside : Outside Space) (of : Heap) (names : List reference.Reference) (at : ℕ) (text : List ℕ) (n : ℕ) (o : Value)
+    → IsHeap here → IsWorld here outside of names → (header_at here at).kind ≢ kind.Structure → DenotesIn here outside names (Some at) o
+    → field_of of o text n ≡ Fails trap.WrongClass
+unfolding field_of
+wrong-class here outside of names at text n (Pointer id) h w ne d = no-field of id text n (no-class here outside of names at id text h w d ne)
+wrong-class here outside of names at text n (Text bytes) h w ne d = refl
+wrong-class here outside of names at text n (Vector id) h w ne d = refl
+wrong-class here outside of names at text n Nil h w ne d = absurd (some-not_nil here outside names at d)
+wrong-class here outside of names at text n (Num z) h w ne d = absurd (d.stands)
+wrong-class here outside of names at text n (Flag b) h w ne d = absurd (d.stands)
+wrong-class here outside of names at text n (Procedure does scope) h w ne d = refl
+wrong-class here outside of names at text n Nothing h w ne d = absurd (d.stands)
+
+pub nil-field : (here : area.Heap) (outside : Outside Space) (of : Heap) (names : List reference.Reference) (text : List ℕ) (n : ℕ) (o : Value)
+    → DenotesIn here outside names None o → field_of of o text n ≡ Fails trap.Nil
+unfolding field_of
+nil-field here outside of names text n o d = ap (λ (v : Value). field_of of v text n) (none-nil here outside names o d)
 
 pub gets-leaves : (old new : area.Heap) (before after : Outside Space) (object : Option ℕ) (text : List ℕ) (l : Located)
     (result : Result code.Value OpFault) → GetsField old new before after object text l result → LeavesOutside before after

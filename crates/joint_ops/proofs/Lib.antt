@@ -1,4 +1,7 @@
 pub mod SeenLaws
+pub mod GrowthLaws
+pub mod GainLaws
+pub mod WriteLaws
 pub mod ValueLaws
 pub mod FormLaws
 pub mod ClassLaws
@@ -6,7 +9,6 @@ pub mod FieldLaws
 pub mod RewriteLaws
 pub mod PutLaws
 pub mod ElementLaws
-pub mod GrowthLaws
 pub mod TextLaws
 pub mod MadeLaws
 pub mod CodeLaws

@@ -1,5 +1,5 @@
 -- A value written to a place of an object of the area: what becomes of area and vault, and of the world.
-use Rattle.std.proofs.Common.{arith, inl, inr, ◌≡◌, ℕ, ◌+◌, List, [], ◌∷◌, ◌++◌, set, slice_set, refl, sym, ap, ◌∙◌, subst, Bool, true, false, if◌then◌else◌}
+use Rattle.std.proofs.Common.{arith, inl, inr, ◌≡◌, ℕ, ◌+◌, List, [], ◌∷◌, ◌++◌, set, slice_set, refl, sym, ap, ◌∙◌, subst, Bool, true, false, if◌then◌else◌, Some}
 use Rattle.std.proofs.lemmas.Bool.{cases_eq}
 use Rattle.std.proofs.lemmas.List.{map-set}
 use Rattle.heap_meaning.specs.ps_outside.Outside.{Outside}
@@ -21,16 +21,19 @@ use Rattle.heap_meaning.specs.heap_places.Places.{with_value, assigned_value}
 use Rattle.heap_meaning.specs.heap_places.declared.value.Value as code
 use Rattle.heap_meaning.specs.heap_places.declared.value.Value.TheVariants as held
 use Rattle.heap_meaning.specs.ps_heap.Values.{Value}
-use Rattle.heap_meaning.specs.ps_heap.Objects.{Heap, Object, with_object}
+use Rattle.heap_meaning.specs.ps_heap.Tables.{Table}
+use Rattle.heap_meaning.specs.ps_heap.Objects.{Heap, Object, Structure, Elements, Scope, Keyed, with_object}
 use Rattle.heap_meaning.specs.Standing as standing
 use Rattle.heap_meaning.specs.Paired.{paired}
-use Rattle.heap_meaning.proofs.StandingLaws.{IsFixed, not-fixed, fixed-changed, kinds-changed, like-more}
+use Rattle.heap_meaning.proofs.StandingLaws.{IsFixed, not-fixed, fixed-changed, kinds-changed, like-more, object-set, object-set_other}
 use Rattle.heap_meaning.proofs.PairedLaws.{row-written}
 use Rattle.heap_meaning.proofs.GivenLaws.{shown_with}
 use Rattle.heap_meaning.specs.proc_values.Loaded.{CodeStays}
 use Rattle.heap_meaning.proofs.of_proc_values.StayLaws.{code-other}
-use Rattle.joint_ops.specs.World.{IsStored, seen, Carries, Stands, IsForIn}
+use Rattle.joint_ops.specs.Writing.{IsWrite}
+use Rattle.joint_ops.specs.World.{IsStored, seen, Carries, Stands, Rewritten, IsForIn}
 use Rattle.joint_ops.proofs.SeenLaws.{seen-held, seen-one, Passes, carries-value, carries-scope, carries-unit}
+use Rattle.joint_ops.proofs.GainLaws.{gains-then}
 
 -- An object in another's place, twice.
 replace-twice : (at : ℕ) (os : List area_objects.Object) (i : ℕ) (x y : area_objects.Object)
@@ -49,7 +52,7 @@ replace-twice at (o ∷ os) i x y = elim (cases_eq i at) [
 ]
 
 -- An object was put in another's place, as long and of its kind.
-pub record Rewritten (mid new : area.Heap) (at : ℕ) (it : Shown) : Type 0 where
+pub record Replaced (mid new : area.Heap) (at : ℕ) (it : Shown) : Type 0 where
   pub object : area_objects.Object
   pub objects : new.objects ≡ replace_from 1 mid.objects at object
   pub size : new.size ≡ mid.size
@@ -88,7 +91,7 @@ value-shown mid at index (held.Ref to) =
 -- the mark after it
 marked : (mid : area.Heap) (at : ℕ) (o : area_objects.Object) (it : Shown) (b : Bool) → IsHeap mid → IsHeld mid at → IsLike (object_at mid at) o
     → shown (name_of mid) o ≡ it
-    → Rewritten mid (if b then area.with_object mid at o else record (area.with_object mid at o) {
+    → Replaced mid (if b then area.with_object mid at o else record (area.with_object mid at o) {
       objects = replace_from 1 (area.with_object mid at o).objects at (flagged (object_at (area.with_object mid at o) at));
       assigned = mid.assigned ++ at ∷ [];
     }) at it
@@ -104,11 +107,11 @@ marked mid at o it false h there like is = record {
 }
 
 pub rewritten : (mid new : area.Heap) (at index : ℕ) (c : code.Value) → IsHeap mid → IsHeld mid at → new ≡ assigned_value mid at index c
-    → Rewritten mid new at (shown_with mid (shown_at mid at) index c)
+    → Replaced mid new at (shown_with mid (shown_at mid at) index c)
 rewritten mid new at index c h there e =
     let o = value_object (object_at mid at) index c in
     let put = area.with_object mid at o in
-    subst (λ (x : area.Heap). Rewritten mid x at (shown_with mid (shown_at mid at) index c))
+    subst (λ (x : area.Heap). Replaced mid x at (shown_with mid (shown_at mid at) index c))
     (sym (e ∙ ap (λ (x : area.Heap). with_mark x at) (value-objects mid at index c)))
     (marked mid at o (shown_with mid (shown_at mid at) index c) (is_assigned (object_at put at)) h there (value-like (object_at mid at) index c)
     (value-shown mid at index c))
@@ -118,7 +121,7 @@ rewritten mid new at index c h there e =
 relisted : area.Heap → List ℕ → area.Heap
 relisted heap assigned = record heap { assigned = assigned }
 
-as-relisted : (mid new : area.Heap) (at : ℕ) (it : Shown) → (r : Rewritten mid new at it)
+as-relisted : (mid new : area.Heap) (at : ℕ) (it : Shown) → (r : Replaced mid new at it)
     → new ≡ relisted (area.with_object mid at r.object) new.assigned
 unfolding relisted
 as-relisted mid new at it r =
@@ -131,7 +134,7 @@ names-relisted : (mid put : area.Heap) (assigned : List ℕ) → ((j : ℕ) → 
 unfolding relisted
 names-relisted mid put assigned f j there = let now = f j there in (record { object = now.0.object; is = now.0.is }, now.1)
 
-pub rewritten-names : (mid new : area.Heap) (at : ℕ) (it : Shown) → IsHeld mid at → Rewritten mid new at it → (j : ℕ) → IsHeld mid j
+pub rewritten-names : (mid new : area.Heap) (at : ℕ) (it : Shown) → IsHeld mid at → Replaced mid new at it → (j : ℕ) → IsHeld mid j
     → IsHeld new j × (name_at new j ≡ name_at mid j)
 rewritten-names mid new at it there r j is =
     let put = area.with_object mid at r.object in
@@ -155,12 +158,12 @@ code-relisted mid put assigned stays at there bytes =
     }
 
 pub rewritten-code : (mid new : area.Heap) (at : ℕ) (it : Shown) → IsHeld mid at → (HasBytes (header_at mid at).kind → ⊥)
-    → Rewritten mid new at it → CodeStays mid new
+    → Replaced mid new at it → CodeStays mid new
 rewritten-code mid new at it there none r =
     subst (CodeStays mid) (sym (as-relisted mid new at it r))
     (code-relisted mid (area.with_object mid at r.object) new.assigned (code-other mid at r.object there none r.like))
 
-pub rewritten-top : (mid new : area.Heap) (at : ℕ) (it : Shown) → IsHeld mid at → Rewritten mid new at it → top_of new ≡ top_of mid
+pub rewritten-top : (mid new : area.Heap) (at : ℕ) (it : Shown) → IsHeld mid at → Replaced mid new at it → top_of new ≡ top_of mid
 rewritten-top mid new at it there r =
     ap (λ (os : List area_objects.Object). 1 + size_of_all os) r.objects
     ∙ ap (λ (n : ℕ). 1 + n)
@@ -180,19 +183,42 @@ code-then a b c first second at there bytes =
       nums = t.nums ∙ s.nums;
     }
 
+-- what is denoted, and denoted again
+pub carries-then : (a b c : area.Heap) (start before after : Outside Space) (names more most : List reference.Reference)
+    → Carries a b start before names more → Carries b c before after more most → Carries a c start after names most
+carries-then a b c start before after names more most s t = record {
+  values = λ to v d. t.values to v (s.values to v d);
+  scopes = λ to scope d. t.scopes to scope (s.scopes to scope d);
+  units = λ code u i. t.units code u (s.units code u i);
+  code = code-then a b c s.code t.code;
+  size = t.size ∙ s.size;
+  top = omega (arith, t.top, s.top);
+}
+
 -- what stands, and stands again
 pub stands-then : (a b c : area.Heap) (start before after : Outside Space) (of later : Heap) (names : List reference.Reference)
     → Stands a b start before of names → Stands b c before after later names → Stands a c start after later names
 stands-then a b c start before after of later names s t = record {
   world = t.world;
-  carries = record {
-    values = λ to v d. t.carries.values to v (s.carries.values to v d);
-    scopes = λ to scope d. t.carries.scopes to scope (s.carries.scopes to scope d);
-    units = λ code u i. t.carries.units code u (s.carries.units code u i);
-    code = code-then a b c s.carries.code t.carries.code;
-    size = t.carries.size ∙ s.carries.size;
-    top = omega (arith, t.carries.top, s.carries.top);
-  };
+  carries = carries-then a b c start before after names names names s.carries t.carries;
+  gains = gains-then a b c start before after s.gains t.gains;
+}
+
+-- an object that was written, after a reading
+pub rewritten-then : (a b c : area.Heap) (start before after : Outside Space) (of later : Heap) (names : List reference.Reference)
+    → Stands a b start before of names → Rewritten b c before after of later names → Rewritten a c start after of later names
+rewritten-then a b c start before after of later names s t = record {
+  mid = t.mid;
+  gains = gains-then a b t.mid start before after s.gains t.gains;
+  x = t.x;
+  write = t.write;
+  sound = t.sound;
+  id = t.id;
+  named = t.named;
+  others = t.others;
+  plain = t.plain;
+  world = t.world;
+  carries = carries-then a b c start before after names names names s.carries t.carries;
 }
 
 -- What was seen of area and vault, where the vault stays.
@@ -221,7 +247,7 @@ module _ (outside : Outside Space) where
     no_more = λ m other ne s. c.no_more m other ne (relisted-back heap assigned m other s);
   }
 
-  pub rewritten-changed : (mid new : area.Heap) (at : ℕ) (it : Shown) → IsHeap mid → IsHeld mid at → Rewritten mid new at it
+  pub rewritten-changed : (mid new : area.Heap) (at : ℕ) (it : Shown) → IsHeap mid → IsHeld mid at → Replaced mid new at it
       → ChangedAt (seen mid outside) (name_at mid at) it (seen new outside)
   rewritten-changed mid new at it h there r =
       let put = area.with_object mid at r.object in
@@ -230,13 +256,20 @@ module _ (outside : Outside Space) where
       (subst (λ (s : Shown). ChangedAt (seen mid outside) (name_at mid at) s (seen put outside)) r.shown_is
       (joint-replaced mid (IsStored outside) at r.object h there r.like)))
 
+-- an object that is no table isn't one
+plain-object : (object : Object) (table : Table) → standing.IsPlain object → Some object ≡ Some (Keyed table) → ⊥
+plain-object (Keyed t) table plain e = plain
+plain-object (Structure class fields) table plain e = let bad : Some (Structure class fields) ≡ Some (Keyed table) = e in cc
+plain-object (Elements ty low elements) table plain e = let bad : Some (Elements ty low elements) ≡ Some (Keyed table) = e in cc
+plain-object (Scope text parent values) table plain e = let bad : Some (Scope text parent values) ≡ Some (Keyed table) = e in cc
+
 -- A write on both sides, after a reading: area and vault stand for the heap with the other object.
 pub write-stands : (old mid new : area.Heap) (before after : Outside Space) (of : Heap) (names : List reference.Reference) (at id : ℕ) (it : Shown)
-    (object : Object) → IsHeap mid → ((a b : Space) → after.contents a → after.contents b → a ≡ b) → Stands old mid before after of names
+    (object : Object) → IsHeap mid → IsHeap new → ((a b : Space) → after.contents a → after.contents b → a ≡ b) → Stands old mid before after of names
     → IsHeld mid at → paired names (name_at mid at) id → (HasBytes (header_at mid at).kind → ⊥)
-    → it.kind ≡ (shown_at mid at).kind → standing.IsLike (seen mid after) (paired names) it object → standing.IsPlain object → Rewritten mid new at it
-    → Stands old new before after (with_object of id object) names
-write-stands old mid new before after of names at id it object h is_one s there p none same like plain r =
+    → it.kind ≡ (shown_at mid at).kind → standing.IsLike (seen mid after) (paired names) it object → standing.IsPlain object → IsWrite mid new at
+    → Replaced mid new at it → Rewritten old new before after of (with_object of id object) names
+write-stands old mid new before after of names at id it object h now is_one s there p none same like plain write r =
     let a = seen mid after in
     let b = seen new after in
     let one = seen-one mid after h is_one in
@@ -246,7 +279,17 @@ write-stands old mid new before after of names at id it object h is_one s there 
     let fixed = fixed-changed a b (name_at mid at) (shown_at mid at) it one seen_now written changed in
     let kinds = kinds-changed a b (name_at mid at) (shown_at mid at) it one seen_now same changed in
     let passes : Passes mid new a b = record { names = rewritten-names mid new at it there r; fixed = fixed; kinds = kinds } in
+    let was = s.world.row.stands.both (name_at mid at) id p in
     record {
+      mid = mid;
+      gains = s.gains;
+      x = at;
+      write = write;
+      sound = now;
+      id = id;
+      named = p;
+      others = λ i ne. object-set_other of id i object ne;
+      plain = λ table e. plain-object object table plain (sym (object-set of id was.object object was.means) ∙ e);
       world = record {
         row = row-written a b of names (name_at mid at) id (shown_at mid at) it object one s.world.row p seen_now plain same changed
             (like-more a b (paired names) (paired names) it object fixed kinds (λ n i q. q) like);

@@ -38,9 +38,8 @@ use Rattle.heap_meaning.specs.Standing.{Seen, Pairing, IsKindOf, IsPointed, Stan
 use Rattle.heap_meaning.specs.Denoting.{DenotesValue, DenotesScope}
 use Rattle.heap_meaning.specs.Paired.{paired}
 use Rattle.heap_meaning.proofs.StandingLaws.{Fixed, Kinds, Pairs, text-more, unit-more, as-more, stands-more, scope-more}
-use Rattle.heap_meaning.proofs.PairedLaws.{row-within}
 use Rattle.heap_meaning.proofs.PlaceLaws.{text-one}
-use Rattle.joint_ops.specs.World.{IsStored, IsWorld, seen, DenotesIn, IsUnitIn, Carries, Stands, IsAway, BreaksOff}
+use Rattle.joint_ops.specs.World.{IsStored, IsWorld, seen, DenotesIn, IsUnitIn, Carries, IsAway, BreaksOff}
 
 -- an object of the area is seen
 pub seen-held : (here : area.Heap) (outside : Outside Space) (at : ℕ) → IsHeld here at → seen here outside (name_at here at) (shown_at here at)
@@ -174,24 +173,6 @@ pub as-within : (a b : Seen) (pair : Pairing) (it : Shown) (of : Kind) (text : L
 as-within a b pair it of text first forms vs grows s =
     as-more a b pair pair it of text first forms vs (λ n x fixed j. grows n x j)
     (λ n x j. record { it = x; there = grows n x j; kind_is = refl }) (λ n id p. p) s
-
--- The same heap under the same names, where objects of the area stay and nothing that is seen is lost: so after a reading.
-pub keeps-stands : (old new : area.Heap) (before after : Outside Space) (of : Heap) (names : List reference.Reference) → Keeps old new
-    → Within (seen old before) (seen new after) → IsWorld old before of names → Stands old new before after of names
-keeps-stands old new before after of names keeps grows w = record {
-  world = record { row = row-within (seen old before) (seen new after) of names grows w.row };
-  carries = keeps-carries old new before after names names keeps grows (λ n id p. p);
-}
-
-pub reads-stands : (old new : area.Heap) (before after : Outside Space) (touched : List reference.Reference) (of : Heap)
-    (names : List reference.Reference) → Reads old new before after touched → IsWorld old before of names → Stands old new before after of names
-reads-stands old new before after touched of names r w =
-    keeps-stands old new before after of names r.keeps (reads-within old new before after touched r) w
-
--- and where nothing was done
-pub nothing-done : (here : area.Heap) (outside : Outside Space) (of : Heap) (names : List reference.Reference) → IsWorld here outside of names
-    → Stands here here outside outside of names
-nothing-done here outside of names w = keeps-stands here here outside outside of names (keeps-refl here) (λ n it s. s) w
 
 -- What objects of the area denote.
 
@@ -452,7 +433,7 @@ breaks old new before after (Vault (Damaged at found wanted)) f caused = caused
 -- An operation broke off that went on after a reading: so did the whole.
 
 -- a PID that no object of the area has now, none had before others came
-still-away : (old mid : area.Heap) (pid : ℕ) → IsHeap mid → Keeps old mid → 1 ≤ pid → local_of mid pid ≡ None → local_of old pid ≡ None
+pub still-away : (old mid : area.Heap) (pid : ℕ) → IsHeap mid → Keeps old mid → 1 ≤ pid → local_of mid pid ≡ None → local_of old pid ≡ None
 still-away old mid pid h keeps low away = cases (local_of old pid) refl
   where
     cases : (o : Option ℕ) → local_of old pid ≡ o → local_of old pid ≡ None

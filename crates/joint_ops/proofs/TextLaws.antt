@@ -8,6 +8,8 @@ use Rattle.heap_meaning.specs.obj_area.Words.{AreBytes}
 use Rattle.heap_meaning.proofs.of_obj_area.WordLaws.{AreBytes-take, AreBytes-drop}
 use Rattle.heap_meaning.specs.ps_base.declared.trap.Trap.TheVariants as trap
 use Rattle.heap_meaning.specs.ps_outside.Outside.{Outside}
+use Rattle.heap_meaning.specs.obj_layout.Objects as layout
+use Rattle.heap_meaning.specs.obj_layout.Objects.{HasContents}
 use Rattle.heap_meaning.specs.obj_layout.Stored.{Space}
 use Rattle.heap_meaning.specs.obj_layout.declared.reference.Reference as reference
 use Rattle.heap_meaning.specs.swizzle.declared.fault.SwizzleFault.{SwizzleFault}
@@ -29,9 +31,9 @@ use Rattle.heap_meaning.proofs.of_proc_values.WrittenLaws.{text-of_text}
 use Rattle.heap_meaning.specs.swizzle.Touch.{Keeps}
 use Rattle.joint_ops.specs.World.{IsWorld, Stands}
 use Rattle.joint_ops.specs.Made.{IsNewText, MakesText, BreaksAsMaking}
-use Rattle.joint_ops.proofs.SeenLaws.{keeps-stands, nothing-done}
+use Rattle.joint_ops.proofs.GainLaws.{made-gains, gains-stands, nothing-done}
 use Rattle.joint_ops.proofs.ValueLaws.{denotes-text, text-bytes}
-use Rattle.joint_ops.proofs.GrowthLaws.{made-keeps, same-keeps, made-top, made-grows, full-short, full-breaks}
+use Rattle.joint_ops.proofs.GrowthLaws.{made-keeps, same-keeps, made-top, full-short, full-breaks}
 
 -- The operators yield bytes.
 
@@ -80,17 +82,21 @@ text-small here at h held =
     let room = s.fit.bytes in
     omega (arith, sizes, room, h.within, h.small)
 
+-- The object of a text has the counts of one.
+pub text-whole : (bytes : List ℕ) → HasContents (text_object bytes).header (layout.text (length bytes))
+unfolding text_object
+text-whole bytes = record { kind = refl; counted = refl; allowed = tt }
+
 module _ (outside : Outside Space) where
   -- A text was made.
-  pub new-text : (old new : area.Heap) (of : Heap) (names : List reference.Reference) (bytes : List ℕ) (at : ℕ) → IsHeap old → AreBytes bytes
+  pub new-text : (old new : area.Heap) (of : Heap) (names : List reference.Reference) (bytes : List ℕ) (at : ℕ) → IsHeap old → IsHeap new → AreBytes bytes
       → IsWorld old outside of names → IsMade old new at (text_object bytes) → IsNewText old new outside of names bytes at
   unfolding text_object
-  new-text old new of names bytes at h good w m =
-      let keeps = made-keeps old new at (text_object bytes) h m in
-      let grows = made-grows old new outside at (text_object bytes) h (λ slot to e. absurd (cc)) refl m in
+  new-text old new of names bytes at h now good w m =
       let there = made-object old new at (text_object bytes) m in
       record {
-        stands = keeps-stands old new outside outside of names keeps grows w;
+        stands = gains-stands old new outside outside of names
+            (made-gains old new outside at (text_object bytes) (layout.text (length bytes)) h now (λ slot to e. absurd (cc)) refl (text-whole bytes) m) w;
         top = omega (arith, made-top old new at (text_object bytes) m);
         denotes = denotes-text new outside names at bytes (made-held old new at (text_object bytes) m) (ap (λ (o : Object). o.header.kind) there)
             (ap text_of there ∙ text-of_text bytes good);
@@ -98,24 +104,24 @@ module _ (outside : Outside Space) where
 
   -- What an operator on texts gives.
   pub gives-text : (old new : area.Heap) (of : Heap) (names : List reference.Reference) (attempt : Attempt (List ℕ)) (result : Result ℕ OpFault)
-      → IsHeap old → ((bytes : List ℕ) → attempt ≡ Yields bytes → AreBytes bytes) → IsWorld old outside of names
+      → IsHeap old → IsHeap new → ((bytes : List ℕ) → attempt ≡ Yields bytes → AreBytes bytes) → IsWorld old outside of names
       → GivesText old new attempt result → MakesText old new outside of names attempt result
-  gives-text old new of names (Yields bytes) (Ok at) h good w g = (bytes, refl, new-text old new of names bytes at h (good bytes refl) w g)
-  gives-text old new of names (Yields bytes) (Err (op.Swizzle fault)) h good w g =
+  gives-text old new of names (Yields bytes) (Ok at) h now good w g = (bytes, refl, new-text old new of names bytes at h now (good bytes refl) w g)
+  gives-text old new of names (Yields bytes) (Err (op.Swizzle fault)) h now good w g =
       (bytes, refl, full-short old new (4 + text_nums (length bytes)) (text_weight bytes) fault g (omega arith))
-  gives-text old new of names (Yields bytes) (Err (op.Trap t)) h good w g = absurd g
-  gives-text old new of names (Fails why) (Ok at) h good w g = let bad = g.0 in absurd (cc)
-  gives-text old new of names (Fails why) (Err (op.Swizzle fault)) h good w g = let bad = g.0 in absurd (cc)
-  gives-text old new of names (Fails why) (Err (op.Trap t)) h good w g = (
+  gives-text old new of names (Yields bytes) (Err (op.Trap t)) h now good w g = absurd g
+  gives-text old new of names (Fails why) (Ok at) h now good w g = let bad = g.0 in absurd (cc)
+  gives-text old new of names (Fails why) (Err (op.Swizzle fault)) h now good w g = let bad = g.0 in absurd (cc)
+  gives-text old new of names (Fails why) (Err (op.Trap t)) h now good w g = (
     (let same = g.0 in cc),
-    subst (λ (x : area.Heap). Stands old x outside outside of names) (sym (g.1)) (nothing-done old outside of names w),
+    subst (λ (x : area.Heap). Stands old x outside outside of names) (sym (g.1)) (nothing-done old outside of names h w),
   )
 
   -- a text that is made of given bytes
-  pub makes-text : (old new : area.Heap) (of : Heap) (names : List reference.Reference) (bytes : List ℕ) (at : ℕ) → IsHeap old → AreBytes bytes
+  pub makes-text : (old new : area.Heap) (of : Heap) (names : List reference.Reference) (bytes : List ℕ) (at : ℕ) → IsHeap old → IsHeap new → AreBytes bytes
       → IsWorld old outside of names
       → made.MakesText old new bytes (Ok at) → MakesText old new outside of names (Yields bytes) (Ok at)
-  makes-text old new of names bytes at h good w m = (bytes, refl, new-text old new of names bytes at h good w m)
+  makes-text old new of names bytes at h now good w m = (bytes, refl, new-text old new of names bytes at h now good w m)
 
   pub makes-no_text : (old new : area.Heap) (of : Heap) (names : List reference.Reference) (bytes : List ℕ) (fault : SwizzleFault)
       → made.MakesText old new bytes (Err fault) → MakesText old new outside of names (Yields bytes) (Err (op.Swizzle fault))
@@ -123,33 +129,33 @@ module _ (outside : Outside Space) where
       (bytes, refl, full-short old new (4 + text_nums (length bytes)) (text_weight bytes) fault m (omega arith))
 
   -- One text after the other.
-  pub joins : (old new : area.Heap) (of : Heap) (names : List reference.Reference) (a b : ℕ) (v w : List ℕ) (result : Result ℕ OpFault) → IsHeap old
+  pub joins : (old new : area.Heap) (of : Heap) (names : List reference.Reference) (a b : ℕ) (v w : List ℕ) (result : Result ℕ OpFault) → IsHeap old → IsHeap new
       → IsWorld old outside of names
       → text_at old a ≡ v → text_at old b ≡ w → GivesText old new (join_of (text_at old a) (text_at old b)) result
       → MakesText old new outside of names (join_of v w) result
-  joins old new of names a b v w result h world ea eb g =
+  joins old new of names a b v w result h now world ea eb g =
       subst (λ (x : List ℕ). MakesText old new outside of names (join_of x w) result) ea
       (subst (λ (y : List ℕ). MakesText old new outside of names (join_of (text_at old a) y) result) eb
-      (gives-text old new of names (join_of (text_at old a) (text_at old b)) result h
+      (gives-text old new of names (join_of (text_at old a) (text_at old b)) result h now
       (λ bytes e. join-good (text_at old a) (text_at old b) bytes (text-bytes old a) (text-bytes old b) e) world g))
 
   -- A part of a text.
   pub parts : (old new : area.Heap) (of : Heap) (names : List reference.Reference) (a : ℕ) (from count f k : ℤ) (v : List ℕ)
-      (result : Result ℕ OpFault) → IsHeap old → IsWorld old outside of names
+      (result : Result ℕ OpFault) → IsHeap old → IsHeap new → IsWorld old outside of names
       → text_at old a ≡ v → f ≡ from → k ≡ count → GivesText old new (part_of (text_at old a) f k) result
       → MakesText old new outside of names (part_of v from count) result
-  parts old new of names a from count f k v result h world ea ef ek g =
+  parts old new of names a from count f k v result h now world ea ef ek g =
       subst (λ (x : List ℕ). MakesText old new outside of names (part_of x from count) result) ea
       (subst (λ (z : ℤ). MakesText old new outside of names (part_of (text_at old a) z count) result) ef
       (subst (λ (z : ℤ). MakesText old new outside of names (part_of (text_at old a) f z) result) ek
-      (gives-text old new of names (part_of (text_at old a) f k) result h
+      (gives-text old new of names (part_of (text_at old a) f k) result h now
       (λ bytes e. part-good (text_at old a) bytes f k (text-bytes old a) e) world g)))
 
-  pub int-made : (old new : area.Heap) (of : Heap) (names : List reference.Reference) (z y : ℤ) (at : ℕ) → IsHeap old → mag z < 2 ^ 63 → y ≡ z
+  pub int-made : (old new : area.Heap) (of : Heap) (names : List reference.Reference) (z y : ℤ) (at : ℕ) → IsHeap old → IsHeap new → mag z < 2 ^ 63 → y ≡ z
       → IsWorld old outside of names
       → made.MakesText old new (signed_decimal y) (Ok at) → MakesText old new outside of names (Yields (signed_decimal z)) (Ok at)
-  int-made old new of names z y at h lt same w m =
-      makes-text old new of names (signed_decimal z) at h (int-good z lt) w
+  int-made old new of names z y at h now lt same w m =
+      makes-text old new of names (signed_decimal z) at h now (int-good z lt) w
       (subst (λ (x : ℤ). made.MakesText old new (signed_decimal x) (Ok at)) same m)
 
   pub int-full : (old new : area.Heap) (of : Heap) (names : List reference.Reference) (z y : ℤ) (fault : SwizzleFault) → y ≡ z

@@ -1,6 +1,6 @@
 -- Units of code: loaded into the area beside a vault, and their constants read.
 use Rattle.std.specs.Prelude.{◌≡◌, ◌⊎◌, ℕ, ◌+◌, ◌*◌, ◌<◌, ◌≤◌, List, [], Result, Ok, Err, Some, None}
-use Rattle.heap_meaning.specs.ps_base.CodeUnit.{UnitView, ConstantView, text, literal, ConstantsView}
+use Rattle.heap_meaning.specs.ps_base.CodeUnit.{UnitView, unit, ConstantView, text, literal, ConstantsView, no_constants, constant_then}
 use Rattle.heap_meaning.specs.ps_outside.Outside.{Outside}
 use Rattle.heap_meaning.specs.obj_layout.Stored.{Space}
 use Rattle.heap_meaning.specs.obj_layout.declared.kind.Kind.TheVariants as kind
@@ -9,25 +9,37 @@ use Rattle.heap_meaning.specs.swizzle.Heap as area
 use Rattle.heap_meaning.specs.swizzle.Heap.{top_of, header_at}
 use Rattle.heap_meaning.specs.swizzle.declared.fault.SwizzleFault.{SwizzleFault}
 use Rattle.heap_meaning.specs.swizzle.declared.fault.SwizzleFault.TheVariants.{AreaFull}
-use Rattle.heap_meaning.specs.proc_values.Units.{unit_words}
+use Rattle.heap_meaning.specs.proc_values.Units.{unit_words, count_of}
 use Rattle.heap_meaning.specs.proc_values.Reading.{IsDamaged}
 use Rattle.heap_meaning.specs.proc_values.Loaded.{IsFitUnit, constant_numbered}
 use Rattle.heap_meaning.specs.ps_heap.Values.{Text}
 use Rattle.heap_meaning.specs.ps_heap.Objects.{Heap}
-use Rattle.joint_ops.specs.World.{IsWorld, DenotesIn, IsUnitIn, Stands, BreaksOff}
+use Rattle.joint_ops.specs.Seeing.{Gains}
+use Rattle.joint_ops.specs.World.{IsWorld, DenotesIn, IsUnitIn, Carried, Stands, BreaksOff}
 
 -- how many bytes the objects of a unit have
 abbrev pub unit_weight : UnitView → ℕ
 unit_weight u = 8 * unit_words u
 
+unfoldable mutual
+  -- each of its units has a constant: the text of its type comes first
+  pub HasConstants : UnitView → Type 0
+  HasConstants (unit code constants frame) = (1 ≤ count_of constants) × AllHaveConstants constants
+
+  pub AllHaveConstants : ConstantsView → Type 0
+  AllHaveConstants no_constants = Unit {0}
+  AllHaveConstants (constant_then (text bytes) rest) = AllHaveConstants rest
+  AllHaveConstants (constant_then (literal u) rest) = HasConstants u × AllHaveConstants rest
+
 -- A unit was loaded: its code object lies there, and what area and vault stood for they stand for still; under no names they stand for the empty
--- heap.
+-- heap. Where its units have constants, its objects are whole.
 pub record IsLoaded (old new : area.Heap) (outside : Outside Space) (u : UnitView) (at : ℕ) : Type 0 where
   pub is : IsUnitIn new outside at u
   pub fit : IsFitUnit u
   pub top : 8 * top_of new ≡ 8 * top_of old + unit_weight u
   pub bare : IsWorld new outside [] []
-  pub stands : (of : Heap) (names : List reference.Reference) → IsWorld old outside of names → Stands old new outside outside of names
+  pub stands : (of : Heap) (names : List reference.Reference) → IsWorld old outside of names → Carried old new outside outside of names
+  pub gains : HasConstants u → Gains old new outside outside
 
 -- There was no room for all objects of the unit: some may have been made, and the next one didn't fit.
 pub record HasNoRoom (old : area.Heap) (u : UnitView) (fault : SwizzleFault) : Type 0 where
@@ -56,3 +68,8 @@ AnswersConstant old new before after code constants index (Ok at) =
 AnswersConstant old new before after code constants index (Err fault) =
     ((constant_numbered constants index ≡ None) × IsDamaged old code fault)
     ⊎ ((c : ConstantView) × (constant_numbered constants index ≡ Some c) × BreaksOff old new before after fault)
+
+-- Where this is the code object of a unit, area and vault stand for what they stood for.
+abbrev pub StandsBy : area.Heap → area.Heap → Outside Space → Outside Space → ℕ → Type 0
+StandsBy old new before after code = (u : UnitView) → IsUnitIn old before code u → (of : Heap) (names : List reference.Reference)
+    → IsWorld old before of names → Stands old new before after of names

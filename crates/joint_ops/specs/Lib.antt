@@ -1,3 +1,5 @@
+pub mod Seeing
+pub mod Writing
 pub mod World
 pub mod Operands
 pub mod Made

@@ -4,15 +4,19 @@ use Rattle.heap_meaning.specs.ps_outside.Outside.{Outside}
 use Rattle.heap_meaning.specs.obj_layout.Stored.{Space}
 use Rattle.heap_meaning.specs.obj_layout.declared.reference.Reference as reference
 use Rattle.heap_meaning.specs.swizzle.Heap as area
-use Rattle.heap_meaning.specs.swizzle.Heap.{top_of}
+use Rattle.heap_meaning.specs.swizzle.Heap.{IsHeld, header_at, top_of}
+use Rattle.heap_meaning.specs.swizzle.Joint.{name_at}
 use Rattle.heap_meaning.specs.swizzle.declared.fault.SwizzleFault.{SwizzleFault}
 use Rattle.heap_meaning.specs.swizzle.declared.fault.SwizzleFault.TheVariants.{AreaFull}
 use Rattle.heap_meaning.specs.heap_texts.declared.fault.OpFault.{OpFault}
 use Rattle.heap_meaning.specs.heap_texts.declared.fault.OpFault.TheVariants as op
 use Rattle.heap_meaning.specs.ps_heap.Values.{Value, Text}
 use Rattle.heap_meaning.specs.ps_heap.Texts.{Attempt, Yields, Fails}
-use Rattle.heap_meaning.specs.ps_heap.Objects.{Heap, Object, with_new, new_number}
+use Rattle.heap_meaning.specs.ps_heap.Tables.{without_keys}
+use Rattle.heap_meaning.specs.ps_heap.Objects.{Heap, Object, Keyed, with_new, new_number}
 use Rattle.heap_meaning.specs.ps_heap.Weights.{own_weight, text_weight}
+use Rattle.heap_meaning.specs.Paired.{and_name}
+use Rattle.joint_ops.specs.Seeing.{Gains}
 use Rattle.joint_ops.specs.World.{IsWorld, DenotesIn, Carries, Stands}
 
 -- An object of so many bytes has so many words; where they are more than the greatest number of 32 bits, that one stands for them.
@@ -27,14 +31,23 @@ pub record IsShort (old new : area.Heap) (weight : ℕ) (fault : SwizzleFault) :
   pub words : AreWords wanted weight
   pub stays : new ≡ old
 
+-- a new object of the heap: a table has no keys yet
+abbrev pub IsFresh : Object → Type 0
+IsFresh (Keyed without_keys) = Unit {0}
+IsFresh (Keyed table) = ⊥
+IsFresh object = Unit {0}
+
 module _ (old new : area.Heap) (outside : Outside Space) where
-  -- a new object, and a name for it
+  -- A new object, which isn't stored: the heap has one more, and its name is the last of the row.
   pub record IsNew (of : Heap) (names : List reference.Reference) (denoting : ℕ → Value) (object : Object) (at : ℕ) : Type 0 where
-    pub more : List reference.Reference
-    pub world : IsWorld new outside (with_new of object) more
-    pub carries : Carries old new outside outside names more
+    pub held : IsHeld new at
+    pub unstored : (header_at new at).pid ≡ 0
+    pub fresh : IsFresh object
+    pub world : IsWorld new outside (with_new of object) (and_name names (name_at new at))
+    pub carries : Carries old new outside outside names (and_name names (name_at new at))
+    pub gains : Gains old new outside outside
     pub top : 8 * top_of new ≡ 8 * top_of old + own_weight object
-    pub denotes : DenotesIn new outside more (Some at) (denoting (new_number of))
+    pub denotes : DenotesIn new outside (and_name names (name_at new at)) (Some at) (denoting (new_number of))
 
   -- An operation that makes an object: that of the meaning's, or its trap, or there was no room for it.
   abbrev pub Makes : Heap → List reference.Reference → (ℕ → Value) → Attempt Object → Result ℕ OpFault → Type 0

@@ -1,19 +1,17 @@
 -- Area and vault together as the meaning sees them: a heap under a row of names, whatever the residence of its objects.
-use Rattle.std.specs.Prelude.{◌≡◌, ℕ, true, ◌+◌, ◌<◌, ◌≤◌, List, length, Option, None, Result, Ok, Err}
+use Rattle.std.specs.Prelude.{◌≡◌, ◌≢◌, ℕ, true, ◌+◌, ◌<◌, ◌≤◌, List, length, Option, Some, None, Result, Ok, Err}
 use Rattle.heap_meaning.specs.ps_base.CodeUnit.{UnitView}
 use Rattle.heap_meaning.specs.ps_outside.Outside.{Outside, Rose}
-use Rattle.heap_meaning.specs.obj_layout.Stored.{Space, Holds}
-use Rattle.heap_meaning.specs.obj_layout.declared.header.Header.{Header}
+use Rattle.heap_meaning.specs.obj_layout.Stored.{Space}
 use Rattle.heap_meaning.specs.obj_layout.declared.reference.Reference as reference
 use Rattle.heap_meaning.specs.obj_layout.declared.vault.VaultFault.TheVariants.{Device, Output, Full, NoPages, Damaged}
 use Rattle.heap_meaning.specs.text_forms.declared.forms.Form.{Form}
 use Rattle.heap_meaning.specs.text_forms.declared.forms.Form.TheVariants as form
 use Rattle.heap_meaning.specs.swizzle.declared.fault.SwizzleFault.{SwizzleFault}
 use Rattle.heap_meaning.specs.swizzle.declared.fault.SwizzleFault.TheVariants.{AreaFull, Vault}
-use Rattle.heap_meaning.specs.swizzle.Fetched.{IsFar}
 use Rattle.heap_meaning.specs.swizzle.Heap as area
-use Rattle.heap_meaning.specs.swizzle.Heap.{IsHeld, top_of, local_of}
-use Rattle.heap_meaning.specs.swizzle.Joint.{Shown, Joint, name_at}
+use Rattle.heap_meaning.specs.swizzle.Heap.{IsHeap, IsHeld, top_of, local_of}
+use Rattle.heap_meaning.specs.swizzle.Joint.{name_at}
 use Rattle.heap_meaning.specs.swizzle.Reading.{FailsReading}
 use Rattle.heap_meaning.specs.heap_texts.declared.fault.OpFault.{OpFault}
 use Rattle.heap_meaning.specs.heap_texts.declared.fault.OpFault.TheVariants as op
@@ -23,27 +21,14 @@ use Rattle.heap_meaning.specs.proc_values.Loaded.{CodeStays}
 use Rattle.heap_meaning.specs.ps_heap.Operators.{is_int}
 use Rattle.heap_meaning.specs.ps_heap.Values.{Value}
 use Rattle.heap_meaning.specs.ps_heap.Texts.{Attempt, Yields, Fails}
-use Rattle.heap_meaning.specs.ps_heap.Objects.{Heap}
+use Rattle.heap_meaning.specs.ps_heap.Tables.{Table}
+use Rattle.heap_meaning.specs.ps_heap.Objects.{Heap, Keyed, object_at}
 use Rattle.heap_meaning.specs.Units.{IsUnitSeen}
 use Rattle.heap_meaning.specs.Paired.{paired, StandsRow}
 use Rattle.heap_meaning.specs.Denoting.{DenotesValue, DenotesScope, IsFor}
-
--- an object on a volume has no flags, no PID in its header and no chain
-pub record IsClean (header : Header) : Type 0 where
-  pub flags : header.flags ≡ 0
-  pub pid : header.pid ≡ 0
-  pub chain : header.chain ≡ 0
-
--- A vault holds these words under the PID, they may come into the area, and they are clean.
-pub record IsStored (outside : Outside Space) (pid : ℕ) (words : List ℕ) : Type 0 where
-  pub there : Holds outside pid words
-  pub header : Header
-  pub far : IsFar words header
-  pub clean : IsClean header
-
--- what is seen of area and vault
-abbrev pub seen : area.Heap → Outside Space → reference.Reference → Shown → Type 0
-seen here outside = Joint here (IsStored outside)
+use Rattle.joint_ops.specs.Seeing.{Gains}
+use Rattle.joint_ops.specs.Writing.{IsWrite}
+pub use Rattle.joint_ops.specs.Seeing.{IsClean, IsStored, seen}
 
 -- area and vault stand for a heap of the meaning, under a row of names
 pub record IsWorld (here : area.Heap) (outside : Outside Space) (of : Heap) (names : List reference.Reference) : Type 0 where
@@ -84,8 +69,28 @@ module _ (old new : area.Heap) (before after : Outside Space) where
     pub top : top_of old ≤ top_of new
 
   -- area and vault stand for this heap now, under the same names
+  pub record Carried (of : Heap) (names : List reference.Reference) : Type 0 where
+    pub world : IsWorld new after of names
+    pub carries : Carries names names
+
+  -- and the area did no more than gain objects
   pub record Stands (of : Heap) (names : List reference.Reference) : Type 0 where
     pub world : IsWorld new after of names
+    pub carries : Carries names names
+    pub gains : Gains old new before after
+
+  -- After a reading one object was written, for which the heap has another one now, that is no table; all others stay.
+  pub record Rewritten (of later : Heap) (names : List reference.Reference) : Type 0 where
+    pub mid : area.Heap
+    pub gains : Gains old mid before after
+    pub x : ℕ
+    pub write : IsWrite mid new x
+    pub sound : IsHeap new
+    pub id : ℕ
+    pub named : paired names (name_at mid x) id
+    pub others : (i : ℕ) → i ≢ id → object_at later i ≡ object_at of i
+    pub plain : (table : Table) → object_at later id ≡ Some (Keyed table) → ⊥
+    pub world : IsWorld new after later names
     pub carries : Carries names names
 
   -- An object that the vault holds, and that isn't in the area.
@@ -112,7 +117,7 @@ module _ (old new : area.Heap) (before after : Outside Space) where
 
   -- An operation that writes: area and vault stand for the heap that the meaning's yields, or it ends in its trap, or broke off.
   abbrev pub Writes : Heap → List reference.Reference → Attempt Heap → Result (Unit {0}) OpFault → Type 0
-  Writes of names attempt (Ok done) = (later : Heap) × (attempt ≡ Yields later) × Stands later names
+  Writes of names attempt (Ok done) = (later : Heap) × (attempt ≡ Yields later) × Rewritten of later names
   Writes of names attempt (Err (op.Trap t)) = (attempt ≡ Fails t) × Stands of names
   Writes of names attempt (Err (op.Swizzle fault)) = BreaksOff fault
 

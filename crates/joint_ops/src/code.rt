@@ -2,15 +2,13 @@
 ghost use Rattle.std.specs.Prelude.{◌≡◌, ℕ, List, IfErr, IfOk, OnOk};
 ghost use Rattle.ps_base.specs.CodeUnit.{ConstantsView, unit, unit_view};
 ghost use Rattle.ps_base.specs.declared.code_unit.Frame.{Frame};
-ghost use Rattle.heap_meaning.specs.obj_layout.declared.reference.Reference.{Reference};
 ghost use Rattle.heap_meaning.specs.obj_layout.Storing.{SameNumbers};
 ghost use Rattle.heap_meaning.specs.proc_values.Units.{IsCut, unit_objects};
 ghost use Rattle.heap_meaning.specs.swizzle.Heap.{IsHeld, header_at, top_of};
 ghost use Rattle.heap_meaning.specs.swizzle.Reading.{LeavesOutside};
 ghost use Rattle.heap_meaning.specs.swizzle.Touch.{Keeps};
-ghost use Rattle.heap_meaning.specs.ps_heap.Objects as meaning;
-ghost use Rattle.joint_ops.specs.World.{IsUnitIn, IsWorld, Stands, FailsAsReading};
-ghost use Rattle.joint_ops.specs.Code.{LoadsUnit, AnswersConstant};
+ghost use Rattle.joint_ops.specs.World.{IsUnitIn, FailsAsReading};
+ghost use Rattle.joint_ops.specs.Code.{LoadsUnit, AnswersConstant, StandsBy};
 
 use heap_meaning::obj_layout::kind::Kind;
 use heap_meaning::obj_layout::vault::Vault;
@@ -49,8 +47,7 @@ pub fn constant<V: Vault>(
     requires held { IsHeld sw.old code }
     ensures given { (bytes : List ℕ) (constants : ConstantsView) (frame : Frame) → IsUnitIn sw.old (V.outside vault.old) code (unit bytes constants frame)
         → AnswersConstant sw.old sw.new (V.outside vault.old) (V.outside vault.new) code constants index result }
-    ensures world { OnOk result ((of : meaning.Heap) (names : List Reference) → IsWorld sw.old (V.outside vault.old) of names
-        → Stands sw.old sw.new (V.outside vault.old) (V.outside vault.new) of names) }
+    ensures world { OnOk result (StandsBy sw.old sw.new (V.outside vault.old) (V.outside vault.new) code) }
     ensures keeps { OnOk result (Keeps sw.old sw.new) }
     ensures held { IfOk result (IsHeld sw.new) }
     ensures fails { FailsAsReading (V.outside vault.old) (V.outside vault.new) result }

@@ -25,6 +25,7 @@ use heap_meaning::obj_layout::kind::Kind;
 use heap_meaning::obj_layout::vault::Vault;
 use heap_meaning::swizzle::swizzle::Swizzle;
 use heap_meaning::text_forms::forms::Located;
+use ps_base::trap::Trap;
 
 /// Makes a structure of a class, which is a text, with the values of its fields in their order. AreaFull exactly where there is no room for its
 /// words; then the area stays. The vault is there for the clause alone.
@@ -118,7 +119,13 @@ pub fn get_field<V: Vault>(
     ensures alive { UnlessFault result (V.alive vault.new) }
 {
     sw.sound();
-    let got = structures::get_field(sw, vault, object, class, located);
+    let Some(at) = object else {
+        return Err(OpFault::Trap(Trap::Nil));
+    };
+    if !sw.is_kind(at, Kind::Structure) {
+        return Err(OpFault::Trap(Trap::WrongClass));
+    }
+    let got = structures::get_field(sw, vault, Some(at), class, located);
     sw.sound();
     got
 }
@@ -153,7 +160,13 @@ pub fn set_field<V: Vault>(
     ensures stands { UnlessFault result (AllStand sw.old sw.new) }
 {
     sw.sound();
-    let set = structures::set_field(sw, vault, object, class, located, to);
+    let Some(at) = object else {
+        return Err(OpFault::Trap(Trap::Nil));
+    };
+    if !sw.is_kind(at, Kind::Structure) {
+        return Err(OpFault::Trap(Trap::WrongClass));
+    }
+    let set = structures::set_field(sw, vault, Some(at), class, located, to);
     sw.sound();
     set
 }

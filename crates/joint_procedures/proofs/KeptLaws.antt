@@ -1,5 +1,5 @@
 -- What is kept under the names of scopes, wherever those lie: read, and written.
-use Rattle.std.proofs.Common.{ℤ, inl, inr, ◌⊎◌, ◌≡◌, ℕ, ◌+◌, List, [], ◌∷◌, length, get_or, set, refl, sym, ap, ◌∙◌, subst, Bool, true, false, Option, Some, None, nat_eq, if◌then◌else◌}
+use Rattle.std.proofs.Common.{ℤ, inl, inr, ◌⊎◌, ◌≡◌, ℕ, ◌+◌, ◌≤◌, arith, List, [], ◌∷◌, length, get_or, set, refl, sym, ap, ◌∙◌, subst, Bool, true, false, Option, Some, None, nat_eq, if◌then◌else◌}
 use Rattle.std.specs.Prelude.{Result, Ok, Err, IfOk, OnOk}
 use Rattle.joint_ops.specs.ps_outside.Outside.{Outside}
 use Rattle.joint_ops.specs.obj_layout.Kind.{kind_number}
@@ -17,6 +17,7 @@ use Rattle.joint_ops.specs.swizzle.Touch.{Keeps}
 use Rattle.joint_ops.specs.swizzle.Reading.{joint, LeavesOutside, FailsReading}
 use Rattle.joint_ops.specs.text_forms.declared.forms.Form.{Form}
 use Rattle.joint_ops.specs.text_forms.declared.forms.Form.TheVariants as form
+use Rattle.joint_ops.specs.text_forms.declared.forms.Place.{Place}
 use Rattle.joint_ops.specs.text_forms.declared.forms.Located.{Located}
 use Rattle.joint_ops.specs.text_forms.Forms.{forms_of, form_in, before_in, rows_of, located_in, located_as}
 use Rattle.scopes.specs.heap_places.Shapes.{IsText, slot_of, word_in}
@@ -37,11 +38,13 @@ use Rattle.joint_ops.specs.heap_meaning.Paired.{paired}
 use Rattle.joint_ops.proofs.of_heap_meaning.StandingLaws.{like-more}
 use Rattle.joint_ops.proofs.of_heap_meaning.GivenLaws.{IsAt, located-at, shown_with, IsStored}
 use Rattle.joint_ops.proofs.of_heap_meaning.ScopeLaws.{index_behind, scope-shape, scope-name, scope-read, scope-fits, scope-written}
-use Rattle.joint_ops.specs.World.{IsWorld, seen, IsForIn, IsOfForm, Stands, BreaksOff, FailsAsReading}
-use Rattle.joint_ops.proofs.SeenLaws.{Known, known-text, known-value, keeps-passes, reads-within, reads-stands, IsCaused, caused-touch, caused-fetch, breaks, breaks-earlier, text-is, no-text, no-damage, joint-one}
+use Rattle.joint_ops.specs.World.{IsWorld, seen, IsForIn, IsOfForm, Stands, Rewritten, BreaksOff, FailsAsReading}
+use Rattle.joint_ops.proofs.SeenLaws.{Known, known-text, known-value, keeps-passes, reads-within, IsCaused, caused-touch, caused-fetch, breaks, breaks-earlier, text-is, no-text, no-damage, joint-one}
 use Rattle.joint_ops.proofs.FormLaws.{int-back, holds-form, holds-near, denoted-name}
-use Rattle.joint_ops.proofs.RewriteLaws.{rewritten, write-stands, stands-then, for-carried}
-use Rattle.joint_ops.proofs.PutLaws.{kind-with, no-bytes}
+use Rattle.joint_ops.proofs.GainLaws.{reads-stands}
+use Rattle.joint_ops.proofs.FieldLaws.{known-touched}
+use Rattle.joint_ops.proofs.RewriteLaws.{rewritten, write-stands, stands-then, rewritten-then, for-carried}
+use Rattle.joint_ops.proofs.PutLaws.{kind-with, no-bytes, was-written}
 use Rattle.joint_ops.proofs.of_swizzle.ReadingLaws.{leaves-then}
 use Rattle.joint_ops.proofs.of_swizzle.TouchLaws.{keeps-trans, rose_more}
 use Rattle.joint_procedures.specs.Scopes.{IsDamage, HasName, IsOfRow, IsInt, IsOut, ReadsKept, WritesKept, PutsKept}
@@ -138,6 +141,15 @@ row-fitted form.Flag (held.Ref to) r e = absurd r
 row-fitted form.Reference (held.Num z) r e = absurd r
 row-fitted form.Reference (held.Flag b) r e = absurd r
 
+-- the place of a name lies behind the home
+index-behind : (place : Place) → 1 ≤ index_of place
+index-behind place = of place.form
+  where
+    of : (f : Form) → 1 ≤ index_behind f place.index
+    of form.Number = omega arith
+    of form.Flag = omega arith
+    of form.Reference = omega arith
+
 -- A scope of the area whose name is read or written.
 module _ (mid : area.Heap) (before : Outside Space) (of : Heap) (names : List reference.Reference) (at which id : ℕ) (h : IsHeap mid)
     (w : IsWorld mid before of names) (was_one : (a b : Space) → before.contents a → before.contents b → a ≡ b) (lies : IsHeld mid at)
@@ -195,7 +207,8 @@ module _ (mid : area.Heap) (before : Outside Space) (of : Heap) (names : List re
         of_form = holds-form new (shown_at mid at) f index c t.value;
         value = scope-read new (seen new after) (paired names) (shown_at mid at) s.text s.parent s.values which f c grown a.form_is
             (subst (λ (k : ℕ). Holds new (shown_at mid at) f k c) (ap (index_behind f) a.index_is) t.value);
-        stands = reads-stands mid new before after touched of names t.reads w;
+        stands = reads-stands mid new before after touched of names h now
+            (text-known, known-touched (seen mid before) (shown_at mid at) f index (name-known t.located a)) t.reads w;
       }
 
   -- The name isn't found only where the text has none of its number, or the text couldn't be fetched.
@@ -242,18 +255,18 @@ module _ (mid : area.Heap) (before : Outside Space) (of : Heap) (names : List re
     pub f : Form
     pub place : form_in (forms_of s.text) which ≡ Some f
     pub of_row : IsOfRow f c
-    pub stands : Stands mid new before after (with_object of id (Scope s.text s.parent (set s.values which (kept_as (Some f) v)))) names
+    pub rewritten : Rewritten mid new before after of (with_object of id (Scope s.text s.parent (set s.values which (kept_as (Some f) v)))) names
 
-  pub was-written : (new : area.Heap) (after : Outside Space) (c : code.Value) (v : Value)
+  pub was-kept : (new : area.Heap) (after : Outside Space) (c : code.Value) (v : Value) → IsHeap new
       → ((a b : Space) → after.contents a → after.contents b → a ≡ b) → paired names (name_at mid at) id → IsInt c → IsForIn mid before names c v
       → names_of.WritesKept mid new before after at which c → Written new after c v
-  was-written new after c v one pair int for t =
+  was-kept new after c v now one pair int for t =
       let f = t.located.place.form in
       let index = index_of t.located.place in
       let touched = slot_of (shown_at mid at) 0 ∷ [] in
       let b = seen t.mid after in
       let a = place-at t.located t.text (text-same t.mid after t.text t.heap one t.reads.grows t.is.names) t.is.place in
-      let read = reads-stands mid t.mid before after touched of names t.reads w in
+      let read = reads-stands mid t.mid before after touched of names h t.heap (text-known, tt) t.reads w in
       let stays = t.reads.keeps.objects at lies in
       let grown = scope-grown t.mid after t.reads.keeps (reads-within mid t.mid before after touched t.reads) in
       let there : IsScope b (paired names) (shown_at t.mid at) s.text s.parent s.values =
@@ -265,7 +278,7 @@ module _ (mid : area.Heap) (before : Outside Space) (of : Heap) (names : List re
         f = f;
         place = a.form_is;
         of_row = fitted-row f c t.stored t.fits;
-        stands = write-stands mid t.mid new before after of names at id (shown_with t.mid (shown_at t.mid at) index t.stored) object t.heap one read
+        rewritten = write-stands mid t.mid new before after of names at id (shown_with t.mid (shown_at t.mid at) index t.stored) object t.heap now one read
             stays.held
             (subst (λ (m : reference.Reference). paired names m id) (sym stays.name) pair)
             (no-bytes (header_at t.mid at).kind kind.Scope there.kind_is (λ e. cc) (λ e. cc))
@@ -273,6 +286,7 @@ module _ (mid : area.Heap) (before : Outside Space) (of : Heap) (names : List re
             (subst (λ (k : ℕ). IsScope b (paired names) (shown_with t.mid (shown_at t.mid at) k t.stored) s.text s.parent (set s.values which (kept_as (Some f) v))) (sym place)
             (scope-written t.mid b (paired names) (shown_at t.mid at) s.text s.parent s.values which f t.stored (kept_as (Some f) v) there a.form_is stored))
             tt
+            (was-written t.mid new at index t.stored kind.Scope t.heap stays.held there.kind_is tt (index-behind t.located.place) t.written)
             (rewritten t.mid new at index t.stored t.heap stays.held t.written);
       }
 
@@ -365,14 +379,14 @@ module _ (old mid new : area.Heap) (start before after : Outside Space) (of : He
       → SetsKept mid new before after at which c result → WritesKept old new start after of names within up which c v result
   sets-kept c v (Ok done) int for g =
       let s = scope-there in
-      let r = was-written mid before of names at which s.id h out.stands.world was_one s.held s.there new after c v is_one s.pair int for g in (
+      let r = was-kept mid before of names at which s.id h out.stands.world was_one s.held s.there new after c v now is_one s.pair int for g in (
         r.f,
         has-name r.f r.place,
         r.of_row,
-        subst (λ (x : Heap). Stands old new start after x names)
+        subst (λ (x : Heap). Rewritten old new start after of x names)
             (sym (put-is of (scope_out of within up) s.id which s.there.text s.there.parent s.there.values r.f v (out.is ∙ s.within_is) s.there.means r.place))
-            (stands-then old mid new start before after of
-            (with_object of s.id (Scope s.there.text s.there.parent (set s.there.values which (kept_as (Some r.f) v)))) names out.stands r.stands),
+            (rewritten-then old mid new start before after of
+            (with_object of s.id (Scope s.there.text s.there.parent (set s.there.values which (kept_as (Some r.f) v)))) names out.stands r.rewritten),
       )
   sets-kept c v (Err fault) int for g =
       let s = scope-there in

@@ -6,6 +6,8 @@ use Rattle.ps_base.specs.CodeUnit as units
 use Rattle.ps_base.specs.CodeUnit.{UnitView}
 use Rattle.joint_ops.specs.ps_outside.Outside.{Outside}
 use Rattle.joint_ops.specs.obj_layout.Kind.{kind_number}
+use Rattle.joint_ops.specs.obj_layout.Objects as layout
+use Rattle.joint_ops.specs.obj_layout.Objects.{HasContents}
 use Rattle.joint_ops.specs.obj_layout.Stored.{Space, Holds, damage}
 use Rattle.joint_ops.specs.obj_layout.declared.kind.Kind.TheVariants as kind
 use Rattle.joint_ops.specs.obj_layout.declared.reference.Reference as reference
@@ -35,8 +37,9 @@ use Rattle.joint_ops.proofs.of_heap_meaning.StandingLaws.{unit-more, scope-more,
 use Rattle.joint_ops.proofs.of_heap_meaning.PlaceLaws.{shape}
 use Rattle.joint_ops.specs.World.{IsWorld, seen, DenotesIn, DenotesScopeIn, IsUnitIn, FailsAsReading}
 use Rattle.joint_ops.specs.Made.{FailsAsMaking}
-use Rattle.joint_ops.proofs.SeenLaws.{seen-is, joint-is, seen-joint, nil-unseen, keeps-passes, keeps-stands, reads-within, reads-stands, Known, IsCaused, caused-touch, breaks, no-damage}
-use Rattle.joint_ops.proofs.GrowthLaws.{made-keeps, same-keeps, made-top, made-changed, made-grows, full-breaks}
+use Rattle.joint_ops.proofs.SeenLaws.{seen-is, joint-is, seen-joint, nil-unseen, keeps-passes, reads-within, Known, IsCaused, caused-touch, breaks, no-damage}
+use Rattle.joint_ops.proofs.GainLaws.{made-gains, gains-stands, reads-stands}
+use Rattle.joint_ops.proofs.GrowthLaws.{made-keeps, same-keeps, made-top, made-changed, full-breaks}
 use Rattle.joint_procedures.specs.Procedures.{MakesProcedure, AnswersCode, AnswersScope, HasSlot}
 
 -- the name that a reference to an object is
@@ -78,22 +81,25 @@ closure-weight : (code : ℕ) (scope : Option ℕ) → 8 * size_of (closure_of c
 unfolding closure_of
 closure-weight code scope = omega arith
 
+closure-whole : (code : ℕ) (scope : Option ℕ) → HasContents (closure_of code scope).header layout.closure
+unfolding closure_of
+closure-whole code scope = record { kind = refl; counted = refl; allowed = tt }
+
 closure-pid : (code : ℕ) (scope : Option ℕ) → (closure_of code scope).header.pid ≡ 0
 unfolding closure_of
 closure-pid code scope = refl
 
 new-procedure : (old new : area.Heap) (outside : Outside Space) (of : Heap) (names : List reference.Reference) (code at : ℕ) (scope : Option ℕ)
-    (u : UnitView) (within : Option ℕ) → IsHeap old → IsWorld old outside of names → IsHeld old code → IfSome scope (IsHeld old)
+    (u : UnitView) (within : Option ℕ) → IsHeap old → IsHeap new → IsWorld old outside of names → IsHeld old code → IfSome scope (IsHeld old)
     → IsUnitIn old outside code u → IsFitUnit u → DenotesScopeIn old outside names scope within → IsMade old new at (closure_of code scope)
     → MakesProcedure old new outside of names u within (Ok at)
-new-procedure old new outside of names code at scope u within h w held there is fit d m =
+new-procedure old new outside of names code at scope u within h now w held there is fit d m =
     let o = closure_of code scope in
     let a = seen old outside in
     let b = seen new outside in
-    let keeps = made-keeps old new at o h m in
     let inside = inside-closure old code scope held there in
-    let grows = made-grows old new outside at o h inside (closure-pid code scope) m in
-    let passes = keeps-passes old new a b keeps grows in
+    let gains = made-gains old new outside at o layout.closure h now inside (closure-pid code scope) (closure-whole code scope) m in
+    let passes = keeps-passes old new a b gains.keeps gains.grows in
     let n = name.Local (top_of old) in
     let lies = made-held old new at o m in
     let changed = made-changed old new outside at o h inside (closure-pid code scope) m in
@@ -101,7 +107,7 @@ new-procedure old new outside of names code at scope u within h w held there is 
     ∙ name-none (o.header) at (closure-pid code scope) ∙ ap (λ (i : ℕ). name.Local i) m.place in
     record {
       held = lies;
-      stands = keeps-stands old new outside outside of names keeps grows w;
+      stands = gains-stands old new outside outside of names gains w;
       top = omega (arith, made-top old new at o m, closure-weight code scope);
       denotes = record {
         name = n;
@@ -116,13 +122,13 @@ new-procedure old new outside of names code at scope u within h w held there is 
     }
 
 pub makes-procedure : (old new : area.Heap) (outside : Outside Space) (of : Heap) (names : List reference.Reference) (code : ℕ) (scope : Option ℕ)
-    (u : UnitView) (within : Option ℕ) (result : Result ℕ SwizzleFault) → IsHeap old → IsWorld old outside of names → IsHeld old code
+    (u : UnitView) (within : Option ℕ) (result : Result ℕ SwizzleFault) → IsHeap old → IsHeap new → IsWorld old outside of names → IsHeld old code
     → IfSome scope (IsHeld old) → IsUnitIn old outside code u → IsFitUnit u → DenotesScopeIn old outside names scope within
     → MatchResult result (λ at. IsMade old new at (closure_of code scope)) (λ fault. IsFull old new 7 fault)
     → MakesProcedure old new outside of names u within result
-makes-procedure old new outside of names code scope u within (Ok at) h w held there is fit d m =
-    new-procedure old new outside of names code at scope u within h w held there is fit d m
-makes-procedure old new outside of names code scope u within (Err fault) h w held there is fit d full =
+makes-procedure old new outside of names code scope u within (Ok at) h now w held there is fit d m =
+    new-procedure old new outside of names code at scope u within h now w held there is fit d m
+makes-procedure old new outside of names code scope u within (Err fault) h now w held there is fit d full =
     record { wanted = 7; fault_is = full.fault_is; full = full.full; words = inl refl; stays = full.stays }
 
 -- An object that denotes a procedure: what is seen of it is a closure.
@@ -219,7 +225,7 @@ module _ (old new : area.Heap) (before after : Outside Space) (of : Heap) (names
               (unit-more (seen old before) (seen new after) n u passes.fixed code-is);
         };
         fit = p.is.fit;
-        stands = reads-stands old new before after (n ∷ []) of names t.reads w;
+        stands = reads-stands old new before after (n ∷ []) of names h now (code-known, tt) t.reads w;
       }
   answers-code (Err fault) t = breaks old new before after fault (t.0) (caused-code fault (t.1))
 
@@ -233,7 +239,7 @@ module _ (old new : area.Heap) (before after : Outside Space) (of : Heap) (names
           denotes = d;
           stands = scope-more (seen old before) (seen new after) (paired names) (paired names) n within passes.kinds (λ m id q. q) scope-is;
         },
-        reads-stands old new before after (n ∷ []) of names reads w,
+        reads-stands old new before after (n ∷ []) of names h now (scope-known, tt) reads w,
       )
 
   pub answers-scope : (result : Result (Option ℕ) SwizzleFault) → TellsScope old new before after at result

@@ -5,6 +5,8 @@ use Rattle.std.proofs.lemmas.Bool.{eq-eqb}
 use Rattle.std.proofs.lemmas.List.{length-map}
 use Rattle.joint_ops.specs.ps_outside.Outside.{Outside, SameContents}
 use Rattle.joint_ops.specs.obj_layout.Kind.{kind_number}
+use Rattle.joint_ops.specs.obj_layout.Objects as layout
+use Rattle.joint_ops.specs.obj_layout.Objects.{HasContents}
 use Rattle.joint_ops.specs.obj_layout.Stored.{Space, Holds, Damage, damage}
 use Rattle.joint_ops.specs.obj_layout.declared.kind.Kind.TheVariants as kind
 use Rattle.joint_ops.specs.obj_layout.declared.reference.Reference as reference
@@ -16,10 +18,11 @@ use Rattle.joint_ops.specs.swizzle.Heap.{IsHeap, IsHeld, IsInside, header_at, re
 use Rattle.joint_ops.specs.swizzle.Joint.{Shown, shown, shown_at, name_at, name_of}
 use Rattle.joint_ops.specs.swizzle.Changes.{Within}
 use Rattle.joint_ops.specs.swizzle.Touch.{Denotes, Keeps}
-use Rattle.joint_ops.specs.swizzle.Reading.{joint, LeavesOutside}
+use Rattle.joint_ops.specs.swizzle.Reading.{joint, AreKnown, LeavesOutside}
 use Rattle.joint_ops.specs.swizzle.Text.{text_at}
 use Rattle.joint_ops.proofs.of_swizzle.NameLaws.{name-not_nil, shown-counts}
 use Rattle.joint_ops.proofs.of_swizzle.MadeLaws.{made-held}
+use Rattle.joint_ops.specs.text_forms.declared.forms.Rows.{Rows}
 use Rattle.joint_ops.specs.text_forms.Forms.{forms_of, rows_of}
 use Rattle.joint_ops.proofs.of_text_forms.Places.{counted}
 use Rattle.scopes.specs.heap_places.Shapes.{IsText, slot_of}
@@ -36,10 +39,12 @@ use Rattle.joint_ops.specs.heap_meaning.Tables.{IsNewTable}
 use Rattle.joint_ops.specs.heap_meaning.Standing.{IsKindOf, StandsForScope, IsScope, IsLike}
 use Rattle.joint_ops.specs.heap_meaning.Paired.{paired}
 use Rattle.joint_ops.proofs.of_heap_meaning.StandingLaws.{scope-more}
+use Rattle.joint_ops.proofs.of_heap_meaning.PairedLaws.{row-within}
 use Rattle.joint_ops.proofs.of_heap_meaning.ScopeLaws.{scope-parent, first-are}
 use Rattle.joint_ops.specs.World.{IsWorld, seen, DenotesIn, DenotesScopeIn, FailsAsReading}
-use Rattle.joint_ops.specs.Made.{FailsAsMaking}
-use Rattle.joint_ops.proofs.SeenLaws.{seen-held, seen-one, joint-is, joint-one, seen-joint, nil-unseen, keeps-passes, keeps-stands, grows-within, reads-within, reads-stands, Known, IsCaused, caused-touch, caused-later, breaks, no-damage}
+use Rattle.joint_ops.specs.Made.{IsFresh, FailsAsMaking}
+use Rattle.joint_ops.proofs.SeenLaws.{seen-held, seen-one, joint-is, joint-one, seen-joint, nil-unseen, keeps-passes, grows-within, reads-within, Known, IsCaused, caused-touch, caused-later, breaks, no-damage}
+use Rattle.joint_ops.proofs.GainLaws.{reads-stands}
 use Rattle.joint_ops.proofs.GrowthLaws.{made-keeps, same-keeps, full-breaks}
 use Rattle.joint_ops.proofs.MadeLaws.{object-made}
 use Rattle.joint_procedures.specs.Scopes.{IsDamage, MakesScope, AnswersParent, AnswersOut}
@@ -100,6 +105,14 @@ scope-blank : (it : Shown) (bytes : List ℕ) (round : Option ℕ) → IsNewTabl
 unfolding new_scope
 scope-blank it bytes round = tt
 
+scope-fresh : (bytes : List ℕ) (round : Option ℕ) → IsFresh (new_scope bytes round)
+unfolding new_scope
+scope-fresh bytes round = tt
+
+scope-whole : (text : ℕ) (parent : Option ℕ) (rows : Rows) → HasContents (scope_object text parent rows).header (layout.scope rows.refs rows.nums)
+unfolding scope_object
+scope-whole text parent rows = record { kind = refl; counted = refl; allowed = tt }
+
 scope-pid : (text : ℕ) (parent : Option ℕ) (bytes : List ℕ) → (scope_object text parent (rows_of (forms_of bytes))).header.pid ≡ 0
 unfolding scope_object
 scope-pid text parent bytes = refl
@@ -109,25 +122,29 @@ unfolding scope_object
 scope-kind text parent bytes = refl
 
 makes-of : (old new : area.Heap) (outside : Outside Space) (of : Heap) (names : List reference.Reference) (text : ℕ) (parent : Option ℕ) (bytes : List ℕ) (round : Option ℕ)
-    (result : Result ℕ SwizzleFault) → IsHeap old → IsWorld old outside of names → IsHeld old text → IfSome parent (IsHeld old)
+    (result : Result ℕ SwizzleFault) → IsHeap old → IsHeap new → IsWorld old outside of names → IsHeld old text → IfSome parent (IsHeld old)
     → DenotesIn old outside names (Some text) (Text bytes) → DenotesScopeIn old outside names parent round
     → making.MakesScope old new text bytes parent result → MakesScope old new outside of names (new_scope bytes round) result
-makes-of old new outside of names text parent bytes round (Ok at) h w held there dt dp m =
+makes-of old new outside of names text parent bytes round (Ok at) h now w held there dt dp m =
     let o = scope_object text parent (rows_of (forms_of bytes)) in
-    let made = object-made outside old new of names at o (new_scope bytes round) h w (inside-scope old text parent bytes held there) (scope-pid text parent bytes) m
+    let made = object-made outside old new of names at o (new_scope bytes round) (layout.scope (rows_of (forms_of bytes)).refs (rows_of (forms_of bytes)).nums) h now w
+    (inside-scope old text parent bytes held there) (scope-pid text parent bytes) (scope-whole text parent (rows_of (forms_of bytes))) m
     (scope-like old outside names text parent bytes round dt dp) (scope-blank (shown (name_of old) o) bytes round) (scope-weight text parent bytes round) in
     record {
-      more = made.more;
+      held = made.held;
+      unstored = made.unstored;
+      fresh = scope-fresh bytes round;
       world = made.world;
       carries = made.carries;
+      gains = made.gains;
       top = made.top;
       denotes = record {
-        name = made.name;
-        denotes = made.denotes;
-        stands = (made.pair, subst (IsKindOf (seen new outside) made.name) (scope-kind text parent bytes) made.kinds);
+        name = name_at new at;
+        denotes = (made.held, refl);
+        stands = (made.pair, subst (IsKindOf (seen new outside) (name_at new at)) (scope-kind text parent bytes) made.kinds);
       };
     }
-makes-of old new outside of names text parent bytes round (Err fault) h w held there dt dp full = record {
+makes-of old new outside of names text parent bytes round (Err fault) h now w held there dt dp full = record {
   wanted = scope_words (rows_of (forms_of bytes));
   fault_is = full.fault_is;
   full = full.full;
@@ -136,11 +153,11 @@ makes-of old new outside of names text parent bytes round (Err fault) h w held t
 }
 
 pub makes-scope : (old new : area.Heap) (outside : Outside Space) (of : Heap) (names : List reference.Reference) (text : ℕ) (parent : Option ℕ) (bytes : List ℕ) (round : Option ℕ)
-    (result : Result ℕ SwizzleFault) → IsHeap old → IsWorld old outside of names → IsHeld old text → IfSome parent (IsHeld old) → text_at old text ≡ bytes
+    (result : Result ℕ SwizzleFault) → IsHeap old → IsHeap new → IsWorld old outside of names → IsHeld old text → IfSome parent (IsHeld old) → text_at old text ≡ bytes
     → DenotesIn old outside names (Some text) (Text bytes) → DenotesScopeIn old outside names parent round
     → making.MakesScope old new text (text_at old text) parent result → MakesScope old new outside of names (new_scope bytes round) result
-makes-scope old new outside of names text parent bytes round result h w held there are dt dp m =
-    makes-of old new outside of names text parent bytes round result h w held there dt dp
+makes-scope old new outside of names text parent bytes round result h now w held there are dt dp m =
+    makes-of old new outside of names text parent bytes round result h now w held there dt dp
     (subst (λ (b : List ℕ). making.MakesScope old new text b parent result) are m)
 
 -- A scope, on both sides.
@@ -214,9 +231,9 @@ way-sound here outside of names at id h held s =
 -- The scope round it.
 
 pub answers-parent : (old new : area.Heap) (before after : Outside Space) (of : Heap) (names : List reference.Reference) (at : ℕ) (within : Option ℕ)
-    (result : Result (Option ℕ) SwizzleFault) → IsHeap old → IsWorld old before of names → ScopeAt old before of names at within
+    (result : Result (Option ℕ) SwizzleFault) → IsHeap old → IsHeap new → IsWorld old before of names → ScopeAt old before of names at within
     → TellsParent old new before after at result → AnswersParent old new before after of names within result
-answers-parent old new before after of names at within (Ok to) h w s t =
+answers-parent old new before after of names at within (Ok to) h now w s t =
     let n = slot_of (shown_at old at) 1 in
     let passes = keeps-passes old new (seen old before) (seen new after) t.reads.keeps (reads-within old new before after (n ∷ []) t.reads) in
     let round = parent-stands old before of names s.id (shown_at old at) s.there in
@@ -229,9 +246,9 @@ answers-parent old new before after of names at within (Ok to) h w s t =
         denotes = t.denotes;
         stands = scope-more (seen old before) (seen new after) (paired names) (paired names) n s.there.parent passes.kinds (λ m id q. q) round;
       };
-      stands = reads-stands old new before after (n ∷ []) of names t.reads w;
+      stands = reads-stands old new before after (n ∷ []) of names h now (scope-known old before names n s.there.parent round, tt) t.reads w;
     }
-answers-parent old new before after of names at within (Err fault) h w s t =
+answers-parent old new before after of names at within (Err fault) h now w s t =
     let n = slot_of (shown_at old at) 1 in
     let round = parent-stands old before of names s.id (shown_at old at) s.there in
     breaks old new before after fault (t.0) (elim t.1 [
@@ -294,6 +311,21 @@ module _ (old : area.Heap) (before : Outside Space) (of : Heap) (names : List re
       (sym (ap (λ (o : Option Object). scope_out of (parent_in o) (length ps)) a.means))
       (led new out p a.parent ps now one grows round l.1)
 
+  -- each scope on the way is known
+  way-known : (new : area.Heap) (out : Outside Space) (n : reference.Reference) (s : Option ℕ) (ps : List reference.Reference) → IsHeap new
+      → ((a b : Space) → out.contents a → out.contents b → a ≡ b) → Within (joint old before) (joint new out)
+      → StandsForScope (seen old before) (paired names) n s → LeadsOver (joint new out) n ps → AreKnown (seen old before) ps
+  way-known new out n s [] now one grows st l = tt
+  way-known new out n None (p ∷ ps) now one grows st l = absurd (nil-nowhere new out n l.0.it st l.0.there)
+  way-known new out n (Some id) (p ∷ ps) now one grows st l =
+      let it = st.1.it in
+      let a = scope-seen old before of names h w was_one n id it st st.1.there in
+      let same : it ≡ l.0.it = joint-one new out now one n it l.0.it (grows n it (seen-joint old before n it st.1.there)) l.0.there in
+      let named : slot_of it 1 ≡ p = ap (λ (x : Shown). slot_of x 1) same ∙ l.0.parent_is in
+      let round = subst (λ (m : reference.Reference). StandsForScope (seen old before) (paired names) m a.parent) named
+      (parent-stands old before of names id it a) in
+      (scope-known old before names p a.parent round, way-known new out p a.parent ps now one grows round l.1)
+
   -- the object that it comes to denotes it
   end-denotes : (new : area.Heap) (out : Outside Space) (n : reference.Reference) (s : Option ℕ) (at : ℕ) → Keeps old new
       → Within (seen old before) (seen new out) → StandsForScope (seen old before) (paired names) n s → Denotes new (Some at) n
@@ -333,7 +365,7 @@ module _ (old new : area.Heap) (before after : Outside Space) (of : Heap) (names
       let stands = led old before of names h w was_one e.mid before (name_at old scope) within e.parents e.heap was_one e.grows start e.way in
       let same : SameContents before before = record { kept = λ x is. is; no_other = λ x is. is } in
       let grows = grows-within old e.mid before before e.keeps e.grows same in
-      let mid_w = (keeps-stands old e.mid before before of names e.keeps grows w).world in
+      let mid_w : IsWorld e.mid before of names = record { row = row-within (seen old before) (seen e.mid before) of names grows w.row } in
       let there = end-denotes old before of names h w was_one e.mid before end (scope_out of within k) e.at e.keeps grows stands e.denotes in
       let s = scope-denoted e.mid before of names e.at (scope_out of within k) e.heap mid_w was_one there in
       let round = parent-stands e.mid before of names s.id (shown_at e.mid e.at) s.there in
@@ -357,7 +389,8 @@ module _ (old new : area.Heap) (before after : Outside Space) (of : Heap) (names
       let stands = led old before of names h w was_one new after (name_at old scope) within t.parents now is_one t.reads.grows start t.way in
       let end = end_of (name_at old scope) t.parents in
       let grows = reads-within old new before after t.parents t.reads in
-      let later = reads-stands old new before after t.parents of names t.reads w in
+      let known = way-known old before of names h w was_one new after (name_at old scope) within t.parents now is_one t.reads.grows start t.way in
+      let later = reads-stands old new before after t.parents of names h now known t.reads w in
       let there = end-denotes old before of names h w was_one new after end (scope_out of within (length t.parents)) at t.reads.keeps grows stands t.denotes in
       let out : DenotesScopeIn new after names (Some at) (scope_out of within up) =
       subst (λ (k : ℕ). DenotesScopeIn new after names (Some at) (scope_out of within k)) t.levels there in

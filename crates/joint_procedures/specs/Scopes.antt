@@ -7,6 +7,7 @@ use Rattle.joint_ops.specs.obj_layout.declared.reference.Reference as reference
 use Rattle.joint_ops.specs.obj_layout.declared.vault.VaultFault.TheVariants.{Damaged}
 use Rattle.joint_ops.specs.swizzle.Heap as area
 use Rattle.joint_ops.specs.swizzle.Heap.{IsHeap, IsHeld, top_of, header_at}
+use Rattle.joint_ops.specs.swizzle.Joint.{name_at}
 use Rattle.joint_ops.specs.swizzle.Touch.{Keeps}
 use Rattle.joint_ops.specs.swizzle.declared.fault.SwizzleFault.{SwizzleFault}
 use Rattle.joint_ops.specs.swizzle.declared.fault.SwizzleFault.TheVariants.{Vault}
@@ -24,8 +25,10 @@ use Rattle.joint_ops.specs.ps_heap.Values.{Value}
 use Rattle.joint_ops.specs.ps_heap.Objects.{Heap, Object, Scope, with_new, new_number}
 use Rattle.joint_ops.specs.ps_heap.Scopes.{scope_at, scope_out, kept_name, with_kept_name}
 use Rattle.joint_ops.specs.ps_heap.Weights.{own_weight}
-use Rattle.joint_ops.specs.World.{IsWorld, DenotesScopeIn, IsForIn, IsOfForm, Carries, Stands, BreaksOff}
-use Rattle.joint_ops.specs.Made.{IsShort}
+use Rattle.joint_ops.specs.heap_meaning.Paired.{and_name}
+use Rattle.joint_ops.specs.Seeing.{Gains}
+use Rattle.joint_ops.specs.World.{IsWorld, DenotesScopeIn, IsForIn, IsOfForm, Carries, Stands, Rewritten, BreaksOff}
+use Rattle.joint_ops.specs.Made.{IsFresh, IsShort}
 
 -- some object is damaged
 abbrev pub IsDamage : SwizzleFault → Type 0
@@ -71,13 +74,16 @@ pub record PutsKept (old new : area.Heap) (name : ℕ) (c : code.Value) : Type 0
   pub written : new ≡ assigned_value mid at (index_of located.place) stored
 
 module _ (old new : area.Heap) (outside : Outside Space) where
-  -- a new scope, and a name for it
+  -- A new scope, which isn't stored: the heap has one object more, and its name is the last of the row.
   pub record IsNewScope (of : Heap) (names : List reference.Reference) (object : Object) (at : ℕ) : Type 0 where
-    pub more : List reference.Reference
-    pub world : IsWorld new outside (with_new of object) more
-    pub carries : Carries old new outside outside names more
+    pub held : IsHeld new at
+    pub unstored : (header_at new at).pid ≡ 0
+    pub fresh : IsFresh object
+    pub world : IsWorld new outside (with_new of object) (and_name names (name_at new at))
+    pub carries : Carries old new outside outside names (and_name names (name_at new at))
+    pub gains : Gains old new outside outside
     pub top : 8 * top_of new ≡ 8 * top_of old + own_weight object
-    pub denotes : DenotesScopeIn new outside more (Some at) (Some (new_number of))
+    pub denotes : DenotesScopeIn new outside (and_name names (name_at new at)) (Some at) (Some (new_number of))
 
   abbrev pub MakesScope : Heap → List reference.Reference → Object → Result ℕ SwizzleFault → Type 0
   MakesScope of names object (Ok at) = IsNewScope of names object at
@@ -118,6 +124,6 @@ module _ (old new : area.Heap) (before after : Outside Space) where
   -- It is written, as its form keeps it. It is damaged exactly where there is none of the value's row.
   abbrev pub WritesKept : Heap → List reference.Reference → Option ℕ → ℕ → ℕ → code.Value → Value → Result (Unit {0}) SwizzleFault → Type 0
   WritesKept of names scope up name c v (Ok done) =
-      (f : Form) × HasName of scope up name f × IsOfRow f c × Stands old new before after (with_kept_name of scope up name v) names
+      (f : Form) × HasName of scope up name f × IsOfRow f c × Rewritten old new before after of (with_kept_name of scope up name v) names
   WritesKept of names scope up name c v (Err fault) =
       (((f : Form) → HasName of scope up name f → IsOfRow f c → ⊥) × IsDamage fault) ⊎ BreaksOff old new before after fault

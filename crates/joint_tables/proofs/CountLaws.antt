@@ -24,7 +24,7 @@ use Rattle.joint_ops.specs.ps_heap.Tables.{Table, by_ints, by_strings, cardinali
 use Rattle.joint_ops.specs.ps_heap.Objects.{Heap}
 use Rattle.joint_ops.specs.World.{IsWorld, DenotesIn, Answers, Stands, seen}
 use Rattle.joint_ops.specs.heap_meaning.Paired.{paired}
-use Rattle.joint_ops.proofs.SeenLaws.{nothing-done}
+use Rattle.joint_ops.proofs.GainLaws.{nothing-done}
 use Rattle.joint_ops.specs.swizzle.Joint.{Shown, name_at}
 use Rattle.joint_ops.proofs.of_swizzle.JointLaws.{held-lt}
 use Rattle.table_lib.specs.Tables.{IsTable, IsUnused}
@@ -124,7 +124,7 @@ module _ (here : area.Heap) (outside : Outside Space) (of : Heap) (names : List 
   Counts attempt result = Answers here here outside outside (λ (count wanted : ℕ). count ≡ wanted) of names attempt result
 
   still : Stands here here outside outside of names
-  still = nothing-done here outside of names w
+  still = nothing-done here outside of names p.heap w
 
   trapped : (t : Trap) (attempt : Attempt ℕ) (result : Result ℕ OpFault) → attempt ≡ Fails t → result ≡ Err (op.Trap t) → Counts attempt result
   trapped t attempt result e f = subst (λ (r : Result ℕ OpFault). Counts attempt r) (sym f) (e, still)

@@ -23,7 +23,7 @@ use Rattle.joint_ops.specs.ps_heap.Texts.{Attempt, Yields, Fails}
 use Rattle.joint_ops.specs.ps_heap.Tables as Tables
 use Rattle.joint_ops.specs.ps_heap.Tables.{Entry, Table, by_ints, by_strings, cardinality, entered, on_yield, with_under, without_keys}
 use Rattle.joint_ops.specs.ps_heap.Objects.{Heap, Keyed, id_of, object_at, with_object}
-use Rattle.joint_ops.specs.World.{IsWorld, DenotesIn, BreaksAsReading, Carries, Stands, seen}
+use Rattle.joint_ops.specs.World.{IsWorld, DenotesIn, BreaksAsReading, Carries, Carried, seen}
 use Rattle.joint_ops.specs.proc_values.Loaded.{CodeStays}
 use Rattle.joint_ops.specs.heap_meaning.Paired.{paired}
 use Rattle.joint_ops.specs.heap_meaning.Standing.{IsKindOf, Pairing, Seen, StandsFor}
@@ -153,7 +153,7 @@ module _ (old new : area.Heap) (before after : Outside Space) (of : Heap) (names
         → ((m : Reference) (it : Shown) → m ≢ name_at old at → (IsAmong m (w.row.stands.tables.nodes id) → ⊥) → joint old before m it → joint new after m it)
         → standing.IsTable (seen new after) (paired names) (name_at old at) u later
         → ((m : Reference) → IsAmong m later → IsAmong m (w.row.stands.tables.nodes id) ⊎ ((it : Shown) → seen old before m it → ⊥))
-        → Stands old new before after (with_object of id (Keyed u)) names
+        → Carried old new before after (with_object of id (Keyed u)) names
     entered-stands u later others is fresh = record {
       world = record {
         row = record {
@@ -274,7 +274,7 @@ module _ (old new : area.Heap) (before after : Outside Space) (of : Heap) (names
     stands-with : (tree : Tree (I ks)) (fs : List (Entry (KeyOf ks))) → HasNow ks (place old before) (place new after) at is tree
         → ArePairs (seen new after) (paired names) (items tree) fs
         → ((m : Reference) → IsAmong m (names_of (items tree)) → IsAmong m (names_of is) ⊎ ((it : Shown) → seen old before m it → ⊥))
-        → Stands old new before after (with_object of t.id (Keyed (keyed ks fs))) names
+        → Carried old new before after (with_object of t.id (Keyed (keyed ks fs))) names
     stands-with tree fs n p fresh =
         entered-stands old new before after of names h now w was_one at t.id t.table spares t.held kind_is t.pair t.means (keyed ks fs)
         (names_of (items tree))
@@ -290,7 +290,7 @@ module _ (old new : area.Heap) (before after : Outside Space) (of : Heap) (names
 
     put-stands : (value : Reference) (object : ℕ) → StandsFor (seen old before) (paired names) value (Pointer object)
         → EntersPair ks (place old before) (place new after) at is key value
-        → Stands old new before after (with_object of t.id (Keyed (keyed ks (with_under (order_by ks) key (Some object) es)))) names
+        → Carried old new before after (with_object of t.id (Keyed (keyed ks (with_under (order_by ks) key (Some object) es)))) names
     put-stands value object s e =
         let more =
         enter-pairs (seen old before) (paired names) (seek (order_by ks) key)
@@ -305,7 +305,7 @@ module _ (old new : area.Heap) (before after : Outside Space) (of : Heap) (names
         ])
 
     take-stands : TakesKey ks (place old before) (place new after) at is key
-        → Stands old new before after (with_object of t.id (Keyed (keyed ks (with_under (order_by ks) key None es)))) names
+        → Carried old new before after (with_object of t.id (Keyed (keyed ks (with_under (order_by ks) key None es)))) names
     take-stands e =
         let less = without-pairs (seen old before) (paired names) (seek (order_by ks) key) (Tables.seek (order_by ks) key) agree is es pairs in
         stands-with e.tree (with_under (order_by ks) key None es) e.now
@@ -314,7 +314,7 @@ module _ (old new : area.Heap) (before after : Outside Space) (of : Heap) (names
         (λ m a. inl (without-names (seek (order_by ks) key) m is (subst (λ (js : List (I ks)). IsAmong m (names_of js)) e.pairs a)))
 
     -- a table that never had a key stays one
-    rest-stands : StaysUnused (place old before) (place new after) at → Stands old new before after (with_object of t.id (Keyed without_keys)) names
+    rest-stands : StaysUnused (place old before) (place new after) at → Carried old new before after (with_object of t.id (Keyed without_keys)) names
     unfolding cardinality
     rest-stands e =
         entered-stands old new before after of names h now w was_one at t.id t.table spares t.held kind_is t.pair t.means without_keys []
@@ -345,29 +345,36 @@ module _ (old new : area.Heap) (before after : Outside Space) (of : Heap) (names
     So attempt r = Changes old new before after of names operand attempt r
 
     stood : (r : Result (Unit {0}) OpFault) (fault : OpFault) → r ≡ Err fault → OnErr r (nodes.Grows old new before after)
-        → Stands old new before after of names
+        → Carried old new before after of names
     stood r fault e g =
         grown-stands old new before after of names (subst (λ (x : Result (Unit {0}) OpFault). OnErr x (nodes.Grows old new before after)) e g) w
 
     noted : (at : ℕ) → operand ≡ Some at → IsListed at new.assigned → IsNotedTable new operand
     noted at e l = subst (IsNotedTable new) (sym e) l
 
+    -- the heap with the table that an attempt to change it yields
+    steps : (object : Option ℕ) (from u : Table) → entered (key_of ks key) object from ≡ Yields u
+        → step object from ≡ Yields (with_object of (id_of v) (Keyed u))
+    unfolding step
+    steps object from u f = ap (λ (a : Attempt Table). on_yield a (λ new. with_object of (id_of v) (Keyed new))) f
+
     finished : (object : Option ℕ) (at : ℕ) (t : TableOf old before of names h w at v) (from u : Table) → operand ≡ Some at
         → entered (key_of ks key) object from ≡ Yields u → IsListed at new.assigned
-        → Stands old new before after (with_object of t.id (Keyed u)) names → So (step object from) (Ok tt)
+        → Carried old new before after (with_object of t.id (Keyed u)) names → So (step object from) (Ok tt)
     unfolding step So
     finished object at t from u e f l s = (
       with_object of (id_of v) (Keyed u),
-      ap (λ (a : Attempt Table). on_yield a (λ new. with_object of (id_of v) (Keyed new))) f,
-      subst (λ (i : ℕ). Stands old new before after (with_object of i (Keyed u)) names) (sym (ap id_of t.v_is)) s,
+      steps object from u f,
+      subst (λ (i : ℕ). Carried old new before after (with_object of i (Keyed u)) names) (sym (ap id_of t.v_is)) s,
       noted at e l,
     )
 
-    faulted : (attempt : Attempt Heap) (fault : SwizzleFault) → BreaksAsReading {T = Unit {0}} before after (Err (op.Swizzle fault))
-        → nodes.Grows old new before after → IsEnterFault old before fault → So attempt (Err (op.Swizzle fault))
+    faulted : (attempt : Attempt Heap) (later : Heap) → attempt ≡ Yields later → (fault : SwizzleFault)
+        → BreaksAsReading {T = Unit {0}} before after (Err (op.Swizzle fault)) → nodes.Grows old new before after → IsEnterFault old before fault
+        → So attempt (Err (op.Swizzle fault))
     unfolding So
-    faulted attempt fault f g (inl b) = (grown-stands old new before after of names g w, inl (breaks-off old new before after fault f b))
-    faulted attempt fault f g (inr n) = (grown-stands old new before after of names g w, inr (room-lacks old fault n))
+    faulted attempt later yields fault f g (inl b) = (grown-stands old new before after of names g w, inl (breaks-off old new before after fault f b))
+    faulted attempt later yields fault f g (inr n) = (grown-stands old new before after of names g w, inr (room-lacks old fault n, (later, yields)))
 
     put-answers : (at : ℕ) (t : TableOf old before of names h w at v) (from : Table) (is : List (I ks)) (es : List (Entry (KeyOf ks)))
         (value : Reference) (object : ℕ) (r : Result (Unit {0}) OpFault)
@@ -380,11 +387,13 @@ module _ (old new : area.Heap) (before after : Outside Space) (of : Heap) (names
     put-answers at t from is es value object (Ok done) e p m f s fails sp st x =
         done_with (put-stands ks key at v t sp is es p m value object s x)
       where
-        done_with : Stands old new before after (with_object of t.id (Keyed (keyed ks (with_under (order_by ks) key (Some object) es)))) names
+        done_with : Carried old new before after (with_object of t.id (Keyed (keyed ks (with_under (order_by ks) key (Some object) es)))) names
             → So (step (Some object) from) (Ok tt)
         done_with z = finished (Some object) at t from (keyed ks (with_under (order_by ks) key (Some object) es)) e f x.now.noted z
     put-answers at t from is es value object (Err (op.Trap trap)) e p m f s fails sp st x = absurd x
-    put-answers at t from is es value object (Err (op.Swizzle fault)) e p m f s fails sp st x = faulted (step (Some object) from) fault fails st x
+    put-answers at t from is es value object (Err (op.Swizzle fault)) e p m f s fails sp st x =
+        let u = keyed ks (with_under (order_by ks) key (Some object) es) in
+        faulted (step (Some object) from) (with_object of (id_of v) (Keyed u)) (steps (Some object) from u f) fault fails st x
 
     take-answers : (at : ℕ) (t : TableOf old before of names h w at v) (is : List (I ks)) (es : List (Entry (KeyOf ks)))
         (r : Result (Unit {0}) OpFault)
@@ -395,11 +404,13 @@ module _ (old new : area.Heap) (before after : Outside Space) (of : Heap) (names
     take-answers at t is es (Ok done) e p m fails sp st x =
         done_with (take-stands ks key at v t sp is es p m x)
       where
-        done_with : Stands old new before after (with_object of t.id (Keyed (keyed ks (with_under (order_by ks) key None es)))) names
+        done_with : Carried old new before after (with_object of t.id (Keyed (keyed ks (with_under (order_by ks) key None es)))) names
             → So (step None (keyed ks es)) (Ok tt)
         done_with z = finished None at t (keyed ks es) (keyed ks (with_under (order_by ks) key None es)) e (stepped ks key None es) x.now.noted z
     take-answers at t is es (Err (op.Trap trap)) e p m fails sp st x = absurd x
-    take-answers at t is es (Err (op.Swizzle fault)) e p m fails sp st x = faulted (step None (keyed ks es)) fault fails st (inl x)
+    take-answers at t is es (Err (op.Swizzle fault)) e p m fails sp st x =
+        let u = keyed ks (with_under (order_by ks) key None es) in
+        faulted (step None (keyed ks es)) (with_object of (id_of v) (Keyed u)) (steps None (keyed ks es) u (stepped ks key None es)) fault fails st (inl x)
 
     rest-answers : (at : ℕ) (t : TableOf old before of names h w at v) (r : Result (Unit {0}) OpFault) → operand ≡ Some at
         → mine old before of names h w t.id ≡ []
@@ -408,7 +419,7 @@ module _ (old new : area.Heap) (before after : Outside Space) (of : Heap) (names
     rest-answers at t (Ok done) e m sp x =
         done_with (rest-stands ks key at v t sp [] [] tt m x)
       where
-        done_with : Stands old new before after (with_object of t.id (Keyed without_keys)) names → So (step None without_keys) (Ok tt)
+        done_with : Carried old new before after (with_object of t.id (Keyed without_keys)) names → So (step None without_keys) (Ok tt)
         done_with z = finished None at t without_keys without_keys e (stepped-none ks key) x.noted z
     rest-answers at t (Err fault) e m sp x = absurd x
 

@@ -1,11 +1,13 @@
 -- A table that was made.
 use Rattle.std.proofs.Common.{◌≡◌, ℕ, ◌*◌, [], ◌∷◌, get_or, replicate, zero, suc, Some, Result, Ok, Err, MatchResult, refl, arith, inr}
 use Rattle.joint_ops.specs.ps_outside.Outside.{Outside}
+use Rattle.joint_ops.specs.obj_layout.Objects as layout
 use Rattle.joint_ops.specs.obj_layout.Stored.{Space}
 use Rattle.joint_ops.specs.obj_layout.declared.kind.Kind.TheVariants as kind
 use Rattle.joint_ops.specs.swizzle.declared.fault.SwizzleFault.{SwizzleFault}
 use Rattle.joint_ops.specs.swizzle.Heap as area
 use Rattle.joint_ops.specs.swizzle.Heap.{IsFull, IsHeap, IsInside, IsMade, blank}
+use Rattle.joint_ops.specs.swizzle.Joint.{name_at}
 use Rattle.joint_ops.specs.swizzle.Touch.{Keeps}
 use Rattle.joint_ops.specs.heap_texts.declared.fault.OpFault.{OpFault}
 use Rattle.joint_ops.specs.heap_texts.declared.fault.OpFault.TheVariants as op
@@ -29,23 +31,27 @@ lifted (Ok at) = Ok at
 lifted (Err fault) = Err (op.Swizzle fault)
 
 module _ (old new : area.Heap) where
-  pub table-made : (outside : Outside Space) (of : Heap) (names : _) (result : Result ℕ SwizzleFault) → IsHeap old → IsWorld old outside of names
+  pub table-made : (outside : Outside Space) (of : Heap) (names : _) (result : Result ℕ SwizzleFault) → IsHeap old → IsHeap new → IsWorld old outside of names
       → MatchResult result (λ at. IsMade old new at (blank kind.Table 1 3 0)) (λ fault. IsFull old new 8 fault)
       → Makes old new outside of names Pointer (Yields (Keyed without_keys)) (lifted result)
-  table-made outside of names (Ok at) h w m =
+  table-made outside of names (Ok at) h now w m =
       let made =
-      object-made outside old new of names at (blank kind.Table 1 3 0) (Keyed without_keys) h w (blank-inside old) refl m refl (refl, 0, refl) refl in (
+      object-made outside old new of names at (blank kind.Table 1 3 0) (Keyed without_keys) layout.table h now w (blank-inside old) refl
+      (record { kind = refl; counted = refl; allowed = tt }) m refl (refl, 0, refl) refl in (
         Keyed without_keys,
         refl,
         record {
-          more = made.more;
+          held = made.held;
+          unstored = made.unstored;
+          fresh = tt;
           world = made.world;
           carries = made.carries;
+          gains = made.gains;
           top = made.top;
-          denotes = record { name = made.name; denotes = made.denotes; stands = (made.pair, inr made.kinds) };
+          denotes = record { name = name_at new at; denotes = (made.held, refl); stands = (made.pair, inr made.kinds) };
         },
       )
-  table-made outside of names (Err fault) h w full = (
+  table-made outside of names (Err fault) h now w full = (
     Keyed without_keys,
     refl,
     record { wanted = 8; fault_is = full.fault_is; full = full.full; words = Rattle.std.proofs.Common.inl refl; stays = full.stays },

@@ -18,7 +18,7 @@ use Rattle.joint_ops.specs.ps_heap.Texts.{Yields, Fails, order_of}
 use Rattle.joint_ops.specs.ps_heap.Tables.{Entry, without_keys, by_strings, by_ints, found_under, looked_up, next_int, next_of, next_string, string_key, int_key, Key}
 use Rattle.joint_ops.specs.ps_heap.Scans.{found_of, last_string, next_in_table, next_key}
 use Rattle.joint_ops.specs.ps_heap.Objects.{Heap, value_of_object}
-use Rattle.joint_ops.specs.World.{IsWorld, DenotesIn, Answers, BreaksAsReading, Stands, seen}
+use Rattle.joint_ops.specs.World.{IsWorld, DenotesIn, BreaksAsReading, Carried, seen}
 use Rattle.joint_ops.specs.heap_meaning.Paired.{paired}
 use Rattle.joint_ops.specs.heap_meaning.Standing.{IsPointed, StandsFor}
 use Rattle.joint_ops.specs.heap_meaning.Tables.{ArePairs}
@@ -36,7 +36,7 @@ use Rattle.table_lib.specs.table_nodes.Nodes as nodes
 use Rattle.table_lib.specs.table_nodes.Searching.{AreSeen, IsObject, value_of}
 use Rattle.table_lib.specs.table_nodes.Sought.{IsTextHeld}
 use Rattle.table_lib.specs.table_nodes.Steps.{place}
-use Rattle.joint_tables.specs.Tables.{AreFoundInt, AreFoundText, IsLastText, LooksUp, NextInt, NextText, last_int_key}
+use Rattle.joint_tables.specs.Tables.{AreFoundInt, AreFoundText, Finds, IsLastText, LooksUp, NextInt, NextText, last_int_key}
 use Rattle.joint_tables.proofs.SeenLaws.{breaks-off, grown-stands, grown-within, seen-nodes}
 use Rattle.joint_tables.proofs.OperandLaws.{HasTree, keyed, through}
 use Rattle.joint_tables.proofs.PairLaws.{IsSame, above-pairs, find-pairs, first-pairs}
@@ -66,7 +66,7 @@ module _ (old new : area.Heap) (before after : Outside Space) (of : Heap) (names
   within : Within (seen old before) (seen new after)
   within = grown-within old new before after grows
 
-  pub stood : Stands old new before after of names
+  pub stood : Carried old new before after of names
   stood = grown-stands old new before after of names grows w
 
   -- what stands for a value does so still
@@ -92,7 +92,7 @@ module _ (old new : area.Heap) (before after : Outside Space) (of : Heap) (names
       → BreaksAsReading before after result
       → MatchResult result (λ found. IsObject new found (value_of (find (seek (order_by ks) key) (items x.tree))))
       (λ fault. AreSeen ks old before (items x.tree) → IsOpFetchFault old before fault)
-      → Answers old new before after (λ to found. DenotesIn new after names to (value_of_object found)) of names (Yields (found_under (order_by ks) key entries)) result
+      → Finds old new before after (λ to found. DenotesIn new after names to (value_of_object found)) of names (Yields (found_under (order_by ks) key entries)) result
   sought ks key entries at mine x (Ok found) fails m =
       let same =
       find-pairs (seen old before) (paired names) (seek (order_by ks) key) (Rattle.joint_ops.specs.ps_heap.Tables.seek (order_by ks) key)
@@ -109,19 +109,19 @@ module _ (old new : area.Heap) (before after : Outside Space) (of : Heap) (names
   unfolding looked_up
   looked-up ks key operand v result fails looks d =
       through old before of names h w ks _ _ operand v (looked_up (key_of ks key))
-      (λ attempt r. Answers old new before after (λ to found. DenotesIn new after names to (value_of_object found)) of names attempt r) result looks d
+      (λ attempt r. Finds old new before after (λ to found. DenotesIn new after names to (value_of_object found)) of names attempt r) result looks d
       (λ t e. (refl, stood))
       (λ at t e f unused none is. empty ks key result is)
       (λ at t entries x e f m. full ks key entries at _ x result fails m)
       (λ other entries ne. wrong ks key other entries ne)
     where
       empty : (ks : Keys) (key : KeyOf ks) (r : Result (Option ℕ) OpFault) → r ≡ Ok None
-          → Answers old new before after (λ to found. DenotesIn new after names to (value_of_object found)) of names (looked_up (key_of ks key) without_keys) r
+          → Finds old new before after (λ to found. DenotesIn new after names to (value_of_object found)) of names (looked_up (key_of ks key) without_keys) r
       empty keys.by_texts key r is =
-          subst (Answers old new before after (λ to found. DenotesIn new after names to (value_of_object found)) of names (Yields None)) (sym is)
+          subst (Finds old new before after (λ to found. DenotesIn new after names to (value_of_object found)) of names (Yields None)) (sym is)
           (None, refl, record { name = name.Nil; denotes = refl; stands = refl }, stood)
       empty keys.by_ints key r is =
-          subst (Answers old new before after (λ to found. DenotesIn new after names to (value_of_object found)) of names (Yields None)) (sym is)
+          subst (Finds old new before after (λ to found. DenotesIn new after names to (value_of_object found)) of names (Yields None)) (sym is)
           (None, refl, record { name = name.Nil; denotes = refl; stands = refl }, stood)
 
       full : (ks : Keys) (key : KeyOf ks) (entries : List (Entry (KeyOf ks))) (at : ℕ) (mine : List Reference)
@@ -129,7 +129,7 @@ module _ (old new : area.Heap) (before after : Outside Space) (of : Heap) (names
           → BreaksAsReading before after r
           → MatchResult r (λ found. IsObject new found (value_of (find (seek (order_by ks) key) (items x.tree))))
           (λ fault. AreSeen ks old before (items x.tree) → IsOpFetchFault old before fault)
-          → Answers old new before after (λ to found. DenotesIn new after names to (value_of_object found)) of names (looked_up (key_of ks key) (keyed ks entries)) r
+          → Finds old new before after (λ to found. DenotesIn new after names to (value_of_object found)) of names (looked_up (key_of ks key) (keyed ks entries)) r
       full keys.by_texts key entries at mine x r fails m = sought keys.by_texts key entries at mine x r fails m
       full keys.by_ints key entries at mine x r fails m = sought keys.by_ints key entries at mine x r fails m
 
@@ -192,15 +192,15 @@ module _ (old new : area.Heap) (before after : Outside Space) (of : Heap) (names
         → BreaksAsReading before after r
         → MatchResult r (λ found. IsPairOf is found (above (after_key ks last) (items x.tree)))
         (λ fault. AreSeen ks old before (items x.tree) → IsOpFetchFault old before fault)
-        → Answers old new before after are of names (Yields (option_map as_found (next_of (order_by ks) last entries))) r
+        → Finds old new before after are of names (Yields (option_map as_found (next_of (order_by ks) last entries))) r
     next-found last entries at mine x (Ok found) fails m =
         (option_map as_found (next_of (order_by ks) last entries), refl, founds found _ _ m (next-same ks last (items x.tree) entries x.pairs), stood)
     next-found last entries at mine x (Err (op.Trap t)) fails m = absurd (m (values-seen ks old before names (items x.tree) entries x.pairs))
     next-found last entries at mine x (Err (op.Swizzle fault)) fails m =
         breaks-off old new before after fault fails (m (values-seen ks old before names (items x.tree) entries x.pairs))
 
-    next-none : (r : Result (Option P) OpFault) → r ≡ Ok None → are None None → Answers old new before after are of names (Yields None) r
-    next-none r e none = subst (Answers old new before after are of names (Yields None)) (sym e) (None, refl, none, stood)
+    next-none : (r : Result (Option P) OpFault) → r ≡ Ok None → are None None → Finds old new before after are of names (Yields None) r
+    next-none r e none = subst (Finds old new before after are of names (Yields None)) (sym e) (None, refl, none, stood)
 
   -- the last key, by its operand
   pub last-text : (operand : Option ℕ) (last : Option Key) → IsLastText old before names operand last → string_of old operand ≡ last_string last
@@ -217,7 +217,7 @@ module _ (old new : area.Heap) (before after : Outside Space) (of : Heap) (names
   unfolding next_key next_string
   next-texts last text operand v result fails same finds d =
       through old before of names h w keys.by_texts _ _ operand v (next_in_table true last)
-      (λ attempt r. Answers old new before after (AreFoundText new after names) of names attempt r) result
+      (λ attempt r. Finds old new before after (AreFoundText new after names) of names attempt r) result
       (subst (λ (l : Option (List ℕ)). FindsPair keys.by_texts (IsTextPair new) (place old before) operand l result) same finds) d
       (λ t e. (refl, stood))
       (λ at t e f unused none is. empty result is)
@@ -225,11 +225,11 @@ module _ (old new : area.Heap) (before after : Outside Space) (of : Heap) (names
       (λ other entries ne. wrong other entries ne)
     where
       empty : (r : Result (Option (ℕ × ℕ)) OpFault) → r ≡ Ok None
-          → Answers old new before after (AreFoundText new after names) of names (next_in_table true last without_keys) r
+          → Finds old new before after (AreFoundText new after names) of names (next_in_table true last without_keys) r
       empty r is = nothing (last_string last)
         where
           nothing : (l : Option (List ℕ))
-              → Answers old new before after (AreFoundText new after names) of names (Yields (option_map (found_of string_key) (next_of order_of l []))) r
+              → Finds old new before after (AreFoundText new after names) of names (Yields (option_map (found_of string_key) (next_of order_of l []))) r
           nothing None = next-none keys.by_texts (IsTextPair new) (AreFoundText new after names) (found_of string_key) texts-found r is tt
           nothing (Some key) = next-none keys.by_texts (IsTextPair new) (AreFoundText new after names) (found_of string_key) texts-found r is tt
 
@@ -237,7 +237,7 @@ module _ (old new : area.Heap) (before after : Outside Space) (of : Heap) (names
           (r : Result (Option (ℕ × ℕ)) OpFault) → BreaksAsReading before after r
           → MatchResult r (λ found. IsPairOf (IsTextPair new) found (above (after_key keys.by_texts (last_string last)) (items x.tree)))
           (λ fault. AreSeen keys.by_texts old before (items x.tree) → IsOpFetchFault old before fault)
-          → Answers old new before after (AreFoundText new after names) of names (next_in_table true last (by_strings entries)) r
+          → Finds old new before after (AreFoundText new after names) of names (next_in_table true last (by_strings entries)) r
       full entries at mine x r fails m =
           next-found keys.by_texts (IsTextPair new) (AreFoundText new after names) (found_of string_key) texts-found
           (last_string last) entries at mine x r fails m
@@ -253,7 +253,7 @@ module _ (old new : area.Heap) (before after : Outside Space) (of : Heap) (names
   unfolding next_key next_int
   next-ints last operand v result fails finds d =
       through old before of names h w keys.by_ints _ _ operand v (next_in_table false (last_int_key last))
-      (λ attempt r. Answers old new before after (AreFoundInt new after names) of names attempt r) result
+      (λ attempt r. Finds old new before after (AreFoundInt new after names) of names attempt r) result
       finds d
       (λ t e. (refl, stood))
       (λ at t e f unused none is. empty last result is)
@@ -261,7 +261,7 @@ module _ (old new : area.Heap) (before after : Outside Space) (of : Heap) (names
       (λ other entries ne. wrong last other entries ne)
     where
       empty : (l : Option ℤ) (r : Result (Option (ℤ × ℕ)) OpFault) → r ≡ Ok None
-          → Answers old new before after (AreFoundInt new after names) of names (next_in_table false (last_int_key l) without_keys) r
+          → Finds old new before after (AreFoundInt new after names) of names (next_in_table false (last_int_key l) without_keys) r
       empty None r is = next-none keys.by_ints (IsIntPair new) (AreFoundInt new after names) (found_of int_key) ints-found r is tt
       empty (Some z) r is = next-none keys.by_ints (IsIntPair new) (AreFoundInt new after names) (found_of int_key) ints-found r is tt
 
@@ -269,7 +269,7 @@ module _ (old new : area.Heap) (before after : Outside Space) (of : Heap) (names
           (r : Result (Option (ℤ × ℕ)) OpFault) → BreaksAsReading before after r
           → MatchResult r (λ found. IsPairOf (IsIntPair new) found (above (after_key keys.by_ints l) (items x.tree)))
           (λ fault. AreSeen keys.by_ints old before (items x.tree) → IsOpFetchFault old before fault)
-          → Answers old new before after (AreFoundInt new after names) of names (next_in_table false (last_int_key l) (by_ints entries)) r
+          → Finds old new before after (AreFoundInt new after names) of names (next_in_table false (last_int_key l) (by_ints entries)) r
       full None entries at mine x r fails m =
           next-found keys.by_ints (IsIntPair new) (AreFoundInt new after names) (found_of int_key) ints-found None entries at mine x r fails m
       full (Some z) entries at mine x r fails m =

@@ -15,9 +15,11 @@ use Rattle.joint_ops.specs.swizzle.Reading.{FailsReading, LeavesOutside}
 use Rattle.joint_ops.specs.heap_texts.declared.fault.OpFault.{OpFault}
 use Rattle.joint_ops.specs.heap_texts.declared.fault.OpFault.TheVariants as op
 use Rattle.joint_ops.specs.ps_heap.Objects.{Heap}
-use Rattle.joint_ops.specs.World.{IsStored, IsWorld, Stands, BreaksOff, BreaksAsReading, seen}
-use Rattle.joint_ops.proofs.SeenLaws.{grows-within, keeps-stands}
-use Rattle.table_lib.specs.Faults.{IsOpFault}
+use Rattle.joint_ops.specs.World.{IsStored, IsWorld, Carried, BreaksOff, BreaksAsReading, seen}
+use Rattle.joint_ops.proofs.of_heap_meaning.PairedLaws.{row-within}
+use Rattle.joint_ops.proofs.SeenLaws.{grows-within, keeps-carries}
+use Rattle.joint_ops.proofs.of_swizzle.ReadingLaws.{leaves-none}
+use Rattle.table_lib.specs.Faults.{IsOpFault, IsOpenFault}
 use Rattle.table_lib.specs.table_nodes.avl_trees.Trees.{Tree, leaf, node}
 use Rattle.table_lib.specs.table_nodes.avl_trees.Standing.{Stands as TreeStands, row_of}
 use Rattle.table_lib.specs.table_nodes.node_rows.Keys.{Keys, Seen}
@@ -69,8 +71,11 @@ grown-within old new before after g = grows-within old new before after g.keeps 
 
 pub grown-stands : (old new : area.Heap) (before after : Outside Space) (of : Heap) (names : List Reference) → nodes.Grows old new before after
     → IsWorld old before of names
-    → Stands old new before after of names
-grown-stands old new before after of names g w = keeps-stands old new before after of names g.keeps (grown-within old new before after g) w
+    → Carried old new before after of names
+grown-stands old new before after of names g w = record {
+  world = record { row = row-within (seen old before) (seen new after) of names (grown-within old new before after g) w.row };
+  carries = keeps-carries old new before after names names g.keeps (grown-within old new before after g) (λ n id p. p);
+}
 
 -- an answer and a fault alike leave the area as touches do
 pub both : {T F : Type 0} (P : Type 0) (result : Result T F) → OnOk result P → OnErr result P → P
@@ -118,6 +123,12 @@ fails-as nodes before after here table (Err (op.Trap t)) leaves go f = tt
 fails-as nodes before after here table (Err (op.Swizzle fault)) leaves go (inl d) =
     damaged-fails before after fault _ d.2.found d.2.wanted leaves d.2.is
 fails-as nodes before after here table (Err (op.Swizzle fault)) leaves go (inr f) = go fault f
+
+pub open-fails : {T : Type 0} (outside : Outside Space) (here : area.Heap) (table : Option ℕ) (result : Result T OpFault)
+    → IfErr result (IsOpenFault here table) → BreaksAsReading outside outside result
+open-fails outside here table (Ok x) f = tt
+open-fails outside here table (Err (op.Trap t)) f = tt
+open-fails outside here table (Err (op.Swizzle fault)) f = damaged-fails outside outside fault _ f.2.found f.2.wanted (leaves-none outside) f.2.is
 
 pub reads-fail : {T : Type 0} (before after : Outside Space) (here : area.Heap) (table : Option ℕ) (result : Result T OpFault)
     → LeavesOutside before after

@@ -2,11 +2,12 @@
 use Rattle.std.specs.Prelude.{◌≡◌, ◌⊎◌, ℕ, ◌+◌, ◌≤◌, ◌<◌, ℤ, true, false, Option, Some, None, Result, Ok, Err, List}
 use Rattle.joint_ops.specs.ps_outside.Outside.{Outside}
 use Rattle.joint_ops.specs.obj_layout.Stored.{Space}
+use Rattle.joint_ops.specs.obj_layout.declared.kind.Kind.TheVariants as kind
 use Rattle.joint_ops.specs.obj_layout.declared.reference.Reference.{Reference}
 use Rattle.joint_ops.specs.swizzle.declared.fault.SwizzleFault.{SwizzleFault}
 use Rattle.joint_ops.specs.swizzle.declared.fault.SwizzleFault.TheVariants.{AreaFull, Vault}
 use Rattle.joint_ops.specs.swizzle.Heap as area
-use Rattle.joint_ops.specs.swizzle.Heap.{IsListed, top_of}
+use Rattle.joint_ops.specs.swizzle.Heap.{IsListed, header_at, top_of}
 use Rattle.joint_ops.specs.heap_texts.declared.fault.OpFault.{OpFault}
 use Rattle.joint_ops.specs.heap_texts.declared.fault.OpFault.TheVariants as op
 use Rattle.joint_ops.specs.ps_heap.Values.{Value, Text, Nil, Pointer, Num}
@@ -15,7 +16,7 @@ use Rattle.joint_ops.specs.ps_heap.Tables.{Key, string_key, int_key, cardinality
 use Rattle.joint_ops.specs.ps_heap.Objects.{Heap, Keyed, table_of, id_of, object_of_value, value_of_object, with_object}
 use Rattle.joint_ops.specs.ps_heap.Calls.{then_try}
 use Rattle.joint_ops.specs.ps_heap.Scans.{Found, next_key, shown_key}
-use Rattle.joint_ops.specs.World.{DenotesIn, Answers, BreaksOff, Stands}
+use Rattle.joint_ops.specs.World.{DenotesIn, BreaksOff, Carried}
 
 -- What the meaning's operators give of what a value denotes: what is under a key, how many entries there are, and the heap with an entry.
 
@@ -70,27 +71,39 @@ abbrev pub IsNotedTable : area.Heap → Option ℕ → Type 0
 IsNotedTable here None = ⊥
 IsNotedTable here (Some at) = IsListed at here.assigned
 
+-- the operand is a table of the area
+pub record NamesTable (here : area.Heap) (operand : Option ℕ) : Type 0 where
+  pub at : ℕ
+  pub is : operand ≡ Some at
+  pub kind : (header_at here at).kind ≡ kind.Table
+
 module _ (old new : area.Heap) (before after : Outside Space) where
+  -- A reading of a table: it gives what stands for what the meaning's yields, or ends in its trap, or broke off. Which objects came into the area isn't told.
+  abbrev pub Finds : {A T : Type 0} → (T → A → Type 0) → Heap → List Reference → Attempt A → Result T OpFault → Type 0
+  Finds is of names attempt (Ok given) = (a : _) × (attempt ≡ Yields a) × is given a × Carried old new before after of names
+  Finds is of names attempt (Err (op.Trap t)) = (attempt ≡ Fails t) × Carried old new before after of names
+  Finds is of names attempt (Err (op.Swizzle fault)) = BreaksOff old new before after fault
+
   -- The object under a key is answered, nil where there is none.
   abbrev pub LooksUp : Heap → List Reference → Value → Key → Result (Option ℕ) OpFault → Type 0
   LooksUp of names table key result =
-      Answers old new before after (λ to found. DenotesIn new after names to (value_of_object found)) of names (under_key of table key) result
+      Finds (λ to found. DenotesIn new after names to (value_of_object found)) of names (under_key of table key) result
 
   -- The least key above the last one is answered, or the least of all, with the object under it; or none.
   abbrev pub NextText : Heap → List Reference → Value → Option Key → Result (Option (ℕ × ℕ)) OpFault → Type 0
-  NextText of names table last result = Answers old new before after (AreFoundText new after names) of names (next_key true of table last) result
+  NextText of names table last result = Finds (AreFoundText new after names) of names (next_key true of table last) result
 
   abbrev pub NextInt : Heap → List Reference → Value → Option Key → Result (Option (ℤ × ℕ)) OpFault → Type 0
-  NextInt of names table last result = Answers old new before after (AreFoundInt new after names) of names (next_key false of table last) result
+  NextInt of names table last result = Finds (AreFoundInt new after names) of names (next_key false of table last) result
 
   -- An attempt to change a table: area and vault stand for the heap that it yields, and the table is noted as assigned; or it ends in its trap; or
-  -- there was a fault, and nothing was written: an object couldn't be fetched, or there was no room for a node.
+  -- there was a fault, and nothing was written: an object couldn't be fetched, or there was no room for a node of what it yields.
   abbrev pub Changes : Heap → List Reference → Option ℕ → Attempt Heap → Result (Unit {0}) OpFault → Type 0
   Changes of names operand attempt (Ok done) =
-      (later : Heap) × (attempt ≡ Yields later) × Stands old new before after later names × IsNotedTable new operand
-  Changes of names operand attempt (Err (op.Trap t)) = (attempt ≡ Fails t) × Stands old new before after of names
+      (later : Heap) × (attempt ≡ Yields later) × Carried old new before after later names × IsNotedTable new operand
+  Changes of names operand attempt (Err (op.Trap t)) = (attempt ≡ Fails t) × Carried old new before after of names
   Changes of names operand attempt (Err (op.Swizzle fault)) =
-      Stands old new before after of names × (BreaksOff old new before after fault ⊎ LacksNode old fault)
+      Carried old new before after of names × (BreaksOff old new before after fault ⊎ (LacksNode old fault × ((later : Heap) × (attempt ≡ Yields later))))
 
   -- A value is entered under a key, or the key is taken out where the value is nil.
   abbrev pub EntersKey : Heap → List Reference → Option ℕ → Value → Key → Value → Result (Unit {0}) OpFault → Type 0

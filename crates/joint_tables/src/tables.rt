@@ -4,6 +4,7 @@ ghost use Rattle.joint_ops.specs.obj_layout.declared.reference.Reference.{Refere
 ghost use Rattle.joint_ops.specs.obj_layout.Storing.{SameNumbers};
 ghost use Rattle.joint_ops.specs.swizzle.Heap.{IsHeld, Stands as AllStand, num_at};
 ghost use Rattle.joint_ops.specs.swizzle.Reading.{LeavesOutside};
+ghost use Rattle.joint_ops.specs.swizzle.Text.{text_at};
 ghost use Rattle.joint_ops.specs.swizzle.Touch.{Keeps};
 ghost use Rattle.joint_ops.specs.heap_ops.Outcomes.{UnlessFault};
 ghost use Rattle.joint_ops.specs.ps_heap.Objects as meaning;
@@ -14,8 +15,8 @@ ghost use Rattle.joint_ops.specs.ps_heap.Texts.{Yields};
 ghost use Rattle.joint_ops.specs.ps_heap.Values as meant;
 ghost use Rattle.joint_ops.specs.World.{IsWorld, DenotesIn, Answers, BreaksAsReading};
 ghost use Rattle.joint_ops.specs.Made.{Makes, BreaksAsMaking};
-ghost use Rattle.joint_tables.specs.Tables.{EntersKey, IsLastText, IsPntr, LooksUp, NextInt, NextText, entries_of, last_int_key};
-ghost use Rattle.table_lib.specs.Entries.{SparesBut};
+ghost use Rattle.joint_tables.specs.Tables.{EntersKey, IsLastText, IsPntr, LooksUp, NamesTable, NextInt, NextText, entries_of, last_int_key};
+ghost use Rattle.table_lib.specs.Entries.{Enters, SparesBut};
 ghost use Rattle.table_lib.specs.Faults.{IsOpFault, IsOpenFault};
 ghost use Rattle.table_lib.specs.Tables.{IsUnused};
 ghost use Rattle.table_lib.specs.table_nodes.avl_trees.Trees.{bits as digits};
@@ -24,6 +25,8 @@ ghost use Rattle.table_lib.specs.table_nodes.Faults.{IsChangeFault, IsNodeFault}
 ghost use Rattle.table_lib.specs.table_nodes.Nodes.{Grows};
 ghost use Rattle.table_lib.specs.table_nodes.Sought.{IsTextHeld};
 ghost use Rattle.table_lib.specs.table_nodes.Spans.{IsValueOf};
+ghost use Rattle.table_lib.specs.table_nodes.Steps.{place};
+ghost use Rattle.table_lib.specs.table_nodes.node_rows.Keys.{by_ints, by_texts};
 ghost use Rattle.table_lib.specs.table_nodes.declared.keys.Key.TheVariants.{Int, Text};
 
 use joint_ops::OpFault;
@@ -180,6 +183,8 @@ pub fn enter_text<V: Vault>(
         → DenotesIn sw.old (V.outside vault.old) names (Some key) (meant.Text bytes) → DenotesIn sw.old (V.outside vault.old) names table v
         → DenotesIn sw.old (V.outside vault.old) names to w → IsPntr w
         → EntersKey sw.old sw.new (V.outside vault.old) (V.outside vault.new) of names table v (string_key bytes) w result }
+    ensures table { OnOk result (NamesTable sw.old table) }
+    ensures pairs { Enters by_texts (place sw.old (V.outside vault.old)) (place sw.new (V.outside vault.new)) table (text_at sw.old key) to result }
     ensures spares { (at : ℕ) → table ≡ Some at → OnOk result (SparesBut at sw.old sw.new (V.outside vault.old) (V.outside vault.new)) }
     ensures still { OnErr result (Grows sw.old sw.new (V.outside vault.old) (V.outside vault.new)) }
     ensures brings { (at : ℕ) → table ≡ Some at → Brings sw.old sw.new (3 * (2 * digits (num_at sw.old at 2) + 2)) }
@@ -211,6 +216,8 @@ pub fn enter_int<V: Vault>(
     ensures entered { (of : meaning.Heap) (names : List Reference) (v w : meant.Value) → IsWorld sw.old (V.outside vault.old) of names
         → DenotesIn sw.old (V.outside vault.old) names table v → DenotesIn sw.old (V.outside vault.old) names to w → IsPntr w
         → EntersKey sw.old sw.new (V.outside vault.old) (V.outside vault.new) of names table v (int_key key) w result }
+    ensures table { OnOk result (NamesTable sw.old table) }
+    ensures pairs { Enters by_ints (place sw.old (V.outside vault.old)) (place sw.new (V.outside vault.new)) table key to result }
     ensures spares { (at : ℕ) → table ≡ Some at → OnOk result (SparesBut at sw.old sw.new (V.outside vault.old) (V.outside vault.new)) }
     ensures still { OnErr result (Grows sw.old sw.new (V.outside vault.old) (V.outside vault.new)) }
     ensures brings { (at : ℕ) → table ≡ Some at → Brings sw.old sw.new (3 * (2 * digits (num_at sw.old at 2) + 2)) }
@@ -235,6 +242,7 @@ pub fn cardinality<V: Vault>(sw: &Swizzle, vault: &V, table: Option<u32>) -> Res
         → DenotesIn sw.now (V.outside vault.now) names table v
         → Answers sw.now sw.now (V.outside vault.now) (V.outside vault.now) (λ count wanted. count ≡ wanted) of names (entries_of of v) result }
     ensures fault { IfErr result (IsOpenFault sw.now table) }
+    ensures fails { BreaksAsReading (V.outside vault.now) (V.outside vault.now) result }
 {
     sw.sound();
     table::cardinality(sw, vault, table)

@@ -18,7 +18,7 @@ use Rattle.machine_core.specs.ps_stepping.Config.{Config, constants_in, constant
 use Rattle.machine_core.specs.ps_stepping.Steps.{Step, Stuck, text_in, with_text}
 use Rattle.machine_core.specs.ps_stepping.Procedures.{procedure_of, closure}
 use Rattle.machine_core.specs.joint_ops.World.{IsWorld, DenotesIn, IsUnitIn, Stands}
-use Rattle.machine_core.specs.joint_ops.Code.{AnswersConstant}
+use Rattle.machine_core.specs.joint_ops.Code.{AnswersConstant, StandsBy}
 use Rattle.joint_procedures.specs.Units.{AnswersText, AnswersLiteral}
 use Rattle.machine_core.specs.declared.machine.Machine.{Machine}
 use Rattle.machine_core.specs.declared.stepped.Stepped.{Stepped}
@@ -54,7 +54,7 @@ text-alone o u bytes is other = let bad : Some (literal u) ≡ Some (text bytes)
 
 module _ (before after : Outside Space) (m : Machine) (now : area.Heap) (k : ℕ) (left : LeavesOutside before after) where
   abbrev Kept : Type 0
-  Kept = (of : Heap) (names : List Reference) → IsWorld m.objects before of names → Stands m.objects now before after of names
+  Kept = StandsBy m.objects now before after m.code
 
   abbrev pub GivesText : Result (Option ℕ) SwizzleFault → Type 0
   GivesText r = (bytes : List ℕ) (row : ConstantsView) (frame : Frame) → IsUnitIn m.objects before m.code (unit bytes row frame)
@@ -94,7 +94,7 @@ module _ (before after : Outside Space) (m : Machine) (now : area.Heap) (k : ℕ
       names = λ n. names;
       size = size-behind r m.objects.size now.size new.objects.size keeps.size size;
       does = λ c h.
-          let s = kept c.store.held.objects h.names h.held.world in
+          let s = kept c.unit h.held.unit_is c.store.held.objects h.names h.held.world in
           let a = text-given (Ok (Some at)) given c.unit h.held.unit_is in
           subst (λ (x : Step). Does before after m.objects.size x r new)
           (sym (ap (λ (o : Option ConstantView). text_in o (λ bytes. next bytes c)) (same-constant (constants_in c.unit) k ∙ a.1)))
@@ -130,7 +130,7 @@ module _ (before after : Outside Space) (m : Machine) (now : area.Heap) (k : ℕ
     names = λ n. made.names;
     size = size-behind r m.objects.size now.size new.objects.size keeps.size made.size;
     does = λ c h.
-        let s = kept c.store.held.objects h.names h.held.world in
+        let s = kept c.unit h.held.unit_is c.store.held.objects h.names h.held.world in
         let a = literal-given (Ok (Some at)) given c.unit h.held.unit_is h.held.fit in
         subst (λ (x : Step). Does before after m.objects.size x r new)
         (sym (ap (λ (o : Option ConstantView). procedure_of o c) (same-constant (constants_in c.unit) k ∙ a.1)))

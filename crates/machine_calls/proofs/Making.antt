@@ -8,6 +8,8 @@ use Rattle.machine_core.specs.obj_layout.Stored.{Space}
 use Rattle.machine_core.specs.obj_layout.declared.reference.Reference.{Reference}
 use Rattle.machine_core.specs.swizzle.Heap as area
 use Rattle.machine_core.specs.swizzle.Heap.{IsHeld}
+use Rattle.machine_core.specs.swizzle.Joint.{name_at}
+use Rattle.machine_core.specs.joint_ops.heap_meaning.Paired.{and_name}
 use Rattle.machine_core.specs.swizzle.Touch.{Keeps}
 use Rattle.machine_core.specs.swizzle.declared.fault.SwizzleFault.{SwizzleFault}
 use Rattle.machine_core.specs.proc_values.Loaded.{IsFitUnit}
@@ -54,12 +56,13 @@ module _ (outside : Outside Space) (m : Machine) (now : area.Heap) (within : Opt
           let object = new_scope bytes c.scope in
           let made = make c.store.held.objects ns bytes c.scope h.world d (in_it ns c h) in
           let store = and_object object c.store in
-          let held = held-more m.objects now outside outside ns made.more (words_of m) c store made.carries h made.world refl refl in (
+          let more = and_name ns (name_at now at) in
+          let held = held-more m.objects now outside outside ns more (words_of m) c store made.carries h made.world refl refl in (
             [],
             record c { store = store; scope = Some (new_number c.store.held.objects) },
             refl,
             refl,
-            record { names = made.more; held = enters.holds made.more (record c { store = store }) (Some (new_number c.store.held.objects)) held made.denotes },
+            record { names = more; held = enters.holds more (record c { store = store }) (Some (new_number c.store.held.objects)) held made.denotes },
           );
     }
 

@@ -9,12 +9,16 @@ use Rattle.joint_ops.specs.swizzle.Heap.{top_of}
 use Rattle.joint_ops.specs.swizzle.Reading.{LeavesOutside}
 use Rattle.joint_ops.specs.swizzle.declared.fault.SwizzleFault.{SwizzleFault}
 use Rattle.joint_ops.specs.swizzle.declared.fault.SwizzleFault.TheVariants.{AreaFull, Vault}
+use Rattle.ps_stepping.specs.ps_heap.Calls.{enter_call}
 use Rattle.ps_stepping.specs.ps_heap.Held.{touching}
+use Rattle.ps_stepping.specs.ps_heap.Tables.{Key}
+use Rattle.ps_stepping.specs.ps_heap.Texts.{Yields}
+use Rattle.ps_stepping.specs.ps_heap.Values.{Value}
 use Rattle.ps_stepping.specs.ps_meaning.Meaning.{Store}
 use Rattle.ps_stepping.specs.Config.{Config}
 use Rattle.ps_stepping.specs.Steps.{Step, Goes, Stuck}
 use Rattle.ps_stepping.specs.Objects.{having}
-use Rattle.joint_ops.specs.World.{IsWorld, Carries, Stands, BreaksOff}
+use Rattle.joint_ops.specs.World.{IsWorld, Carries, Carried, Stands, BreaksOff}
 use Rattle.joint_ops.specs.Made.{IsShort}
 use Rattle.machine_core.specs.declared.machine.Machine.{Machine}
 use Rattle.machine_core.specs.declared.stepped.Stepped.{Stepped}
@@ -61,7 +65,17 @@ module _ (here now : area.Heap) (before after : Outside Space) where
     world = world;
   }
 
-  -- after an operation that read, the words stand for the same configuration
+  -- after an operation that carries what was denoted, the words stand for the same configuration
+  pub carried-holds : (names : List Reference) (w : Words) (c : Config) → Held here before names w c → Carried here now before after c.store.held.objects names
+      → Held now after names w c
+  carried-holds names w c h s = held-more names names w c c.store s.carries h s.world refl refl
+
+  -- and where objects are touched then
+  pub touched-carried : (names : List Reference) (w : Words) (c : Config) (ids : List ℕ) → Held here before names w c
+      → Carried here now before after c.store.held.objects names → Held now after names w (having (touching ids) c)
+  touched-carried names w c ids h s = touched-held now after names w c ids (carried-holds names w c h s)
+
+  -- so after one that read
   pub read-holds : (names : List Reference) (w : Words) (c : Config) → Held here before names w c → Stands here now before after c.store.held.objects names
       → Held now after names w c
   read-holds names w c h s = held-more names names w c c.store s.carries h s.world refl refl
@@ -75,7 +89,7 @@ module _ (here now : area.Heap) (before after : Outside Space) where
   pub broken-off : (s : Step) (fault : SwizzleFault) → BreaksOff here now before after fault → BreaksBy before after here.size s fault
   broken-off s (AreaFull top wanted size) b =
       let a = b.3.1 in
-      (b.1, subst (λ (n : ℕ). n < top + wanted) b.1 b.2, inr (record { pid = b.3.0; words = a.words; stored = a.stored; count = b.3.2 }))
+      (b.1, subst (λ (n : ℕ). n < top + wanted) b.1 b.2, inr (inr (record { pid = b.3.0; words = a.words; stored = a.stored; count = b.3.2 })))
   broken-off s (Vault vault.Device) b = b
   broken-off s (Vault vault.Output) b = absurd b
   broken-off s (Vault (vault.Full used wanted capacity)) b = absurd b
@@ -88,6 +102,16 @@ module _ (here now : area.Heap) (before after : Outside Space) where
   short-full s store next weight fault step makes short =
       subst (λ (x : SwizzleFault). BreaksBy before after here.size s x) (sym short.fault_is)
       (refl, short.full, inl (record { next = next; step_is = step; before = store; weight = weight; makes = makes; words = short.words }))
+
+  -- There was no room for the node of a pair that the step enters.
+  pub node-full : (s : Step) (store : Store) (next : Config) (key : Key) (table value : Value) (top wanted size : ℕ) → s ≡ Goes [] next
+      → enter_call key table value store.held ≡ Yields next.store.held → wanted ≡ 11 → size ≡ here.size → size < top + wanted
+      → BreaksBy before after here.size s (AreaFull top wanted size)
+  node-full s store next key table value top wanted size step enters words same short = (
+    same,
+    subst (λ (n : ℕ). n < top + wanted) same short,
+    inr (inl (record { next = next; step_is = step; before = store; key = key; table = table; value = value; enters = enters; words = words })),
+  )
 
 -- What is damaged breaks off a step that isn't there.
 pub damaged-stuck : (before after : Outside Space) (size : ℕ) (s : Step) (fault : SwizzleFault) (pid found wanted : ℕ) → s ≡ Stuck
@@ -144,7 +168,8 @@ rose-earlier a b c low (inr last) = inr last
 pub breaks-earlier : (before mid after : Outside Space) (size : ℕ) (s : Step) (fault : SwizzleFault) → SameContents before mid
     → before.device_faults ≤ mid.device_faults → BreaksBy mid after size s fault → BreaksBy before after size s fault
 breaks-earlier before mid after size s (AreaFull top wanted its) same low (is, full, inl made) = (is, full, inl made)
-breaks-earlier before mid after size s (AreaFull top wanted its) same low (is, full, inr stored) = (is, full, inr (stores-earlier before mid wanted same stored))
+breaks-earlier before mid after size s (AreaFull top wanted its) same low (is, full, inr (inl enters)) = (is, full, inr (inl enters))
+breaks-earlier before mid after size s (AreaFull top wanted its) same low (is, full, inr (inr stored)) = (is, full, inr (inr (stores-earlier before mid wanted same stored)))
 breaks-earlier before mid after size s (Vault vault.Device) same low b = rose-earlier before.device_faults mid.device_faults after.device_faults low b
 breaks-earlier before mid after size s (Vault vault.Output) same low b = b
 breaks-earlier before mid after size s (Vault (vault.Full used wanted capacity)) same low b = b

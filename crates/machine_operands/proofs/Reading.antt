@@ -15,7 +15,8 @@ use Rattle.machine_core.specs.ps_heap.Values.{Value}
 use Rattle.machine_core.specs.ps_heap.Objects.{Heap}
 use Rattle.machine_core.specs.ps_stepping.Config.{Config, constants_in, constant_at}
 use Rattle.machine_core.specs.ps_stepping.Steps.{Step, Stuck, text_in, with_text}
-use Rattle.machine_core.specs.joint_ops.World.{IsWorld, DenotesIn, IsUnitIn, Stands}
+use Rattle.machine_core.specs.joint_ops.World.{DenotesIn, IsUnitIn, Stands}
+use Rattle.machine_core.specs.joint_ops.Code.{StandsBy}
 use Rattle.joint_procedures.specs.Units.{AnswersText}
 use Rattle.machine_core.specs.declared.machine.Machine.{Machine}
 use Rattle.machine_core.specs.declared.stepped.Stepped.{Stepped}
@@ -65,12 +66,12 @@ module _ (before after : Outside Space) (m : Machine) (now : area.Heap) where
     given-of r g c names h = unit-parts {P = λ row. AnswersText m.objects now before after m.code row k r} m.objects before m.code c.unit g h.unit_is
 
     pub constant-read : (at : ℕ) → Given (Ok (Some at))
-        → ((of : Heap) (names : List Reference) → IsWorld m.objects before of names → Stands m.objects now before after of names)
+        → StandsBy m.objects now before after m.code
         → ReadsConstant before after k m (record m { objects = now }) (Ok at)
     constant-read at g kept = record {
       gives = λ names c h.
           let a = given-of (Ok (Some at)) g c names h in
-          (a.0, same-constant (constants_in c.unit) k ∙ a.1, still-holds names c h (kept c.store.held.objects names h.world), a.2 names);
+          (a.0, same-constant (constants_in c.unit) k ∙ a.1, still-holds names c h (kept c.unit h.unit_is c.store.held.objects names h.world), a.2 names);
     }
 
     pub constant-none : Given (Ok None) → ReadsConstant before after k m (record m { objects = now }) (Err Damaged)

@@ -48,13 +48,6 @@ module _ (outside : Outside Space) {i j : Instr} {own : ℕ} {old new : Machine}
   pub acts_on : Takes outside outside (acts_plainly j own) old new answer → answer ≢ Breaks → ActsAs outside outside i own old new answer
   acts_on takes goes = acts_here takes (whole-failing outside outside answer new goes)
 
--- one that isn't done
-pub acts_not : (outside : Outside Space) {i j : Instr} {own : ℕ} {m : Machine} → i ≡ j → IsSound m → ((c : Config) → acts_plainly j own c ≡ Stuck)
-    → ActsAs outside outside i own m m Damaged
-acts_not outside {i} {j} {own} {m} is sound not =
-    acts_here outside {i = i} {j = j} {own = own} {old = m} {new = m} {answer = Damaged} is
-    (record { sound = sound; names = λ n. n; size = refl; does = λ c h. not c }) tt
-
 -- the bytes of a unit's code
 unit_code : (here : area.Heap) (outside : Outside Space) (at : ℕ) (u : UnitView) → IsHeap here → IsUnitIn here outside at u → text_at here at ≡ code_in u
 unfolding IsUnitSeen

@@ -1,6 +1,7 @@
 pub mod Telling
 pub mod Loading
 pub mod Dispatch
+pub mod PlainCalls
 pub mod Progress
 pub mod Counting
 pub mod Putting

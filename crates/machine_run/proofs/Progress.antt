@@ -1,28 +1,33 @@
 -- Each step brings a run nearer to its end: fewer turns are left, or as many and fewer bodies wait, or as many of both and fewer bytes of the code lie
 -- before it. And none lowers the count of bytes.
 use Rattle.std.proofs.Common.{◌≡◌, ℕ, zero, suc, ◌+◌, ◌-◌, ◌<◌, ℤ, pos, ◌+ℤ◌, Bool, true, false, List, [], ◌∷◌, length, Option, Some, None, refl, ap, subst, arith, length-append, length-drop}
-use Rattle.std.specs.Prelude.{◌≤◌, ◌++◌, not, nat_lt, map, reverse, if◌then◌else◌}
+use Rattle.std.specs.Prelude.{◌≤◌, ◌++◌, ◌&&◌, not, nat_lt, map, reverse, if◌then◌else◌}
 use Rattle.std.specs.Fmt.{signed_decimal}
 use Rattle.std.proofs.lemmas.Bool.{ltb-true}
 use Rattle.ps_base.specs.CodeUnit.{UnitView, ConstantView, text, literal}
 use Rattle.ps_base.specs.Instr.{width_of, spelling}
 use Rattle.ps_base.proofs.Spellings.{length-spelling}
 use Rattle.ps_base.specs.declared.line.Line.{Line}
+use Rattle.ps_base.specs.declared.trap.Trap.TheVariants.{Overflow}
 use Rattle.ps_base.specs.declared.operator.Operator.TheVariants as operator
 use Rattle.ps_base.specs.declared.operator.Relation.{Relation}
 use Rattle.ps_base.specs.declared.operator.Relation.TheVariants as relation
 use Rattle.ps_base.specs.declared.instr.Instr.{Instr}
 use Rattle.ps_base.specs.declared.instr.Instr.TheVariants.{Int, True, False, Text, Nil, GetM, GetP, SetM, SetP, KeptM, KeptP, KeepM, KeepP, Scope, Leave, Jump, JumpFalse, Again, And, Or, Not, Neg, Add, Sub, Mul, Div, Rem, EqM, NeM, LtM, LeM, GtM, GeM, EqP, NeP, EqT, NeT, LtT, LeT, GtT, GeT, Join, Part, Is, Make, FieldM, FieldP, SetFieldM, SetFieldP, FillM, FillP, ListM, ListP, ElemM, ElemP, SetElemM, SetElemP, Lwb, Upb, Closure, Call, Return, Lib, WriteI, WriteB, WriteT, Abort, ForStart, ForNext, ScanT, ScanI, ScanMore, DupM, DupP, DropM, DropP, JumpTrue}
-use Rattle.machine_core.specs.ps_heap.Operators.{Answer, Gives, Traps, is_same, neg_of, arith_of, relation_of}
+use Rattle.machine_core.specs.ps_heap.Operators.{Answer, Gives, Traps, is_int, is_same, neg_of, arith_of, relation_of}
 use Rattle.machine_core.specs.ps_heap.Events.{Event, count_of}
 use Rattle.machine_core.specs.ps_heap.Values.{Value, Num, as_written, as_compiled, word_of, number_of, is_one, flag_text}
 use Rattle.machine_core.specs.ps_heap.Values as value
 use Rattle.machine_core.specs.ps_heap.Scopes.{kept_name, new_scope, scope_at, scope_out}
-use Rattle.machine_core.specs.ps_heap.Held.{Place, Part, element_place, assigning, touching, reading, reading_name, assigned_name, way_out, denoted}
-use Rattle.machine_core.specs.ps_heap.Library.{LibraryProcedure, OnHeap, ReadLine, AtEnd, Length, IntText, library_procedure}
+use Rattle.machine_core.specs.ps_heap.Held.{Held, Place, Part, element_place, assigning, touching, reading, reading_name, assigned_name, way_out, denoted}
+use Rattle.machine_core.specs.ps_heap.Library.{HeapProcedure, CreateDatabase, OpenDatabase, Commit, MakeTable, EnterString, LookUpString, EnterInt, LookUpInt, Cardinality, LibraryProcedure, OnHeap, ReadLine, AtEnd, Length, IntText, library_procedure, heap_call}
+use Rattle.machine_core.specs.ps_heap.Calls as Calls
+use Rattle.machine_core.specs.ps_heap.Calls.{answer_of, cardinality_call, enter_call, lookup_call, new_table, number_answered, table_put, then_try}
+use Rattle.machine_core.specs.ps_heap.Scans.{Found, most_scan_calls, next_key, shown_key}
+use Rattle.machine_core.specs.ps_heap.Tables.{Key, Table, cardinality, entered, int_key, looked_up, on_yield, string_key}
 use Rattle.machine_core.specs.ps_meaning.Meaning.{is_width, in_places, some_out, with_turns, and_object, and_text, and_closure, on_input}
 use Rattle.machine_core.specs.ps_heap.Texts.{Attempt, Yields, Fails, join_of, part_of, line_read, behind_line, is_at_end}
-use Rattle.machine_core.specs.ps_heap.Objects.{Heap, id_of, Object, Structure, Elements, Scope as ScopeOf, Keyed, new_number, is_class, field_of, with_field, vector_of, filled_vector, with_element, low_of, high_of, element_of as element_at}
+use Rattle.machine_core.specs.ps_heap.Objects.{Heap, id_of, object_of_value, table_of, value_of_object, Object, Structure, Elements, Scope as ScopeOf, Keyed, new_number, is_class, field_of, with_field, vector_of, filled_vector, with_element, low_of, high_of, element_of as element_at}
 use Rattle.machine_core.specs.ps_meaning.Evaluation.{most_calls}
 use Rattle.machine_core.specs.ps_meaning.Loops.{goes_on}
 use Rattle.machine_core.specs.ps_meaning.Operations.{kept_as, kept_elements, text_relation, object_relation}
@@ -30,8 +35,9 @@ use Rattle.machine_core.specs.text_forms.declared.forms.Form.{Form}
 use Rattle.machine_core.specs.text_forms.declared.forms.Form.TheVariants as form
 use Rattle.machine_core.specs.text_forms.Forms.{forms_of, form_in, element_of}
 use Rattle.machine_core.specs.ps_stepping.Steps.{text_of, text_in, attempted}
-use Rattle.machine_core.specs.ps_stepping.Objects.{holding, having, changed, make, make_text, denoting_of, object_of, pop_fields, when_number, when_reference, type_of, of_type, pop_nums, pop_refs, compare_texts, compare_objects, pop_vector, bound as bound_of}
-use Rattle.machine_core.specs.ps_stepping.Library.{library_of, read_line, text_length, int_text}
+use Rattle.machine_core.specs.ps_stepping.Objects.{holding, having, changed, make, make_text, denoting_of, object_of, pop_fields, when_number, when_reference, type_of, of_type, pop_nums, pop_object, pop_refs, compare_texts, compare_objects, pop_vector, bound as bound_of}
+use Rattle.machine_core.specs.ps_stepping.Library.{call_on_heap, gives_nothing, gives_num, gives_ref, library_of, read_line, text_length, int_text}
+use Rattle.machine_core.specs.ps_stepping.Scans.{called_with, last_of, one_more, scan_found, scan_more, scan_on}
 use Rattle.machine_core.specs.ps_stepping.Procedures.{of_scope, enter_scope, leave_scope, kept_num, kept_ref, keep_num, keep_ref, procedure_of, unit_called, takes_refs, in_turn, call}
 use Rattle.machine_core.specs.ps_stepping.Config.{Config, Caller, frame_words, code_in, constants_in, frame_in, constant_at}
 use Rattle.machine_core.specs.ps_stepping.Machine.{Step, Goes, Stops, Stuck, acts, on, put_num, push_num, push_ref, pop_num_of, pop_ref_of, is_num_slot, is_ref_slot, with_num, with_ref, forward, turn_to, back, answered, test, written, pop_width, push_text, started, counted, come_back, returned}
@@ -309,9 +315,166 @@ drops_int_text own c a = pops _ c.nums c _ (λ z rest. drops_text_made own (reco
 drops_read_line : (own : ℕ) (line : Line) (c : Config) → Ahead own c → Drops own c (read_line line c)
 drops_read_line own line c a = lower_attempted _ line (line_read c.store.input) _ (λ bytes. drops_text_made own (holding (on_input (behind_line c.store.input) c.store) c) bytes a)
 
+-- Tables. A call counts no fewer bytes than were counted before it, and has no events.
+abbrev Quiet : Held → Calls.Answer → Type 0
+Quiet h a = (h.counted ≤ a.held.counted) × (a.events ≡ [])
+
+abbrev IfYields : {A : Type 0} → (A → Type 0) → Attempt A → Type 0
+IfYields is (Yields a) = is a
+IfYields is (Fails trap) = Unit {0}
+
+enter_counted : (key : Key) (table v : Value) (h : Held) → IfYields (λ (later : Held). h.counted ≤ later.counted) (enter_call key table v h)
+unfolding enter_call
+enter_counted key table v h = of (table_of h.objects table)
+  where
+    put : (before : Option ℕ) (t : Attempt Table)
+        → IfYields (λ (later : Held). h.counted ≤ later.counted) (on_yield t (λ new. table_put table key before (object_of_value v) new h))
+    put before (Yields new) = omega arith
+    put before (Fails trap) = tt
+
+    looked : (before : Attempt (Option ℕ)) (t : Attempt Table)
+        → IfYields (λ (later : Held). h.counted ≤ later.counted)
+        (then_try before (λ b. on_yield t (λ new. table_put table key b (object_of_value v) new h)))
+    looked (Yields before) t = put before t
+    looked (Fails trap) t = tt
+
+    of : (t : Attempt Table)
+        → IfYields (λ (later : Held). h.counted ≤ later.counted)
+        (then_try t (λ u. then_try (looked_up key u) (λ b. on_yield (entered key (object_of_value v) u) (λ new. table_put table key b (object_of_value v) new h))))
+    of (Yields t) = looked (looked_up key t) (entered key (object_of_value v) t)
+    of (Fails trap) = tt
+
+enter_quiet : (key : Key) (table v : Value) (h : Held) → IfYields (Quiet h) (on_yield (enter_call key table v h) (answer_of value.Nothing))
+enter_quiet key table v h = of (enter_call key table v h) (enter_counted key table v h)
+  where
+    of : (a : Attempt Held) → IfYields (λ (later : Held). h.counted ≤ later.counted) a → IfYields (Quiet h) (on_yield a (answer_of value.Nothing))
+    of (Yields later) more = (more, refl)
+    of (Fails trap) more = tt
+
+lookup_quiet : (key : Key) (table : Value) (h : Held) → IfYields (Quiet h) (lookup_call key table h)
+unfolding lookup_call
+lookup_quiet key table h = of (table_of h.objects table)
+  where
+    found : (f : Attempt (Option ℕ)) → IfYields (Quiet h) (on_yield f (λ o. answer_of (value_of_object o) (reading (value_of_object o) h)))
+    found (Yields o) = (omega arith, refl)
+    found (Fails trap) = tt
+
+    of : (t : Attempt Table) → IfYields (Quiet h) (then_try t (λ u. on_yield (looked_up key u) (λ o. answer_of (value_of_object o) (reading (value_of_object o) h))))
+    of (Yields t) = found (looked_up key t)
+    of (Fails trap) = tt
+
+number_quiet : (n : ℕ) (h : Held) → IfYields (Quiet h) (number_answered n h)
+number_quiet n h = of (is_int (pos n))
+  where
+    of : (b : Bool) → IfYields (Quiet h) (if b then Yields (answer_of (Num (pos n)) h) else Fails Overflow)
+    of true = (omega arith, refl)
+    of false = tt
+
+count_quiet : (table : Value) (h : Held) → IfYields (Quiet h) (cardinality_call table h)
+unfolding cardinality_call
+count_quiet table h = of (table_of h.objects table)
+  where
+    of : (t : Attempt Table) → IfYields (Quiet h) (then_try t (λ u. number_answered (cardinality u) h))
+    of (Yields t) = number_quiet (cardinality t) h
+    of (Fails trap) = tt
+
+-- what gives what a call answered, and has room for it
+abbrev Given : (Calls.Answer → Config → Step) → Type 0
+Given gives = (own : ℕ) (c : Config) (a : Calls.Answer) → Quiet c.store.held a → Ahead own c → Drops own c (gives a c)
+
+quiet_events : (count : ℕ) (events : List Event) → events ≡ [] → AreCounted count events
+quiet_events count [] none = tt
+quiet_events count (event ∷ events) none = absurd (cc)
+
+given_nothing : Given gives_nothing
+given_nothing own c a q ahead = (by_bytes refl refl (omega (arith, ahead.0, ahead.1)), q.0, quiet_events c.store.held.counted a.events q.1)
+
+given_num : Given gives_num
+given_num own c a q ahead =
+    lower_if _ (nat_lt ((frame_in c.unit).nums + length c.nums) frame_words) _ _
+    (λ e. (by_bytes refl refl (omega (arith, ahead.0, ahead.1)), q.0, quiet_events c.store.held.counted a.events q.1)) (λ e. tt)
+
+given_ref : Given gives_ref
+given_ref own c a q ahead =
+    lower_if _ (nat_lt ((frame_in c.unit).refs + length c.refs) frame_words) _ _
+    (λ e. (by_bytes refl refl (omega (arith, ahead.0, ahead.1)), q.0, quiet_events c.store.held.counted a.events q.1)) (λ e. tt)
+
+drops_given : (own : ℕ) (line : Line) (gives : Calls.Answer → Config → Step) → Given gives → (attempt : Attempt Calls.Answer) (c : Config)
+    → IfYields (Quiet c.store.held) attempt → Ahead own c → Drops own c (attempted line attempt (λ a. gives a c))
+drops_given own line gives given (Yields a) c quiet ahead = given own c a quiet ahead
+drops_given own line gives given (Fails trap) c quiet ahead = tt
+
+-- nil or a structure is popped
+drops_object : (own : ℕ) (c d : Config) (next : Value → Config → Step) → ((v : Value) (rest : List Value) → Drops own c (next v (record d { refs = rest })))
+    → Drops own c (pop_object d next)
+drops_object own c d next f = pops_ref _ d.refs d _ (λ v rest. lower_object _ v (record d { refs = rest }) _ (λ w. f w rest))
+
+drops_on_heap : (own : ℕ) (of : HeapProcedure) (line : Line) (c : Config) → Ahead own c
+    → Drops own c (if is_plain_call (Some (OnHeap of)) then call_on_heap of line c else Stuck)
+unfolding heap_call
+drops_on_heap own CreateDatabase line c a = tt
+drops_on_heap own OpenDatabase line c a = tt
+drops_on_heap own Commit line c a = tt
+drops_on_heap own MakeTable line c a = drops_given own line gives_ref given_ref (Yields (new_table c.store.held)) c (omega arith, refl) a
+drops_on_heap own EnterString line c a =
+    drops_object own c c _ (λ v rs. drops_object own c (record c { refs = rs }) _ (λ table qs. pops_ref _ qs (record c { refs = qs }) _
+    (λ k rest. lower_text _ k (record c { refs = rest }) _ (λ key. drops_given own line gives_nothing given_nothing
+    (on_yield (enter_call (string_key key) table v c.store.held) (answer_of value.Nothing)) (record c { refs = rest }) (enter_quiet (string_key key) table v c.store.held) a))))
+drops_on_heap own LookUpString line c a =
+    drops_object own c c _ (λ table qs. pops_ref _ qs (record c { refs = qs }) _
+    (λ k rest. lower_text _ k (record c { refs = rest }) _ (λ key. drops_given own line gives_ref given_ref
+    (lookup_call (string_key key) table c.store.held) (record c { refs = rest }) (lookup_quiet (string_key key) table c.store.held) a)))
+drops_on_heap own EnterInt line c a =
+    drops_object own c c _ (λ v rs. drops_object own c (record c { refs = rs }) _ (λ table qs. pops _ c.nums (record c { refs = qs }) _
+    (λ key rest. drops_given own line gives_nothing given_nothing
+    (on_yield (enter_call (int_key key) table v c.store.held) (answer_of value.Nothing)) (record c { refs = qs; nums = rest }) (enter_quiet (int_key key) table v c.store.held) a)))
+drops_on_heap own LookUpInt line c a =
+    drops_object own c c _ (λ table qs. pops _ c.nums (record c { refs = qs }) _
+    (λ key rest. drops_given own line gives_ref given_ref
+    (lookup_call (int_key key) table c.store.held) (record c { refs = qs; nums = rest }) (lookup_quiet (int_key key) table c.store.held) a))
+drops_on_heap own Cardinality line c a =
+    drops_object own c c _ (λ table qs. drops_given own line gives_num given_num (cardinality_call table c.store.held) (record c { refs = qs }) (count_quiet table c.store.held) a)
+
+-- Scans.
+drops_handed : (strings : Bool) (own q s : ℕ) (key : Value) (object : ℕ) (c : Config) → Ahead own c → Drops own c (called_with strings q s key object c)
+drops_handed true own q s key object c a =
+    lower_if _ (nat_lt ((frame_in c.unit).refs + length c.refs) frame_words) _ _
+    (λ e. lower_if _ (nat_lt ((frame_in c.unit).refs + length (c.locals.refs (q + 1) ∷ c.refs)) frame_words) _ _
+    (λ f. lower_if _ (nat_lt ((frame_in c.unit).refs + length (key ∷ c.locals.refs (q + 1) ∷ c.refs)) frame_words) _ _
+    (λ g. drops_on own (record (with_num (with_ref c (q + 2) key) (s + 2) (pos 1)) { refs = value.Pointer object ∷ key ∷ c.locals.refs (q + 1) ∷ c.refs }) a)
+    (λ g. tt)) (λ f. tt)) (λ e. tt)
+drops_handed false own q s key object c a =
+    lower_if _ (nat_lt ((frame_in c.unit).refs + length c.refs) frame_words) _ _
+    (λ e. lower_if _ (nat_lt ((frame_in c.unit).nums + length c.nums) frame_words) _ _
+    (λ f. lower_if _ (nat_lt ((frame_in c.unit).refs + length (c.locals.refs (q + 1) ∷ c.refs)) frame_words) _ _
+    (λ g. drops_on own (record (with_num (with_num c (s + 1) (word_of key)) (s + 2) (pos 1)) {
+      refs = value.Pointer object ∷ c.locals.refs (q + 1) ∷ c.refs;
+      nums = word_of key ∷ c.nums;
+    }) a)
+    (λ g. tt)) (λ f. tt)) (λ e. tt)
+
+drops_found : (strings : Bool) (own q s to : ℕ) (line : Line) (found : Option Found) (c : Config) → Ahead own c
+    → Drops own c (scan_found strings own q s to line found c)
+drops_found strings own q s to line None c a = drops_forward own to c a
+drops_found strings own q s to line (Some found) c a =
+    lower_if _ (is_same (c.locals.nums s) (pos most_scan_calls)) _ _ (λ e. tt)
+    (λ e. drops_touched own c (found.object ∷ []) _ (drops_handed strings own q s (shown_key found.key) found.object (having (touching (found.object ∷ [])) c) a))
+
+drops_scan : (strings : Bool) (own q s to : ℕ) (line : Line) (c : Config) → Ahead own c → Drops own c (scan_on strings own q s to line c)
+drops_scan strings own q s to line c a =
+    lower_if _ (is_ref_slot c (q + 2) && is_num_slot c (s + 2)) _ _
+    (λ e. lower_object _ (c.locals.refs q) c _ (λ table. lower_attempted _ line (next_key strings c.store.held.objects table (last_of strings q s c)) _
+    (λ found. drops_found strings own q s to line found c a))) (λ e. tt)
+
+drops_more : (own s to : ℕ) (c : Config) → Ahead own c → Drops own c (scan_more own s to c)
+drops_more own s to c a =
+    pops _ c.nums c _ (λ z rest. lower_if _ (is_num_slot c (s + 2)) _ _
+    (λ e. lower_if _ (is_one z) _ _ (λ f. drops_back own to (with_num (record c { nums = rest }) s (one_more (c.locals.nums s))))
+    (λ f. drops_on own (with_num (record c { nums = rest }) s (one_more (c.locals.nums s))) a)) (λ e. tt))
+
 drops_library : (own : ℕ) (of : Option LibraryProcedure) (line : Line) (c : Config) → Ahead own c
     → Drops own c (if is_plain_call of then library_of of line c else Stuck)
-drops_library own (Some (OnHeap of)) line c a = tt
+drops_library own (Some (OnHeap of)) line c a = drops_on_heap own of line c a
 drops_library own (Some ReadLine) line c a = drops_read_line own line c a
 drops_library own (Some AtEnd) line c a = drops_push own c (number_of (is_at_end c.store.input)) a
 drops_library own (Some Length) line c a = drops_length own c a
@@ -486,9 +649,9 @@ drops (WriteT w line) own c a = drops_width own w c _ (λ width rest. pops_ref _
 drops (Abort line) own c a = tt
 drops (ForStart s t line) own c a = lower_if _ (is_num_slot c (s + 2)) _ _ (λ e. drops_started own t line (c.locals.nums s) (c.locals.nums (s + 1)) (c.locals.nums (s + 2)) c a) (λ e. tt)
 drops (ForNext s t) own c a = lower_if _ (is_num_slot c (s + 2)) _ _ (λ e. drops_counted own s t (c.locals.nums (s + 1)) (c.locals.nums (s + 2)) (c.locals.nums s +ℤ c.locals.nums (s + 2)) c a) (λ e. tt)
-drops (ScanT q s t line) own c a = tt
-drops (ScanI q s t line) own c a = tt
-drops (ScanMore s t) own c a = tt
+drops (ScanT q s t line) own c a = drops_scan true own q s t line c a
+drops (ScanI q s t line) own c a = drops_scan false own q s t line c a
+drops (ScanMore s t) own c a = drops_more own s t c a
 drops DupM own c a = pops _ c.nums c _ (λ z rest. drops_push own c z a)
 drops DupP own c a = pops_ref _ c.refs c _ (λ v rest. drops_push_ref own c v a)
 drops DropM own c a = pops _ c.nums c _ (λ z rest. drops_on own (record c { nums = rest }) a)

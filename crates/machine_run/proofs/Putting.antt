@@ -1,5 +1,5 @@
 -- What a machine stands for beside a vault that outputs: it holds what it held.
-use Rattle.std.proofs.Common.{inl, inr}
+use Rattle.std.proofs.Common.{inl, inr, refl}
 use Rattle.machine_core.specs.ps_outside.Outside.{Outside, SameContents}
 use Rattle.machine_core.specs.obj_layout.Stored.{Space}
 use Rattle.machine_core.specs.swizzle.Heap as area
@@ -9,8 +9,9 @@ use Rattle.machine_core.specs.ps_stepping.Config.{Config}
 use Rattle.machine_core.specs.declared.machine.Machine.{Machine}
 use Rattle.machine_core.specs.Holding.{Holds, words_of}
 use Rattle.machine_core.proofs.of_swizzle.TouchLaws.{keeps-refl}
-use Rattle.machine_core.proofs.of_joint_ops.SeenLaws.{stored-stays, keeps-stands}
-use Rattle.machine_core.proofs.Carrying.{read-holds}
+use Rattle.machine_core.proofs.of_joint_ops.SeenLaws.{stored-stays, keeps-carries}
+use Rattle.machine_core.proofs.of_joint_ops.of_heap_meaning.PairedLaws.{row-within}
+use Rattle.machine_core.proofs.Carrying.{held-more}
 
 put-within : (here : area.Heap) (before after : Outside Space) → SameContents before after → Within (seen here before) (seen here after)
 put-within here before after same n it (inl a) = inl a
@@ -29,6 +30,8 @@ put-holds m before after c same h =
     let here = m.objects in
     record {
       names = h.names;
-      held = read-holds here here before after h.names (words_of m) c h.held
-          (keeps-stands here here before after c.store.held.objects h.names (keeps-refl here) (put-within here before after same) h.held.world);
+      held = held-more here here before after h.names h.names (words_of m) c c.store
+          (keeps-carries here here before after h.names h.names (keeps-refl here) (put-within here before after same) (λ n id p. p)) h.held
+          (record { row = row-within (seen here before) (seen here after) c.store.held.objects h.names (put-within here before after same) h.held.world.row })
+          refl refl;
     }

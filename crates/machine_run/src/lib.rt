@@ -4,6 +4,7 @@
 #![tactic(auto)]
 
 pub mod laws;
+mod library;
 pub mod load;
 pub mod run;
 mod steps;

@@ -8,6 +8,7 @@ ghost use Rattle.machine_core.specs.Naming.{NamesObjects};
 ghost use Rattle.machine_core.specs.Stepped.{TakesStep, UnlessBroken};
 ghost use Rattle.machine_run.specs.inside.Acting.{ActsAs};
 
+use crate::library::library;
 use machine_calls::blocks::{enter_scope, leave_scope};
 use machine_calls::calls::call;
 use machine_calls::names::{keep_num, keep_ref, kept_num, kept_ref};
@@ -22,10 +23,12 @@ use machine_core::values::{
 };
 use machine_core::writes::{abort, write_flag, write_int};
 use machine_core::{Machine, Stepped};
-use machine_strings::texts::{compare_texts, join, library, part, push_text, write_text};
+use machine_strings::texts::{compare_texts, join, part, push_text, write_text};
 use machine_structures::fields::{field_num, field_ref, set_field_num, set_field_ref};
 use machine_structures::makes::make_structure;
 use machine_structures::structures::{compare_objects, is_of_class, push_nil};
+use machine_tables::Scan;
+use machine_tables::scans::{scan_ints, scan_more, scan_strings};
 use machine_vectors::bounds::{lower_bound, upper_bound};
 use machine_vectors::elements::{element_num, element_ref, set_element_num, set_element_ref};
 use machine_vectors::fills::{fill_num, fill_ref};
@@ -137,9 +140,29 @@ fn act<V: Vault>(m: &mut Machine, vault: &mut V, own: u32, instr: Instr) -> Step
         Instr::Abort { line } => abort::<V>(m, line),
         Instr::ForStart { s, t, line } => for_start::<V>(m, own, s as usize, t, line),
         Instr::ForNext { s, t } => for_next::<V>(m, own, s as usize, t),
-        Instr::ScanT { .. } => Stepped::Damaged,
-        Instr::ScanI { .. } => Stepped::Damaged,
-        Instr::ScanMore { .. } => Stepped::Damaged,
+        Instr::ScanT { q, s, t, line } => scan_strings(
+            m,
+            vault,
+            Scan {
+                own,
+                refs: q,
+                nums: s,
+                end: t,
+                line,
+            },
+        ),
+        Instr::ScanI { q, s, t, line } => scan_ints(
+            m,
+            vault,
+            Scan {
+                own,
+                refs: q,
+                nums: s,
+                end: t,
+                line,
+            },
+        ),
+        Instr::ScanMore { s, t } => scan_more::<V>(m, own, s as usize, t),
         Instr::DupM => dup_num::<V>(m),
         Instr::DupP => dup_ref::<V>(m),
         Instr::DropM => drop_num::<V>(m),

@@ -1,5 +1,5 @@
 //! What the machine does with instructions over strings, and with lines of the input, whatever the residence of the objects.
 #![tactic(auto)]
 
-mod inputs;
+pub mod inputs;
 pub mod texts;

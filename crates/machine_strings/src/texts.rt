@@ -9,14 +9,12 @@ ghost use Rattle.machine_core.specs.ps_stepping.Config.{constants_in, constant_a
 ghost use Rattle.machine_core.specs.ps_stepping.Machine.{push_text as push_text_of, write_text as write_text_of};
 ghost use Rattle.machine_core.specs.ps_stepping.Objects.{join as join_of, part as part_of, compare_texts as compare_texts_of};
 ghost use Rattle.machine_core.specs.ps_stepping.Library.{int_text as int_text_of, text_length as text_length_of};
-ghost use Rattle.machine_core.specs.ps_stepping.Plain.{plain_library};
 ghost use Rattle.machine_core.specs.Failing.{FailsAsReading};
 ghost use Rattle.machine_core.specs.Holding.{IsSound};
 ghost use Rattle.machine_core.specs.Naming.{NamesObjects};
 ghost use Rattle.machine_core.specs.declared.stepped.Stepped.TheVariants.{Breaks};
 ghost use Rattle.machine_core.specs.Stepped.{Takes, UnlessBroken};
 
-use crate::inputs::{at_end, read_line};
 use machine_core::obj_layout::vault::Vault;
 use machine_core::stacks::{push_num, push_ref};
 use machine_core::values::number;
@@ -47,23 +45,6 @@ pub fn push_text<V: Vault>(m: &mut Machine, vault: &mut V, k: u32) -> Stepped
     match text_constant(m, vault, k) {
         Ok(text) => push_ref::<V>(m, Some(text)),
         Err(answer) => answer,
-    }
-}
-
-/// Calls the library's function of this code; damaged where it has none, and where it is one of tables or databases.
-#[inline]
-pub fn library<V: Vault>(m: &mut Machine, vault: &V, code: u32, line: Line) -> Stepped
-    requires sound { IsSound m.old }
-    requires names { NamesObjects m.old }
-    ensures takes { Takes (V.outside vault.now) (V.outside vault.now) (plain_library code line) m.old m.new result }
-    ensures fails { FailsAsReading (V.outside vault.now) (V.outside vault.now) result m.new }
-{
-    match code {
-        9 => read_line::<V>(m, line),
-        10 => at_end::<V>(m),
-        11 => length::<V>(m),
-        12 => int_text(m, vault),
-        _ => Stepped::Damaged,
     }
 }
 

@@ -29,7 +29,8 @@ use Rattle.machine_core.specs.ps_heap.Values.{Value, Text, Pointer}
 use Rattle.machine_core.specs.ps_stepping.Config.{Config, frame_words, constants_in, constant_at}
 use Rattle.machine_core.specs.ps_stepping.Steps.{Step, Stuck, text_in}
 use Rattle.machine_core.specs.ps_stepping.Objects.{make, make_structure}
-use Rattle.machine_core.specs.joint_ops.World.{DenotesIn, IsUnitIn, IsWorld, Stands}
+use Rattle.machine_core.specs.joint_ops.World.{DenotesIn, IsUnitIn, IsWorld}
+use Rattle.machine_core.specs.joint_ops.Code.{StandsBy}
 use Rattle.machine_core.specs.joint_ops.Made.{Makes}
 use Rattle.machine_core.specs.joint_ops.Operands.{AreForIn}
 use Rattle.machine_core.specs.objects.Classes.{MakesLater, NamesClass}
@@ -146,7 +147,7 @@ module _ (before mid after : Outside Space) (k : ℕ) (m : Machine) (now : area.
       → AnswersRows m.objects now before mid m.code row k told
 
   abbrev Kept : Type 0
-  Kept = (of : Heap) (names : List Reference) → IsWorld m.objects before of names → Stands m.objects now before mid of names
+  Kept = StandsBy m.objects now before mid m.code
 
   abbrev read : Machine
   read = record m { objects = now }
@@ -170,7 +171,7 @@ module _ (before mid after : Outside Space) (k : ℕ) (m : Machine) (now : area.
         (does-behind before mid mid m.objects.size now.size (structure_of (text_at now class.text) c) r new left keeps.size
         (t.does c (record {
           names = h.names;
-          held = read-holds m.objects now before mid h.names (words_of m) c h.held (kept c.store.held.objects h.names h.held.world);
+          held = read-holds m.objects now before mid h.names (words_of m) c h.held (kept c.unit h.held.unit_is c.store.held.objects h.names h.held.world);
         })));
   }
 
@@ -185,7 +186,7 @@ module _ (before mid after : Outside Space) (k : ℕ) (m : Machine) (now : area.
         does-behind before mid after m.objects.size now.size (make_structure k c) r new left keeps.size
         (t.does c (record {
           names = h.names;
-          held = read-holds m.objects now before mid h.names (words_of m) c h.held (kept c.store.held.objects h.names h.held.world);
+          held = read-holds m.objects now before mid h.names (words_of m) c h.held (kept c.unit h.held.unit_is c.store.held.objects h.names h.held.world);
         }));
   }
 

@@ -4,6 +4,7 @@ use Rattle.heap_places.specs.obj_layout.declared.kind.Kind.TheVariants.{Node}
 use Rattle.heap_places.specs.obj_layout.declared.reference.Reference.{Reference}
 use Rattle.heap_places.specs.obj_layout.declared.reference.Reference.TheVariants.{Nil}
 use Rattle.heap_places.specs.swizzle.Joint.{Shown}
+pub use Rattle.heap_places.specs.swizzle.Reading.{IsAmong}
 use Rattle.heap_places.specs.Shapes.{slot_of, word_in}
 use Rattle.avl_trees.specs.Standing.{Item, Row}
 use Rattle.node_rows.specs.Keys.{Keys, KeyOf, Seen, IsKey}
@@ -40,8 +41,3 @@ I ks = Item Reference (KeyOf ks) Reference
 -- no pair has nil for its value
 abbrev pub HasValue : {K : Type 0} → Item Reference K Reference → Type 0
 HasValue a = a.entry.value ≢ Nil
-
--- the name stands in the list
-abbrev pub IsAmong : Reference → List Reference → Type 0
-IsAmong n [] = ⊥
-IsAmong n (m ∷ ms) = (n ≡ m) ⊎ IsAmong n ms

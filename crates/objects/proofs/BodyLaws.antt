@@ -16,7 +16,8 @@ use Rattle.joint_ops.specs.proc_values.Reading.{IsPlaceOf}
 use Rattle.joint_ops.specs.ps_heap.Values.{Procedure, as_compiled}
 use Rattle.joint_ops.specs.ps_heap.Objects.{Heap}
 use Rattle.joint_ops.specs.World.{IsWorld, DenotesIn}
-use Rattle.joint_ops.proofs.SeenLaws.{breaks-earlier, nothing-done}
+use Rattle.joint_ops.proofs.SeenLaws.{breaks-earlier}
+use Rattle.joint_ops.proofs.GainLaws.{nothing-done}
 use Rattle.joint_ops.proofs.RewriteLaws.{stands-then}
 use Rattle.joint_procedures.specs.Procedures.{AnswersCode, AnswersScope, HasSlot}
 use Rattle.objects.specs.declared.body.Body.{Body}
@@ -70,7 +71,7 @@ has-body mid new at code to body keeps first second code_is scope_is there = rec
 pub body-known : (here : area.Heap) (outside : Outside Space) (at : ℕ) (body : Body) → IsHeap here → HasBody here at body
     → GotBody here here outside outside at (Ok body)
 body-known here outside at body h is of names u within w d =
-    (body-is here outside names at u within body h is d, nothing-done here outside of names w)
+    (body-is here outside names at u within body h is d, nothing-done here outside of names h w)
 
 pub body-place : (here : area.Heap) (at : ℕ) (result : Result Body SwizzleFault) → IfOk result (HasBody here at)
     → IfOk result (λ body. IsPlaceOf here body.code body.place)

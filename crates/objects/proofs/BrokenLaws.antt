@@ -17,6 +17,10 @@ pub keeps-broken : (T : Type 0) (old new : Heap) (fault : OpFault) → UnlessFau
 keeps-broken T old new (op.Trap t) keeps = keeps-lasts old new keeps
 keeps-broken T old new (op.Swizzle fault) keeps = tt
 
+pub lasts-broken : (old new : Heap) (fault : OpFault) → Lasts old new → UnlessBroken fault (Lasts old new)
+lasts-broken old new (op.Trap t) lasts = lasts
+lasts-broken old new (op.Swizzle fault) lasts = tt
+
 -- the size of the area, of what was done after a reading
 pub size-later : {T : Type 0} (old mid new : Heap) (result : Result T OpFault) → Keeps old mid → UnlessFault result (Lasts mid new)
     → UnlessFault result (new.size ≡ old.size)

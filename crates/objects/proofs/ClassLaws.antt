@@ -16,7 +16,8 @@ use Rattle.joint_ops.specs.heap_places.declared.value.Value as given
 use Rattle.joint_ops.specs.ps_heap.Texts.{Yields}
 use Rattle.joint_ops.specs.ps_heap.Objects.{Heap, Structure, is_class}
 use Rattle.joint_ops.specs.ps_heap.Values.{Value, Text, Pointer}
-use Rattle.joint_ops.specs.World.{IsWorld, DenotesIn, IsUnitIn, Stands, Answers}
+use Rattle.joint_ops.specs.World.{IsWorld, DenotesIn, IsUnitIn, Answers}
+use Rattle.joint_ops.specs.Code.{StandsBy}
 use Rattle.joint_ops.specs.Operands.{AreForIn}
 use Rattle.joint_ops.specs.Made.{Makes}
 use Rattle.objects.specs.Classes.{AnswersClass, NamesClass, LacksClass, MakesLater}
@@ -36,7 +37,7 @@ MakesAll old new before after code constant fields result =
     → MakesLater old new before after of names Pointer (Yields (Structure class values)) result
 
 module _ (old mid new : area.Heap) (start before after : Outside Space) (code constant at : ℕ) (h : IsHeap mid) (keeps : Keeps old mid)
-    (leaves : LeavesOutside start before) (world : (of : Heap) (names : List Reference) → IsWorld old start of names → Stands old mid start before of names)
+    (leaves : LeavesOutside start before) (world : StandsBy old mid start before code)
     (got : (bytes : List ℕ) (row : ConstantsView) (frame : Frame) → IsUnitIn old start code (unit bytes row frame)
     → AnswersClass old mid start before code row constant (Ok at)) where
   class-of : (class : List ℕ) → NamesClass old start code constant class → IsGot mid before class at
@@ -51,7 +52,7 @@ module _ (old mid new : area.Heap) (start before after : Outside Space) (code co
       → Answers mid new before after (λ (is : Bool) (wanted : Bool). is ≡ wanted) of names (Yields (is_class of o text)) result)
       → TellsAll old new start after code constant object result
   class-told object result told of names class o w n d =
-      let s = world of names w in
+      let s = world (unit n.bytes n.row n.frame) n.unit_is of names w in
       answers-later old mid new start before after of names h keeps leaves s (λ (is : Bool) (wanted : Bool). is ≡ wanted) (Yields (is_class of o class)) result
       (told of names class o s.world ((class-of class n).denotes names) (s.carries.values object o d))
 
@@ -60,7 +61,7 @@ module _ (old mid new : area.Heap) (start before after : Outside Space) (code co
       → AreForIn mid before names (forms_of text) fields values → Makes mid new before of names Pointer (Yields (Structure text values)) result)
       → MakesAll old new start before code constant fields result
   class-made fields result made of names class values w n are =
-      let s = world of names w in
+      let s = world (unit n.bytes n.row n.frame) n.unit_is of names w in
       makes-later old mid new start before of names Pointer (Yields (Structure class values)) result s
       (made of names class values s.world ((class-of class n).denotes names)
       (are-for-later old mid start before names (forms_of class) fields values s.carries are))

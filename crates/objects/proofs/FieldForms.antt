@@ -1,6 +1,6 @@
 -- The form of a field of a class whose text was got.
 use Rattle.std.proofs.Common.{inl, inr, ◌≡◌, ℕ, List, Some, None, refl, sym, ap, ◌∙◌}
-use Rattle.std.specs.Prelude.{Result, Ok, Err}
+use Rattle.std.specs.Prelude.{Ok, Err}
 use Rattle.ps_base.specs.CodeUnit.{ConstantsView}
 use Rattle.joint_ops.specs.ps_outside.Outside.{Outside}
 use Rattle.joint_ops.specs.obj_layout.Stored.{Space}

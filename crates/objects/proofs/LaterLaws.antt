@@ -27,8 +27,9 @@ use Rattle.joint_ops.specs.heap_places.declared.value.Value as held
 use Rattle.joint_ops.specs.ps_heap.Objects.{Heap, field_of, with_field, kept_as}
 use Rattle.joint_ops.specs.ps_heap.Values.{Value, Text}
 use Rattle.joint_ops.specs.World.{IsWorld, DenotesIn, IsForIn, IsOfForm, IsUnitIn, Stands, Answers, Writes, BreaksOff, BreaksAsReading}
+use Rattle.joint_ops.specs.Code.{StandsBy}
 use Rattle.joint_ops.proofs.SeenLaws.{breaks-earlier, text-denoted}
-use Rattle.joint_ops.proofs.RewriteLaws.{stands-then, for-carried}
+use Rattle.joint_ops.proofs.RewriteLaws.{stands-then, rewritten-then, for-carried}
 use Rattle.objects.specs.Lasting.{Lasts, UnlessBroken}
 use Rattle.objects.specs.Classes.{AnswersClass, NamesClass, LacksField}
 use Rattle.objects.specs.Putting.{IsOfRow, kept_in, LacksPlace}
@@ -46,7 +47,7 @@ module _ (old mid new : area.Heap) (start before after : Outside Space) (of : He
 
   pub writes-later : (attempt : Attempt Heap) (result : Result (Unit {0}) OpFault) → Writes mid new before after of names attempt result
       → Writes old new start after of names attempt result
-  writes-later attempt (Ok done) a = (a.0, a.1, stands-then old mid new start before after of (a.0) names s (a.2))
+  writes-later attempt (Ok done) a = (a.0, a.1, rewritten-then old mid new start before after of (a.0) names s (a.2))
   writes-later attempt (Err (op.Trap t)) a = (a.0, stands-then old mid new start before after of of names s (a.1))
   writes-later attempt (Err (op.Swizzle fault)) a = breaks-earlier old mid new start before after fault h keeps leaves a
 
@@ -118,7 +119,7 @@ module _ (old new : area.Heap) (before after : Outside Space) (code constant : �
 
 module _ (old mid new : area.Heap) (start before after : Outside Space) (code constant field at : ℕ) (object : Option ℕ) (found : Located) (h : IsHeap mid)
     (keeps : Keeps old mid) (leaves : LeavesOutside start before)
-    (world : (of : Heap) (names : List Reference) → IsWorld old start of names → Stands old mid start before of names)
+    (world : StandsBy old mid start before code)
     (given : (bytes : List ℕ) (row : ConstantsView) (frame : Frame) → IsUnitIn old start code (unit bytes row frame)
     → AnswersClass old mid start before code row constant (Ok at))
     (place : Some found ≡ located_in (forms_of (text_at mid at)) field) where
@@ -145,7 +146,7 @@ module _ (old mid new : area.Heap) (start before after : Outside Space) (code co
       → (of : Heap) (names : List Reference) (class : List ℕ) (l : Located) (o : Value) → IsWorld old start of names → NamesClass old start code constant class
       → located_in (forms_of class) field ≡ Some l → DenotesIn old start names object o → Gives of names l (field_of of o class field) result old start
   field-answered result got of names class l o w n is d =
-      let s = world of names w in
+      let s = world (unit n.bytes n.row n.frame) n.unit_is of names w in
       answers-later old mid new start before after of names h keeps leaves s (λ c v. IsOfForm l.place.form c × IsForIn new after names c v)
       (field_of of o class field) result
       (subst (λ (k : Located). Gives of names k (field_of of o class field) result mid before) (found-one class l n is)
@@ -166,7 +167,7 @@ module _ (old mid new : area.Heap) (start before after : Outside Space) (code co
       → Writes mid new before after of names (with_field of o text n v) result)
       → SetsAll old new start after code constant field object to result
   field-written to value result row is_kept set of names class l o v w n is of_row d for =
-      let s = world of names w in
+      let s = world (unit n.bytes n.row n.frame) n.unit_is of names w in
       let f = found.place.form in
       let there : IsForIn mid before names value (kept_as (Some f) v) =
       subst (λ (x : held.Value). IsForIn mid before names x (kept_as (Some f) v)) (sym is_kept)

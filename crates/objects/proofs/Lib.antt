@@ -7,6 +7,8 @@ pub mod BodyLaws
 pub mod WrittenLaws
 pub mod ElementLaws
 pub mod BrokenLaws
+pub mod TableLaws
+pub mod TableCalls
 pub mod KnownLaws
 pub mod KeptElements
 pub mod KnownForms

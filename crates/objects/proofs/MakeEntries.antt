@@ -2,7 +2,6 @@
 use Rattle.std.proofs.Common.{inl, inr, ◌≡◌, ℕ, zero, suc, ◌<◌, ◌⊎◌, List, [], ◌∷◌, length, set, replicate, get_or, take, ◌++◌, sym, ap, ◌∙◌, arith, subst}
 use Rattle.std.proofs.lemmas.List.{get_or_default}
 use Rattle.joint_ops.specs.swizzle.Heap.{Heap}
-use Rattle.joint_ops.specs.swizzle.Text.{text_at}
 use Rattle.joint_ops.specs.text_forms.Forms.{forms_of}
 use Rattle.joint_ops.specs.proc_values.Loaded.{CodeStays}
 use Rattle.structure_rows.specs.Marks.{TellRows}

@@ -4,8 +4,8 @@ use mir.Val.{to_z, of_z}
 use Rattle.std.proofs.lemmas.Int.{to_z-of_z}
 use Rattle.std.proofs.lemmas.Bool.{cases_lt, ltb-true}
 use Rattle.std.proofs.lemmas.Grind.{common_steps}
-use Rattle.std.proofs.Common.{inl, inr, ◌≡◌, ℕ, ◌+◌, ◌-◌, ◌%◌, ◌<◌, ◌^◌, ℤ, pos, negsuc, Bool, true, false, List, [], ◌∷◌, refl, sym, ap, ◌∙◌, subst, arith, Option, Some, None, IfSome}
-use Rattle.std.specs.Prelude.{Result, Ok, Err}
+use Rattle.std.proofs.Common.{inl, inr, ◌≡◌, ℕ, ◌+◌, ◌-◌, ◌%◌, ◌<◌, ◌^◌, ℤ, pos, negsuc, Bool, true, List, refl, sym, ap, ◌∙◌, subst, arith, Option, Some, None, IfSome}
+use Rattle.std.specs.Prelude.{Err}
 use Rattle.joint_ops.specs.ps_outside.Outside.{Outside}
 use Rattle.joint_ops.specs.obj_layout.Stored.{Space, Damage, damage}
 use Rattle.joint_ops.specs.obj_layout.declared.reference.Reference.{Reference}
@@ -14,11 +14,10 @@ use Rattle.joint_ops.specs.swizzle.declared.fault.SwizzleFault.{SwizzleFault}
 use Rattle.joint_ops.specs.swizzle.declared.fault.SwizzleFault.TheVariants.{Vault}
 use Rattle.joint_ops.specs.swizzle.Heap.{Heap, IsHeap, header_at, num_at}
 use Rattle.joint_ops.specs.swizzle.Joint.{shown_at}
-use Rattle.joint_ops.proofs.of_swizzle.ReadingLaws.{leaves-none, reads-none}
+use Rattle.joint_ops.proofs.of_swizzle.ReadingLaws.{leaves-none}
 use Rattle.joint_ops.specs.text_forms.declared.forms.Form.{Form}
 use Rattle.joint_ops.specs.text_forms.declared.forms.Form.TheVariants as form
 use Rattle.joint_ops.specs.text_forms.Forms.{is_number_form}
-use Rattle.joint_ops.specs.heap_texts.declared.fault.OpFault.{OpFault}
 use Rattle.joint_ops.specs.heap_texts.declared.fault.OpFault.TheVariants as op
 use Rattle.joint_ops.specs.heap_places.Shapes.{word_in}
 use Rattle.joint_ops.specs.heap_places.Words.{int_in, flag_in, word_damage, unless}
@@ -30,9 +29,9 @@ use Rattle.joint_ops.proofs.of_heap_places.WordLaws.{int-low, int-mid, int-high}
 use Rattle.joint_ops.specs.heap_ops.Vectors.{index_of, GetsElement}
 use Rattle.joint_ops.proofs.of_heap_ops.VectorLaws.{fails-element}
 use Rattle.joint_ops.specs.ps_heap.Operators.{is_int}
-use Rattle.joint_ops.specs.ps_heap.Values.{Value, Num, Flag, Vector, word_of, number_of}
+use Rattle.joint_ops.specs.ps_heap.Values.{Value, Vector, word_of, number_of}
 use Rattle.joint_ops.specs.ps_heap.Objects as meaning
-use Rattle.joint_ops.specs.World.{IsWorld, DenotesIn, IsForIn, IsOfForm, Answers}
+use Rattle.joint_ops.specs.World.{IsWorld, DenotesIn, IsForIn, IsOfForm}
 use Rattle.joint_ops.specs.Operands.{form_in}
 use Rattle.joint_ops.proofs.SeenLaws.{vector-at, vector-denoted}
 use Rattle.joint_ops.proofs.FormLaws.{int-read}

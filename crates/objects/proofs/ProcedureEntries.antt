@@ -15,7 +15,7 @@ use Rattle.joint_ops.specs.proc_values.Loaded.{IsFitUnit}
 use Rattle.joint_ops.specs.World.{DenotesIn, IsUnitIn}
 use Rattle.joint_procedures.specs.Procedures.{HasSlot}
 use Rattle.joint_procedures.specs.Units.{IsFrameIn}
-use Rattle.joint_procedures.proofs.ProcedureLaws.{ProcedureAt, procedure-denoted, slot-code, slot-scope}
+use Rattle.joint_procedures.proofs.ProcedureLaws.{procedure-denoted, slot-code, slot-scope}
 use Rattle.joint_procedures.proofs.FrameLaws.{frame-read}
 use Rattle.objects.specs.Lasting.{Lasts}
 use Rattle.objects.specs.declared.body.Body.{Body}

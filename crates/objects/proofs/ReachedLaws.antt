@@ -1,5 +1,5 @@
 -- Fields that are reached by what is known of them: what is read of them and what is written to them are those of the meaning's.
-use Rattle.std.proofs.Common.{◌≡◌, ℕ, suc, ◌+◌, List, get_or, set, refl, sym, ap, ◌∙◌, subst, Option, Some, add-one}
+use Rattle.std.proofs.Common.{arith, ◌≡◌, ℕ, suc, ◌+◌, List, get_or, set, refl, sym, ap, ◌∙◌, subst, Option, Some, add-one}
 use Rattle.std.specs.Prelude.{Result, Ok}
 use Rattle.ps_base.specs.CodeUnit.{ConstantsView, unit, text}
 use Rattle.ps_base.specs.declared.code_unit.Frame.{Frame}
@@ -27,10 +27,11 @@ use Rattle.joint_ops.proofs.of_heap_meaning.PlaceLaws.{text-one}
 use Rattle.joint_ops.proofs.of_heap_meaning.FieldLaws.{field-is, field-put}
 use Rattle.joint_ops.proofs.of_heap_meaning.GivenLaws.{field-read, field-written, shown_with}
 use Rattle.joint_ops.specs.World.{IsWorld, DenotesIn, IsForIn, IsOfForm, IsUnitIn, Answers, Writes, seen}
-use Rattle.joint_ops.proofs.SeenLaws.{seen-held, seen-one, shown-bytes, StructureAt, structure-pointed, nothing-done}
+use Rattle.joint_ops.proofs.SeenLaws.{seen-held, seen-one, shown-bytes, StructureAt, structure-pointed}
+use Rattle.joint_ops.proofs.GainLaws.{nothing-done}
 use Rattle.joint_ops.proofs.FormLaws.{holds-form, holds-near, form-stored}
 use Rattle.joint_ops.proofs.ClassLaws.{structure-value, class-text, field-at}
-use Rattle.joint_ops.proofs.PutLaws.{no-bytes, kind-with}
+use Rattle.joint_ops.proofs.PutLaws.{no-bytes, kind-with, was-written}
 use Rattle.joint_ops.proofs.RewriteLaws.{rewritten, write-stands}
 use Rattle.objects.specs.declared.known_fields.KnownField.{KnownField}
 use Rattle.objects.specs.declared.objects.fields.Put.{Put}
@@ -135,13 +136,13 @@ module _ (here : area.Heap) (outside : Outside Space) (code constant field at : 
             holds-form here it l.place.form (suc l.place.index) c there,
             field-read here (seen here outside) (paired names) it class s.at_is.fields field l c f.is is there,
           ),
-          nothing-done here outside of names w,
+          nothing-done here outside of names h w,
         )
 
-    pub reached-put : (new : area.Heap) (c : held.Value) (v : Value) → IsOfForm l.place.form c → IsForIn here outside names c v
+    pub reached-put : (new : area.Heap) (c : held.Value) (v : Value) → IsHeap new → IsOfForm l.place.form c → IsForIn here outside names c v
         → new ≡ assigned_value here at (known.located.place.index + 1) c
         → Writes here new outside outside of names (meaning.with_field of o class field v) (Ok tt)
-    reached-put new c v form for written =
+    reached-put new c v now form for written =
         let f = field-at here here outside outside of names h h w one one at s.id class s.at_is same in
         let index = suc l.place.index in
         let at_l : new ≡ assigned_value here at (l.place.index + 1) c =
@@ -150,12 +151,13 @@ module _ (here : area.Heap) (outside : Outside Space) (code constant field at : 
         let object = Structure class (set s.at_is.fields field v) in (
           with_object of s.id object,
           ap (λ (x : Value). meaning.with_field of x class field v) s.value_is ∙ field-put of s.id class s.at_is.fields field v f.means,
-          write-stands here here new outside outside of names at s.id (shown_with here it index c) object h one (nothing-done here outside of names w)
+          write-stands here here new outside outside of names at s.id (shown_with here it index c) object h now one (nothing-done here outside of names h w)
               s.at_is.held s.at_is.pair (no-bytes (header_at here at).kind kind.Structure r.refers.kind (λ e. cc) (λ e. cc))
               (kind-with here it index c)
               (field-written here (seen here outside) (paired names) it class s.at_is.fields field l c v f.is is
               (form-stored outside here names l.place.form c v form for))
               tt
+              (was-written here new at index c kind.Structure h s.at_is.held r.refers.kind tt (omega arith) at_index)
               (rewritten here new at index c h s.at_is.held at_index),
         )
 
@@ -205,10 +207,10 @@ value-near here view code constant field object c e r =
 
 -- What is put into a field that is reached so is what the meaning's puts.
 
-put-here : (here new : area.Heap) (outside : Outside Space) (code constant field : ℕ) (object : Option ℕ) (to : held.Value) (put : Put) → IsHeap here
+put-here : (here new : area.Heap) (outside : Outside Space) (code constant field : ℕ) (object : Option ℕ) (to : held.Value) (put : Put) → IsHeap here → IsHeap new
     → ((a b : Space) → outside.contents a → outside.contents b → a ≡ b) → (p : IsPut here code constant field object to put)
     → new ≡ assigned_value here put.object put.index put.value → SetsAll here new outside outside code constant field object to (Ok tt)
-put-here here new outside code constant field object to put h one p written of names class l o v w n is row d for =
+put-here here new outside code constant field object to put h now one p written of names class l o v w n is row d for =
     let at = put.object in
     let k = p.known in
     let same = reached-place here outside code constant field at k h p.reached class l
@@ -219,15 +221,15 @@ put-here here new outside code constant field object to put h one p written of n
     (kept-for here outside names l.place.form to v row for) in
     let form : IsOfForm l.place.form put.value = subst (λ (x : Located). IsOfForm x.place.form put.value) same p.formed in
     reached-put here outside code constant field at k h p.reached of names class o l w one n is
-    (subst (λ (x : Option ℕ). DenotesIn here outside names x o) p.object_is d) new put.value (kept_as (Some l.place.form) v) form there
+    (subst (λ (x : Option ℕ). DenotesIn here outside names x o) p.object_is d) new put.value (kept_as (Some l.place.form) v) now form there
     (subst (λ (x : ℕ). new ≡ assigned_value here at x put.value) p.index_is written)
 
 pub put-set : (here view new : area.Heap) (outside : Outside Space) (code constant field : ℕ) (object : Option ℕ) (to : held.Value) (put : Put) → here ≡ view
-    → IsHeap here → ((a b : Space) → outside.contents a → outside.contents b → a ≡ b) → IsPut here code constant field object to put
+    → IsHeap here → IsHeap new → ((a b : Space) → outside.contents a → outside.contents b → a ≡ b) → IsPut here code constant field object to put
     → new ≡ assigned_value here put.object put.index put.value → SetsAll view new outside outside code constant field object to (Ok tt)
-put-set here view new outside code constant field object to put e h one p written =
+put-set here view new outside code constant field object to put e h now one p written =
     subst (λ (x : area.Heap). SetsAll x new outside outside code constant field object to (Ok tt)) e
-    (put-here here new outside code constant field object to put h one p written)
+    (put-here here new outside code constant field object to put h now one p written)
 
 pub put-lacks : (here view : area.Heap) (outside : Outside Space) (code constant field : ℕ) (object : Option ℕ) (to : held.Value) (put : Put) → here ≡ view
     → IsHeap here → IsPut here code constant field object to put → LacksPlace view outside code constant field to → ⊥

@@ -1,6 +1,6 @@
 -- Structures that are made of the rows of their fields.
-use Rattle.std.proofs.Common.{◌≡◌, ◌+◌, ℕ, ℤ, suc, true, List, [], ◌∷◌, length, refl, sym, ap, ◌∙◌, subst, arith, Option, Some, None}
-use Rattle.std.specs.Prelude.{Result, Ok, Err, OnOk}
+use Rattle.std.proofs.Common.{◌≡◌, ◌+◌, ℕ, ℤ, suc, List, [], ◌∷◌, length, refl, sym, ap, ◌∙◌, subst, arith, None}
+use Rattle.std.specs.Prelude.{Result, Ok, Err}
 use Rattle.joint_ops.specs.ps_outside.Outside.{Outside}
 use Rattle.joint_ops.specs.obj_layout.Stored.{Space}
 use Rattle.joint_ops.specs.obj_layout.declared.kind.Kind.TheVariants as kind
@@ -21,18 +21,17 @@ use Rattle.joint_ops.specs.heap_places.declared.value.Value as code
 use Rattle.joint_ops.specs.heap_places.declared.value.Value.TheVariants as held
 use Rattle.joint_ops.specs.heap_places.Filling.{AreNear, Fills, refs_of, words_of, filled, filled_words}
 use Rattle.joint_ops.proofs.of_heap_places.FillingLaws.{rows-length}
-use Rattle.joint_ops.specs.ps_heap.Operators.{is_int}
 use Rattle.joint_ops.specs.ps_heap.Texts.{Yields}
-use Rattle.joint_ops.specs.ps_heap.Values.{Value, Num, Flag, Text, Pointer, is_one}
+use Rattle.joint_ops.specs.ps_heap.Values.{Value, Pointer, is_one}
 use Rattle.joint_ops.specs.ps_heap.Objects.{Heap, Structure}
 use Rattle.joint_ops.specs.ps_heap.Weights.{own_weight}
-use Rattle.joint_ops.specs.World.{IsWorld, DenotesIn, IsForIn}
+use Rattle.joint_ops.specs.World.{IsWorld, IsForIn}
 use Rattle.joint_ops.specs.Operands.{AreForIn}
 use Rattle.joint_ops.specs.Made.{Makes}
 use Rattle.joint_ops.proofs.MadeLaws.{makes-structure}
 use Rattle.joint_ops.proofs.GrowthLaws.{full-short}
 use Rattle.joint_ops.proofs.ValueLaws.{denotes-text}
-use Rattle.structure_rows.specs.Rows.{object_in, named, row_values, AreInts}
+use Rattle.structure_rows.specs.Rows.{named, row_values, AreInts}
 use Rattle.structure_rows.proofs.RowLaws.{codes, same-refs, same-words}
 use Rattle.objects.specs.declared.class_rows.ClassRows.{ClassRows}
 use Rattle.objects.specs.Makes.{HasRows, AreRowsFor}
@@ -132,11 +131,11 @@ module _ (old new : area.Heap) (outside : Outside Space) (of : Heap) (names : Li
   r : (rows_of fs).refs ≡ length ws
   r = sym (refs ∙ ap (λ (x : Rows). x.refs) has.tells.rows)
 
-  pub rows-made : (at : ℕ) → IsHeap old → AreNear old (named ws) → AreInts zs
+  pub rows-made : (at : ℕ) → IsHeap old → IsHeap new → AreNear old (named ws) → AreInts zs
       → Fills old new kind.Structure class.text None (row_values class.fields.flags.bits zs ws) (Ok at) → IsWorld old outside of names
       → Makes old new outside of names Pointer (Yields (Structure bytes vs)) (Ok at)
-  rows-made at heap near ints f world =
-      makes-structure outside old new of names class.text (codes fs zs ws) bytes vs at heap has.held (near-codes old fs zs ws near)
+  rows-made at heap now near ints f world =
+      makes-structure outside old new of names class.text (codes fs zs ws) bytes vs at heap now has.held (near-codes old fs zs ws near)
       (fills-same old new class.text (row_values class.fields.flags.bits zs ws) (codes fs zs ws) (Ok at) (same-refs fs class.fields.flags.bits zs ws n r)
       (same-words fs class.fields.flags.bits zs ws has.tells.marked n r) f) world
       (denotes-text old outside names class.text bytes has.held has.kind refl) (rows-codes old outside names fs zs ws vs ints are)

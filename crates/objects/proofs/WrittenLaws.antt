@@ -25,14 +25,14 @@ use Rattle.joint_ops.specs.heap_ops.Vectors.{index_of, fitted}
 use Rattle.joint_ops.proofs.of_heap_meaning.GivenLaws.{shown_with}
 use Rattle.objects.specs.Lasting.{Lasts}
 use Rattle.joint_ops.specs.World.{IsOfForm}
-use Rattle.joint_ops.proofs.RewriteLaws.{Rewritten, rewritten}
+use Rattle.joint_ops.proofs.RewriteLaws.{Replaced, rewritten}
 
 -- The heap with another list of the assigned.
 
 relisted : Heap → List ℕ → Heap
 relisted heap assigned = record heap { assigned = assigned }
 
-as-relisted : (mid new : Heap) (at : ℕ) (it : Shown) → (r : Rewritten mid new at it) → new ≡ relisted (with_another mid at r.object) new.assigned
+as-relisted : (mid new : Heap) (at : ℕ) (it : Shown) → (r : Replaced mid new at it) → new ≡ relisted (with_another mid at r.object) new.assigned
 unfolding relisted
 as-relisted mid new at it r =
     ap (λ (os : List area_objects.Object). record new { objects = os }) r.objects
@@ -52,7 +52,7 @@ stays-relisted mid put assigned at s = record {
   nums = s.nums;
 }
 
-stays-other : (mid new : Heap) (at j : ℕ) (it : Shown) → IsHeld mid at → Rewritten mid new at it → IsHeld mid j → j ≢ at → Stays mid new j
+stays-other : (mid new : Heap) (at j : ℕ) (it : Shown) → IsHeld mid at → Replaced mid new at it → IsHeld mid j → j ≢ at → Stays mid new j
 stays-other mid new at j it there r held ne =
     let put = with_another mid at r.object in
     let long = like_long (object_at mid at) r.object r.like in
@@ -72,12 +72,12 @@ unfolding relisted
 shown-relisted put assigned at = refl
 
 -- and it is seen itself
-rewritten-shown : (mid new : Heap) (at : ℕ) (it : Shown) → IsHeld mid at → Rewritten mid new at it → shown_at new at ≡ it
+rewritten-shown : (mid new : Heap) (at : ℕ) (it : Shown) → IsHeld mid at → Replaced mid new at it → shown_at new at ≡ it
 rewritten-shown mid new at it there r =
     let put = with_another mid at r.object in
     ap (λ (x : Heap). shown_at x at) (as-relisted mid new at it r) ∙ shown-relisted put new.assigned at ∙ shown-replaced mid at r.object there r.like ∙ r.shown_is
 
-rewritten-stands : (mid new : Heap) (at : ℕ) (it : Shown) → IsHeld mid at → Rewritten mid new at it → AllStand mid new
+rewritten-stands : (mid new : Heap) (at : ℕ) (it : Shown) → IsHeld mid at → Replaced mid new at it → AllStand mid new
 unfolding relisted
 rewritten-stands mid new at it there r =
     let put = with_another mid at r.object in
@@ -89,7 +89,7 @@ IsBoundOf a b = (slot_of a 0 ≡ slot_of b 0) × (word_in a 1 ≡ word_in b 1)
 
 rewritten-lasts : (mid new : Heap) (at : ℕ) (it : Shown) → IsHeld mid at → (HasBytes (header_at mid at).kind → ⊥)
     → ((header_at mid at).kind ≢ kind.Closure) → ((header_at mid at).kind ≡ kind.Vector → IsBoundOf it (shown_at mid at))
-    → Rewritten mid new at it → Lasts mid new
+    → Replaced mid new at it → Lasts mid new
 rewritten-lasts mid new at it there bytes closure bound r = record {
   size = r.size;
   stands = rewritten-stands mid new at it there r;

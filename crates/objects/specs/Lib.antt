@@ -18,3 +18,4 @@ pub use Rattle.joint_ops.specs.heap_ops as heap_ops
 pub use Rattle.joint_ops.specs.proc_values as proc_values
 pub use Rattle.structure_rows.specs as structure_rows
 pub use Rattle.joint_ops.specs as joint_ops
+pub use Rattle.joint_tables.specs as joint_tables

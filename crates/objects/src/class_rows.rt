@@ -48,7 +48,9 @@ pub(crate) fn make_of_rows<V: Vault>(
     ensures fails { BreaksAsMaking sw.old sw.new result }
 {
     sw.sound();
-    match make_rows(sw, class.text, class.fields.flags, nums, refs) {
+    let made = make_rows(sw, class.text, class.fields.flags, nums, refs);
+    sw.sound();
+    match made {
         Ok(at) => Ok(at),
         Err(fault) => Err(OpFault::Swizzle(fault)),
     }

@@ -2,14 +2,13 @@
 ghost use Rattle.std.specs.Prelude.{◌≡◌, ℕ, List, IfOk, OnOk};
 ghost use Rattle.ps_base.specs.CodeUnit.{ConstantsView, unit};
 ghost use Rattle.ps_base.specs.declared.code_unit.Frame.{Frame};
-ghost use Rattle.joint_ops.specs.obj_layout.declared.reference.Reference.{Reference};
 ghost use Rattle.joint_ops.specs.obj_layout.Storing.{SameNumbers};
 ghost use Rattle.joint_ops.specs.proc_values.Reading.{IsDamaged};
 ghost use Rattle.joint_ops.specs.swizzle.Heap.{IsHeld, header_at};
 ghost use Rattle.joint_ops.specs.swizzle.Reading.{LeavesOutside};
 ghost use Rattle.joint_ops.specs.swizzle.Touch.{Keeps};
-ghost use Rattle.joint_ops.specs.ps_heap.Objects as meaning;
-ghost use Rattle.joint_ops.specs.World.{IsUnitIn, IsWorld, Stands, FailsAsReading};
+ghost use Rattle.joint_ops.specs.Code.{StandsBy};
+ghost use Rattle.joint_ops.specs.World.{IsUnitIn, FailsAsReading};
 ghost use Rattle.objects.specs.Classes.{AnswersClass};
 
 use joint_ops::code::constant as object_of_constant;
@@ -32,8 +31,7 @@ pub(crate) fn class_at<V: Vault>(
     requires held { IsHeld sw.old code }
     ensures given { (bytes : List ℕ) (row : ConstantsView) (frame : Frame) → IsUnitIn sw.old (V.outside vault.old) code (unit bytes row frame)
         → AnswersClass sw.old sw.new (V.outside vault.old) (V.outside vault.new) code row constant result }
-    ensures world { OnOk result ((of : meaning.Heap) (names : List Reference) → IsWorld sw.old (V.outside vault.old) of names
-        → Stands sw.old sw.new (V.outside vault.old) (V.outside vault.new) of names) }
+    ensures world { OnOk result (StandsBy sw.old sw.new (V.outside vault.old) (V.outside vault.new) code) }
     ensures held { IfOk result (IsHeld sw.new) }
     ensures text { IfOk result (λ at. (header_at sw.new at).kind ≡ Kind.Text) }
     ensures keeps { OnOk result (Keeps sw.old sw.new) }

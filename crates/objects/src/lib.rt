@@ -15,4 +15,5 @@ mod places;
 
 pub use joint_ops;
 pub use joint_ops::{OpFault, Value, obj_layout, swizzle};
+pub use joint_tables;
 pub use structure_rows;

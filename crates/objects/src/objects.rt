@@ -16,6 +16,7 @@ mod residence;
 mod row_makes;
 mod scope_objects;
 mod structures;
+mod tables;
 mod texts;
 mod units;
 mod vectors;

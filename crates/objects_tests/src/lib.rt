@@ -19,6 +19,10 @@ mod row_making;
 #[cfg(test)]
 mod store;
 #[cfg(test)]
+mod table_store;
+#[cfg(test)]
+mod tables;
+#[cfg(test)]
 mod turns;
 #[cfg(test)]
 mod vector_store;

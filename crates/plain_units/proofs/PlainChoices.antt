@@ -83,24 +83,28 @@ pub bound_plain : (upper : Bool) → IsPlain (choice.bound upper)
 bound_plain true = refl
 bound_plain false = refl
 
--- Calls of the library: those from 9 on run.
+pub scan_plain : (text : Bool) (q s end : ℕ) (line : Line) → IsPlain (choice.scan text q s end line)
+scan_plain true q s end line = refl
+scan_plain false q s end line = refl
 
-from_nine : (n : ℕ) → is_plain_call (library_procedure (suc (suc (suc (suc (suc (suc (suc (suc (suc n)))))))))) ≡ true
+-- Calls of the library: those from 3 on run.
+
+from_three : (n : ℕ) → is_plain_call (library_procedure (suc (suc (suc n)))) ≡ true
 unfolding library_procedure
-from_nine zero = refl
-from_nine (suc zero) = refl
-from_nine (suc (suc zero)) = refl
-from_nine (suc (suc (suc zero))) = refl
-from_nine (suc (suc (suc (suc n)))) = refl
+from_three zero = refl
+from_three (suc zero) = refl
+from_three (suc (suc zero)) = refl
+from_three (suc (suc (suc zero))) = refl
+from_three (suc (suc (suc (suc zero)))) = refl
+from_three (suc (suc (suc (suc (suc zero))))) = refl
+from_three (suc (suc (suc (suc (suc (suc zero)))))) = refl
+from_three (suc (suc (suc (suc (suc (suc (suc zero))))))) = refl
+from_three (suc (suc (suc (suc (suc (suc (suc (suc zero)))))))) = refl
+from_three (suc (suc (suc (suc (suc (suc (suc (suc (suc zero))))))))) = refl
+from_three (suc (suc (suc (suc (suc (suc (suc (suc (suc (suc n)))))))))) = refl
 
 pub call_plain : (code : ℕ) (line : Line) → line_if (not (is_built code)) line ≡ None → is_plain_call (library_procedure code) ≡ true
 call_plain zero line h = absurd cc
 call_plain (suc zero) line h = absurd cc
 call_plain (suc (suc zero)) line h = absurd cc
-call_plain (suc (suc (suc zero))) line h = absurd cc
-call_plain (suc (suc (suc (suc zero)))) line h = absurd cc
-call_plain (suc (suc (suc (suc (suc zero))))) line h = absurd cc
-call_plain (suc (suc (suc (suc (suc (suc zero)))))) line h = absurd cc
-call_plain (suc (suc (suc (suc (suc (suc (suc zero))))))) line h = absurd cc
-call_plain (suc (suc (suc (suc (suc (suc (suc (suc zero)))))))) line h = absurd cc
-call_plain (suc (suc (suc (suc (suc (suc (suc (suc (suc n))))))))) line h = from_nine n
+call_plain (suc (suc (suc n))) line h = from_three n

@@ -26,7 +26,7 @@ use Rattle.ps_built.specs.First.{or_else}
 use Rattle.ps_built.specs.Library.{own_library, library_in, first_unbuilt_library}
 use Rattle.ps_built.specs.inside.LibraryParts.{library_in_part, library_in_parts, library_in_all, library_in_arms}
 use Rattle.ps_built.proofs.LibraryParts.{library_is, library_of_all, arms_then}
-use Rattle.plain_units.proofs.PlainChoices.{IsPlain, by_type_plain, flag_plain, get_plain, set_plain, arith_plain, compare_plain, write_plain, bound_plain, call_plain}
+use Rattle.plain_units.proofs.PlainChoices.{IsPlain, by_type_plain, flag_plain, get_plain, set_plain, arith_plain, compare_plain, write_plain, bound_plain, call_plain, scan_plain}
 
 abbrev ArePlain : List Instr → Type 0
 ArePlain is = AllByRecursion IsPlain is
@@ -153,7 +153,10 @@ mutual
   plain (node.Lib code args line) h at k =
       let p = found (node.Lib code args line) h in
       join _ _ (plain_all args (all_clear operand (λ n. refl) args p.1) _ _) (call_plain code line p.0, tt)
-  plain (node.Scan text a f q s line) h at k = absurd cc
+  plain (node.Scan text a f q s line) h at k =
+      let p = clear (node.Scan text a f q s line) h in
+      join _ _ (plain a p.0 _ _)
+      (refl, join _ _ (plain f p.1.0 _ _) (refl, (refl, (refl, (refl, (refl, (refl, (refl, (scan_plain text q s _ line, (refl, (refl, (refl, tt))))))))))))
   plain (node.Write e w wide ty line) h at k =
       let p = clear (node.Write e w wide ty line) h in join _ _ (plain e p.0 _ _) (join _ _ (plain w p.1.0 _ _) (write_plain ty wide line, tt))
   plain (node.Abort line) h at k = (refl, tt)

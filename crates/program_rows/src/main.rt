@@ -11,7 +11,7 @@ use answer::Commands;
 use table_rows::Tables;
 use table_rows::anyhow::Result;
 
-const FILES: [&str; 36] = [
+const FILES: [&str; 38] = [
     "ints.rows",
     "bools.rows",
     "widths.rows",
@@ -45,6 +45,8 @@ const FILES: [&str; 36] = [
     "lines_of_pointers.rows",
     "lines_of_strings.rows",
     "lines_of_traps.rows",
+    "tables.rows",
+    "scans.rows",
     "refused.rows",
     "refused_procedures.rows",
     "whole_programs.rows",

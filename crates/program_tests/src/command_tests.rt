@@ -89,9 +89,12 @@ static FIRST_FAULTS: [(&[u8], &[u8]); 24] = [
         b"structure s(int a;\n*proc() f, a)",
         b"x.ps: check 2 at line 2\n",
     ),
-    (b"write 1,\ncardinality(nil)", b"x.ps: check 8 at line 2\n"),
     (
-        b"let f = proc( -> int)\ncardinality(nil)",
+        b"write 1,\ncardinality(commit())",
+        b"x.ps: check 8 at line 2\n",
+    ),
+    (
+        b"let f = proc( -> int)\ncardinality(commit())",
         b"x.ps: check 8 at line 2\n",
     ),
     (b"write eof()\nwrite b", b"x.ps: check 1 at line 2\n"),

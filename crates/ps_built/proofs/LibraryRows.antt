@@ -27,27 +27,36 @@ line_read = refl
 end_tested : first (call 10 none 2) ≡ None
 end_tested = refl
 
-counted : first (call 8 none 2) ≡ Some (line 2)
+counted : first (call 8 none 2) ≡ None
 counted = refl
 
-beyond : first (call 13 none 2) ≡ Some (line 2)
-beyond = refl
+made : first (call 3 none 2) ≡ None
+made = refl
+
+created : first (call 0 none 2) ≡ Some (line 2)
+created = refl
+
+opened : first (call 1 none 2) ≡ Some (line 2)
+opened = refl
+
+committed : first (call 2 none 2) ≡ Some (line 2)
+committed = refl
 
 -- a call stands before its arguments
-call_first : first (call 3 (more (call 2 none 3) none) 2) ≡ Some (line 2)
+call_first : first (call 1 (more (call 2 none 3) none) 2) ≡ Some (line 2)
 call_first = refl
 
 argument : first (call 11 (more (call 2 none 3) none) 2) ≡ Some (line 3)
 argument = refl
 
-in_order : first (node.Block None (more (call 11 none 1) (more (call 2 none 2) (more (call 3 none 3) none)))) ≡ Some (line 2)
+in_order : first (node.Block None (more (call 11 none 1) (more (call 2 none 2) (more (call 1 none 3) none)))) ≡ Some (line 2)
 in_order = refl
 
-in_literal : first (node.Proc (body [] ty.Pntr (call 3 none 4) None (line 3))) ≡ Some (line 4)
+in_literal : first (node.Proc (body [] ty.Pntr (call 2 none 4) None (line 3))) ≡ Some (line 4)
 in_literal = refl
 
-scanned_in_literal : first (node.Proc (body [] ty.Int (node.Scan true node.Nil node.Nil 0 0 (line 4)) None (line 3))) ≡ Some (line 4)
-scanned_in_literal = refl
-
-scanned : first (node.Scan true (call 3 none 3) node.Nil 0 0 (line 2)) ≡ Some (line 2)
+scanned : first (node.Scan true node.Nil node.Nil 0 0 (line 2)) ≡ None
 scanned = refl
+
+scanned_after : first (node.Scan true (call 2 none 3) node.Nil 0 0 (line 2)) ≡ Some (line 3)
+scanned_after = refl

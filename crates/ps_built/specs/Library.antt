@@ -1,19 +1,18 @@
--- The calls of the library that don't run yet, those over tables and databases, and the first of them in the text.
-use Rattle.std.specs.Prelude.{ℕ, nat_eq, Bool, ◌||◌, not, Option, Some, None, List, [], ◌∷◌}
+-- The calls of the library that don't run yet, those over databases, and the first of them in the text.
+use Rattle.std.specs.Prelude.{ℕ, nat_lt, Bool, not, Option, None, List, [], ◌∷◌}
 use Rattle.ps_base.specs.declared.line.Line.{Line}
 use Rattle.ps_program.specs.Node.{Node, BodyNode, body}
 use Rattle.ps_program.specs.Node as node
 use Rattle.ps_program.specs.Parts.{Part, operand, label, branch, literal, fold}
 use Rattle.ps_built.specs.First.{or_else, line_if}
 
--- `length` and `iformat` run, and `read.a.line` and `eof`
+-- all run but the first three, `create.database`, `open.database` and `commit`
 abbrev pub is_built : ℕ → Bool
-is_built code = (nat_eq code 11 || nat_eq code 12) || (nat_eq code 9 || nat_eq code 10)
+is_built code = nat_lt 2 code
 
--- a call of the library by itself; a scan is one that has no code
+-- a call of the library by itself
 abbrev pub own_library : Node → Option Line
 own_library (node.Lib code args line) = line_if (not (is_built code)) line
-own_library (node.Scan text a f q s line) = Some line
 own_library _ = None
 
 abbrev pub first_of : List (Part (Option Line)) → Option Line

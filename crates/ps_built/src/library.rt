@@ -11,17 +11,11 @@ use ps_program::body::Program;
 use ps_program::form::{Arm, Tree, TreeForm};
 use ps_program::parts::{Further, Parts};
 
-/// The procedures of the library that are built, by their codes.
-const READ_A_LINE: u8 = 9;
+// The last of the procedures of the library that aren't built: `create.database`, `open.database` and `commit` have the codes 0 to 2.
+const COMMIT: u8 = 2;
 
-const EOF: u8 = 10;
-
-const LENGTH: u8 = 11;
-
-const IFORMAT: u8 = 12;
-
-/// The line of the first call in the text of a program of a library procedure that isn't built yet: any but `read.a.line`, `eof`, `length` and
-/// `iformat`; or `None` where there is none. Takes no memory.
+/// The line of the first call in the text of a program of a library procedure that isn't built yet, `create.database`, `open.database` or `commit`;
+/// or `None` where there is none. Takes no memory.
 pub fn first_unbuilt_library(program: &Program) -> Option<Line>
     ensures { result ≡ first_unbuilt_library_of (body_of program.now.body) }
 {
@@ -130,7 +124,6 @@ fn own(tree: &Tree) -> Option<Line>
 {
     match &*tree.form {
         TreeForm::Lib { code, line, .. } => call_of(*code, *line),
-        TreeForm::Scan { line, .. } => Some(*line),
         _ => None,
     }
 }
@@ -139,7 +132,7 @@ fn own(tree: &Tree) -> Option<Line>
 fn call_of(code: u8, line: Line) -> Option<Line>
     ensures { result ≡ line_if (not (is_built_of code)) line }
 {
-    if code == LENGTH || code == IFORMAT || code == READ_A_LINE || code == EOF {
+    if code > COMMIT {
         return None;
     }
     Some(line)

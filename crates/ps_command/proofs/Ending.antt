@@ -48,7 +48,7 @@ use Rattle.machine_run.specs.swizzle.declared.fault.SwizzleFault.{SwizzleFault}
 use Rattle.machine_run.specs.swizzle.declared.fault.SwizzleFault.TheVariants.{AreaFull, Vault}
 use Rattle.machine_run.specs.machine_core.declared.machine.Machine.{Machine}
 use Rattle.machine_run.specs.machine_core.declared.run_end.RunEnd.{RunEnd}
-use Rattle.machine_run.specs.machine_core.Full.{MakesOne, StoresOne}
+use Rattle.machine_run.specs.machine_core.Full.{MakesOne, EntersOne, StoresOne}
 use Rattle.machine_run.specs.machine_core.Holding.{Holds}
 use Rattle.machine_run.specs.machine_core.ps_stepping.Plain.{is_plain, PlainSteps, at_plain, at_another, at_none}
 use Rattle.machine_run.specs.machine_core.Stepped.{end_of}
@@ -73,7 +73,7 @@ use Rattle.ps_causes.specs.ps_reports.Reports.{area_full_line}
 use Rattle.ps_causes.proofs.of_ps_reports.Behind.{answers_then, told_none}
 use Rattle.ps_causes.proofs.of_ps_volumes.Settled.{answers_keep}
 use Rattle.ps_causes.specs.Command.{its_end, area_full}
-use Rattle.ps_causes.specs.Filling.{area_size, begin, unit_events, FillsArea, of_the_unit, of_a_step}
+use Rattle.ps_causes.specs.Filling.{area_size, begin, unit_events, FillsArea, IsWanted, of_the_unit, of_a_step, of_an_entry}
 use Rattle.ps_causes.specs.Steps.{EndsRun}
 use Rattle.ps_command.specs.inside.Steps.{IsRunnable, IsReady, Concludes}
 use Rattle.ps_command.proofs.Programs.{first_fits}
@@ -349,16 +349,15 @@ module _ (old mid new : Outside (List ℕ)) where
     fills owed top wanted size answer (broke {events = events} {last = last} {s = s} way steps by tells) ends =
         let area : size ≡ area_size run = by.0 ∙ r.area in
         let made = only_made by.2 in
-        let goes = goes_on_plainly last events made.next way steps made.step_is in
-        let first = next_counted total made.next (events ++ []) goes.0 in
+        let goes = goes_on_plainly last events (next_of made) way steps (goes_next made) in
+        let first = next_counted total (next_of made) (events ++ []) goes.0 in
         let short = by.1 in
         let its = r.area in
         let full : FillsArea run input program events top wanted = record {
           next = first.0;
           rest = first.1;
           events_are = first.2 ∙ ap (λ (es : List Event). es ++ first.0 ∷ first.1) (append-nil events);
-          object = of_a_step way goes.1
-              (record { next = made.next; step_is = refl; before = made.before; weight = made.weight; makes = made.makes; words = made.words });
+          object = wanted_by made goes.1;
           short = omega (arith, its, short);
         } in
         elim (concluded owed tells.sent (outputs events) (Err (reports.AreaFull top wanted size)) answer tells.due_is (host_told tells.sent tells.tells) ends) [
@@ -368,9 +367,32 @@ module _ (old mid new : Outside (List ℕ)) where
           | inr fails ↦ failed_as answer fails.0 (front_failed events last way fails.1)
         ]
       where
-        only_made : MakesOne s wanted ⊎ StoresOne (outside_of old) wanted → MakesOne s wanted
-        only_made (inl made) = made
-        only_made (inr stored) = absurd stored.stored.there.is
+        only_made : MakesOne s wanted ⊎ (EntersOne s wanted ⊎ StoresOne (outside_of old) wanted) → MakesOne s wanted ⊎ EntersOne s wanted
+        only_made (inl made) = inl made
+        only_made (inr (inl enters)) = inr enters
+        only_made (inr (inr stored)) = absurd stored.stored.there.is
+
+        next_of : MakesOne s wanted ⊎ EntersOne s wanted → Config
+        next_of (inl made) = made.next
+        next_of (inr enters) = enters.next
+
+        goes_next : (by : MakesOne s wanted ⊎ EntersOne s wanted) → s ≡ Goes [] (next_of by)
+        goes_next (inl made) = made.step_is
+        goes_next (inr enters) = enters.step_is
+
+        wanted_by : (by : MakesOne s wanted ⊎ EntersOne s wanted) → Steps last (Goes [] (next_of by)) → IsWanted run input program events top wanted
+        wanted_by (inl made) step =
+            of_a_step way step (record { next = made.next; step_is = refl; before = made.before; weight = made.weight; makes = made.makes; words = made.words })
+        wanted_by (inr enters) step = of_an_entry way step (record {
+          next = enters.next;
+          step_is = refl;
+          before = enters.before;
+          key = enters.key;
+          table = enters.table;
+          value = enters.value;
+          enters = enters.enters;
+          words = enters.words;
+        })
 
     -- where the output failed in the run, nothing was pending
     cut_in : FailsAfter old mid (outputs meant) → EndsRun old mid run input program (Ok statuses.Output)

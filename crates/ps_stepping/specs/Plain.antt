@@ -1,22 +1,21 @@
--- The instructions that the machine has: all but those of tables, databases and scans. At one of these it is stuck, as where there is none.
+-- The instructions that the machine has: all but the calls on databases. At one of these it is stuck, as where there is none.
 use Rattle.std.specs.Prelude.{◌≡◌, ℕ, Bool, true, false, Option, Some, if◌then◌else◌}
 use Rattle.ps_code.specs.ps_base.declared.line.Line.{Line}
 use Rattle.ps_code.specs.ps_base.declared.instr.Instr.{Instr}
-use Rattle.ps_code.specs.ps_base.declared.instr.Instr.TheVariants.{Lib, ScanT, ScanI, ScanMore}
-use Rattle.ps_heap.specs.Library.{LibraryProcedure, OnHeap, library_procedure}
+use Rattle.ps_code.specs.ps_base.declared.instr.Instr.TheVariants.{Lib}
+use Rattle.ps_heap.specs.Library.{LibraryProcedure, OnHeap, CreateDatabase, OpenDatabase, Commit, library_procedure}
 use Rattle.ps_stepping.specs.Config.{Config, code_in, IsAt}
 use Rattle.ps_stepping.specs.Machine.{Step, Stuck, acts, act}
 use Rattle.ps_stepping.specs.Library.{library}
 
 abbrev pub is_plain_call : Option LibraryProcedure → Bool
-is_plain_call (Some (OnHeap of)) = false
+is_plain_call (Some (OnHeap CreateDatabase)) = false
+is_plain_call (Some (OnHeap OpenDatabase)) = false
+is_plain_call (Some (OnHeap Commit)) = false
 is_plain_call _ = true
 
 abbrev pub is_plain : Instr → Bool
 is_plain (Lib k line) = is_plain_call (library_procedure k)
-is_plain (ScanT q s t line) = false
-is_plain (ScanI q s t line) = false
-is_plain (ScanMore s t) = false
 is_plain _ = true
 
 -- what the machine does at an instruction whose own offset this is; the configuration stands after it already

@@ -16,7 +16,7 @@ use Rattle.closures.specs.swizzle.Heap.{Heap, IsHeap, IsHeld, nothing, top_of, h
 use Rattle.closures.specs.swizzle.Objects.{Object}
 use Rattle.closures.specs.swizzle.Joint.{Shown, shown_at, name_at, name_of}
 use Rattle.closures.specs.swizzle.Changes.{Within, Touched}
-use Rattle.closures.specs.swizzle.Touch.{Denotes, Keeps, IsNear, IsTouchCall, IsTouchFault}
+use Rattle.closures.specs.swizzle.Touch.{Denotes, Keeps, Only, IsNear, IsTouchCall, IsTouchFault}
 use Rattle.closures.specs.swizzle.Reading.{joint, Reads}
 use Rattle.closures.proofs.of_swizzle.DamageLaws.{passes-same, reports-same}
 use Rattle.closures.proofs.of_swizzle.NameLaws.{shown-counts, name-not_nil}
@@ -92,14 +92,14 @@ parent-below heap at h held none = refs_below heap at 1 h held (omega (arith, tw
 pub tells : (old new : Heap) (a b : Outside Space) (at : ℕ) (r : Result (Option ℕ) SwizzleFault) → way_damage (shown_at old at) ≡ None
     → IfOk r (λ to. Denotes new to (name_of old (ref_at old at 1))) → OnOk r (Keeps old new)
     → OnOk r (Touched (joint old a) (joint new b) (name_of old (ref_at old at 1)))
-    → (IsNear old (name_of old (ref_at old at 1)) → top_of new ≡ top_of old)
+    → (IsNear old (name_of old (ref_at old at 1)) → top_of new ≡ top_of old) → OnOk r (Only old new (name_of old (ref_at old at 1)))
     → IsTouchCall old new a b r → IfErr r (IsTouchFault old a (ref_at old at 1)) → TellsParent old new a b at r
-tells old new a b at (Ok to) sound target keeps touched near call fault = record {
+tells old new a b at (Ok to) sound target keeps touched near only call fault = record {
   sound = sound;
   denotes = denotes-slot old new at 1 to target;
-  reads = reads-slot old new a b at 1 to keeps touched near call;
+  reads = reads-slot old new a b at 1 to keeps touched near only call;
 }
-tells old new a b at (Err f) sound target keeps touched near call fault = (fails-touch old new a b f call, inr (sound, fault))
+tells old new a b at (Err f) sound target keeps touched near only call fault = (fails-touch old new a b f call, inr (sound, fault))
 
 -- The way, gone further.
 

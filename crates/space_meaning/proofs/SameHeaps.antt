@@ -1,5 +1,5 @@
 -- A space that stands for a heap stands for each that is the same but for ids: the row of names is put in the order of the other ids.
-use Rattle.std.proofs.Common.{◌≡◌, inl, inr, ℕ, zero, suc, ◌+◌, ◌<◌, Bool, true, false, nat_eq, List, [], ◌∷◌, length, map, refl, sym, ◌∙◌, ap, subst, arith, Option, Some, None}
+use Rattle.std.proofs.Common.{◌≡◌, inl, inr, ℕ, ℤ, zero, suc, ◌+◌, ◌<◌, Bool, true, false, nat_eq, List, [], ◌∷◌, length, map, refl, sym, ◌∙◌, ap, subst, arith, Option, Some, None}
 use Rattle.std.specs.Prelude.{if◌then◌else◌, max}
 use Rattle.std.specs.Option.{option_map}
 use Rattle.std.proofs.lemmas.Bool.{eq-eqb, eqb-true, eqb-false}
@@ -13,14 +13,14 @@ use Rattle.heap_meaning.specs.Tables.{IsTable}
 use Rattle.heap_meaning.specs.Standing.{Seen, Pairing}
 use Rattle.heap_meaning.specs.Paired.{name_in, paired}
 use Rattle.heap_fit.specs.ps_heap.Objects.{Heap, Object, Structure, Elements, Scope, Keyed, object_at}
-use Rattle.heap_fit.specs.ps_heap.Tables.{Table}
+use Rattle.heap_fit.specs.ps_heap.Tables.{Entry, Table, without_keys, by_strings, by_ints}
 use Rattle.heap_fit.specs.ps_heap.References.{next_in}
 use Rattle.heap_fit.specs.ps_heap.Databases.{Database, every_root}
 use Rattle.heap_fit.specs.ps_heap.Held.{StoredHeap, home_at}
 use Rattle.heap_fit.specs.database_meaning.Same.{renamed, renamed_table, renamed_database, IsInHeap, IsSame}
 use Rattle.heap_fit.specs.Heaps.{IsFitHeap}
 use Rattle.space_meaning.specs.Space.{SeenIn}
-use Rattle.space_meaning.specs.Stands.{IsHome, Both, AreNamed, IsDirectoryOf, stored, StandsUnder, SpaceStands}
+use Rattle.space_meaning.specs.Stands.{IsHome, Both, AreNamed, IsDirectoryOf, stored, HaveNoKeyTexts, StandsUnder, SpaceStands}
 use Rattle.heap_fit.proofs.Mentioned.{referred}
 use Rattle.fit_soundness.proofs.FitSame.{fit-same}
 use Rattle.space_meaning.proofs.Renamed.{Carries, thing-renamed, table-renamed}
@@ -214,6 +214,7 @@ stands-same_under space a b s names fit stands = record {
         let y = among j n also in
         sym x.0 ∙ ap s.new (stands.tables.apart (s.back i) (s.back j) n x.1 y.1) ∙ y.0;
   };
+  plain = λ pid j entries p is. plain pid j entries is (back pid j p);
 }
   where
     on : (n : Reference) (id : ℕ) → IsInHeap a id → paired names n id → paired (names_same a b s names) n (s.new id)
@@ -261,6 +262,25 @@ stands-same_under space a b s names fit stands = record {
             (subst (λ (v : Table). IsTable (SeenIn space) (stored (names_same a b s names)) n v (stands.tables.nodes x.old)) same
             (table-renamed (SeenIn space) (stored names) (stored (names_same a b s names)) s.new n u (stands.tables.nodes x.old)
             (λ m id l q. (on m id (referred a x.old (Keyed u) there means id l) q.0, q.1, q.2)) was))
+
+    -- a table with int keys had int keys
+    plain : (pid j : ℕ) (entries : List (Entry ℤ)) → object_at b.objects j ≡ Some (Keyed (by_ints entries)) → Old s.new names (listed a) j pid → HaveNoKeyTexts (SeenIn space) (nodes j)
+    plain pid j entries is x =
+        let there = listed-in a x.old x.among in
+        let old = stands.both pid x.old x.named in
+        let means : object_at b.objects j ≡ Some (renamed s.new old.object) =
+        ap (object_at b.objects) (sym x.is_new) ∙ s.objects x.old there ∙ ap (option_map (renamed s.new)) old.means in
+        of old.object old.means (sym means ∙ is)
+      where
+        of : (o : Object) → object_at a.objects x.old ≡ Some o → Some (renamed s.new o) ≡ Some (Keyed (by_ints entries)) → HaveNoKeyTexts (SeenIn space) (nodes j)
+        of (Structure class fields) means e = absurd (cc)
+        of (Elements ty low elements) means e = absurd (cc)
+        of (Scope text parent values) means e = absurd (cc)
+        of (Keyed without_keys) means e = absurd (cc)
+        of (Keyed (by_strings es)) means e = absurd (cc)
+        of (Keyed (by_ints es)) means e =
+            let there = listed-in a x.old x.among in
+            subst (HaveNoKeyTexts (SeenIn space)) (sym (nodes-new x.old j there x.is_new)) (stands.plain pid x.old es x.named means)
 
     both : (pid j : ℕ) → Old s.new names (listed a) j pid → Both (SeenIn space) b (paired (names_same a b s names)) (Pid pid) j
     both pid j x =

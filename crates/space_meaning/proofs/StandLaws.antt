@@ -6,7 +6,7 @@ use Rattle.heap_meaning.specs.obj_layout.declared.reference.Reference.TheVariant
 use Rattle.heap_meaning.specs.obj_layout.Objects.{Placed, HoldsObjects}
 use Rattle.heap_meaning.specs.obj_layout.Stored.{Space}
 use Rattle.heap_meaning.specs.swizzle.Joint.{Shown}
-use Rattle.heap_meaning.specs.heap_places.Shapes.{word_in}
+use Rattle.heap_meaning.specs.heap_places.Shapes.{slot_of, word_in}
 use Rattle.heap_meaning.specs.node_rows.Nodes.{IsAmong}
 use Rattle.heap_meaning.specs.Standing.{Seen, IsLike}
 use Rattle.heap_meaning.specs.Tables.{IsTable}
@@ -14,13 +14,14 @@ use Rattle.heap_meaning.specs.Paired.{name_in, paired, StandsRow}
 use Rattle.heap_meaning.proofs.TableLaws.{no-node}
 use Rattle.heap_fit.specs.ps_heap.Objects.{Heap, Object, Structure, Elements, Scope, Keyed, object_at}
 use Rattle.heap_fit.specs.ps_heap.References.{values_of}
-use Rattle.heap_fit.specs.ps_heap.Tables.{Table}
+use Rattle.heap_fit.specs.ps_heap.Tables.{Table, by_ints}
 use Rattle.heap_fit.specs.ps_heap.Held.{StoredHeap, home_at}
 use Rattle.heap_fit.specs.Heaps.{IsFitHeap}
 use Rattle.ps_code_laws.specs.Compiled.{compiled_object, compiled_heap}
 use Rattle.space_meaning.specs.Space.{SeenIn}
 use Rattle.space_meaning.specs.Stands.{HasUnits, IsHome, Both, IsDirectoryOf, stored, StandsUnder, SpaceStands}
 use Rattle.space_meaning.specs.Keeping.{HaveUnits, IsKept}
+use Rattle.space_meaning.proofs.Seen.{seen-one}
 use Rattle.space_meaning.proofs.KeptLaws.{object-kept, table-kept, seen-far}
 
 -- An object of the machine's heap is one of the meaning's, compiled.
@@ -120,6 +121,12 @@ module _ (seen : Seen) (space : Space) (heap : StoredHeap) (names : List Referen
           let y = stored-of (name_in names j) (object_at (compiled_heap heap.objects) j) (row.stands.tables.nodes j) n b in
           row.stands.tables.apart i j n x.among y.among;
     };
+    plain = λ pid id entries p e n it a there.
+        let o = stored-of (name_in names id) (object_at (compiled_heap heap.objects) id) (row.stands.tables.nodes id) n a in
+        let made = compiled-at heap.objects id (by_ints entries) e in
+        let k = row.stands.tables.are_nodes id n o.among in
+        let same = seen-one space n it k.it there (kept.in_tables pid id (by_ints entries) p made n o.among k.it k.there) in
+        ap (λ (x : Shown). slot_of x 2) same ∙ kept.plain pid id entries p made n k.it o.among k.there;
   }
 
   pub space-stands : (objects : List Placed) → HoldsObjects space.words objects → IsFitHeap heap → SpaceStands space heap

@@ -46,6 +46,7 @@ stands-without space objects heap cut no_directory no_database = record {
       are_nodes = λ id n a. absurd a;
       apart = λ i j n a b. absurd a;
     };
+    plain = λ pid id entries p is n it a there. absurd a;
   };
 }
   where

@@ -1,6 +1,6 @@
 -- A worked space: a database whose root has one entry, a structure with an int, a string and the root. It stands for its heap. With another home of
 -- the structure, or another number of entries of the table, it doesn't.
-use Rattle.std.proofs.Common.{◌≡◌, ◌≢◌, ◌⊎◌, inl, inr, ℕ, zero, suc, List, [], ◌∷◌, refl, sym, ◌∙◌, ap, subst, arith, pos, Some}
+use Rattle.std.proofs.Common.{◌≡◌, ◌≢◌, ◌⊎◌, inl, inr, ℕ, ℤ, zero, suc, List, [], ◌∷◌, refl, sym, ◌∙◌, ap, subst, arith, pos, Some}
 use Rattle.std.specs.Prelude.{codes}
 use Rattle.heap_meaning.specs.obj_layout.declared.kind.Kind.TheVariants as kind
 use Rattle.heap_meaning.specs.obj_layout.declared.reference.Reference.{Reference}
@@ -22,7 +22,7 @@ use Rattle.heap_meaning.specs.node_rows.Nodes.{I, IsAmong as IsNameAmong, link_o
 use Rattle.heap_meaning.specs.Tables.{ArePairs, IsTable, TablesStand}
 use Rattle.heap_meaning.specs.Standing.{IsKindOf, IsPointed}
 use Rattle.heap_meaning.specs.Paired.{paired}
-use Rattle.heap_fit.specs.ps_heap.Tables.{Table, by_strings, cardinality}
+use Rattle.heap_fit.specs.ps_heap.Tables.{Entry, Table, by_strings, by_ints, cardinality}
 use Rattle.heap_fit.specs.ps_heap.Objects.{Object, Structure, Keyed, object_at}
 use Rattle.heap_fit.specs.ps_heap.References.{next_in}
 use Rattle.heap_fit.specs.ps_heap.Databases.{every_root}
@@ -33,7 +33,7 @@ use Rattle.heap_fit.specs.ps_soundness.ps_meaning.ps_base.TyView as types
 use Rattle.heap_fit.specs.ps_soundness.ps_type_text.Texts.{Field, IsNamed, is_name_byte}
 use Rattle.heap_fit.specs.Heaps.{at_structure, at_table, IsFitAt, IsFitHeap}
 use Rattle.space_meaning.specs.Space.{IsStored, SeenIn}
-use Rattle.space_meaning.specs.Stands.{IsThing, IsHome, Both, AreNamed, IsDirectory, stored, StandsUnder, SpaceStands}
+use Rattle.space_meaning.specs.Stands.{IsThing, IsHome, Both, AreNamed, IsDirectory, stored, HaveNoKeyTexts, StandsUnder, SpaceStands}
 use Rattle.space_meaning.proofs.Seen.{seen-one}
 use Rattle.heap_meaning.proofs.TreeLaws.{nil-leaf, sides-of, one-value}
 use Rattle.space_meaning.proofs.Trees.{node_shown}
@@ -392,8 +392,14 @@ tables-stand = record { nodes = nodes_at; each = each; are_nodes = are_nodes; ap
     apart zero (suc j) n a b = absurd b
     apart (suc i) j n a b = absurd a
 
+-- no table of the heap has int keys
+none-by_ints : (pid id : ℕ) (entries : List (Entry ℤ)) → paired names (Pid pid) id → object_at heap.objects id ≡ Some (Keyed (by_ints entries)) → HaveNoKeyTexts (SeenIn (space 1 1)) (nodes_at id)
+none-by_ints pid zero entries p is = absurd (cc)
+none-by_ints pid (suc zero) entries p is = absurd (cc)
+none-by_ints pid (suc (suc id)) entries p is = absurd (cc)
+
 pub worked_out : SpaceStands (space 1 1) heap
-unfolding space
+unfolding space tables-stand
 worked_out = record {
   fit = heap-fits;
   objects = objects 1 1;
@@ -404,6 +410,7 @@ worked_out = record {
     both = both-are;
     one_number = one-number;
     tables = tables-stand;
+    plain = none-by_ints;
   };
 }
 

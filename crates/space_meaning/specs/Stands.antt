@@ -1,13 +1,14 @@
 -- A space stands for a heap: under a row of names, the PIDs of its things, what is seen in it is what the heap keeps.
-use Rattle.std.specs.Prelude.{◌≡◌, ℕ, List, [], ◌∷◌, Option, Some, None}
+use Rattle.std.specs.Prelude.{◌≡◌, ℕ, ℤ, List, [], ◌∷◌, Option, Some, None}
 use Rattle.std.specs.List.{AllByRecursion}
 use Rattle.heap_meaning.specs.obj_layout.declared.kind.Kind.TheVariants as kind
 use Rattle.heap_meaning.specs.obj_layout.declared.reference.Reference.{Reference}
-use Rattle.heap_meaning.specs.obj_layout.declared.reference.Reference.TheVariants.{Pid}
+use Rattle.heap_meaning.specs.obj_layout.declared.reference.Reference.TheVariants.{Nil, Pid}
 use Rattle.heap_meaning.specs.obj_layout.Objects.{Placed, HoldsObjects}
 use Rattle.heap_meaning.specs.obj_layout.Stored.{Space}
 use Rattle.heap_meaning.specs.swizzle.Joint.{Shown}
-use Rattle.heap_meaning.specs.heap_places.Shapes.{word_in, IsText}
+use Rattle.heap_meaning.specs.heap_places.Shapes.{slot_of, word_in, IsText}
+use Rattle.heap_meaning.specs.node_rows.Nodes.{IsAmong}
 use Rattle.ps_code_laws.specs.ps_gen.Units.{HasUnit}
 use Rattle.ps_code_laws.specs.ps_heap.Values.{Value, Procedure, as_written}
 use Rattle.ps_code_laws.specs.ps_heap.Objects as object
@@ -16,6 +17,7 @@ use Rattle.ps_code_laws.specs.Literals.{BodyIs}
 use Rattle.heap_meaning.specs.Tables.{TablesStand}
 use Rattle.heap_meaning.specs.Standing.{Seen, Pairing, IsKindOf, IsLike}
 use Rattle.heap_meaning.specs.Paired.{paired}
+use Rattle.heap_fit.specs.ps_heap.Tables.{Entry, by_ints}
 use Rattle.heap_fit.specs.ps_heap.Objects.{Object, Structure, Elements, Scope, Keyed, object_at}
 use Rattle.heap_fit.specs.ps_heap.Databases.{Database}
 use Rattle.heap_fit.specs.ps_heap.Held.{StoredHeap, home_at}
@@ -75,14 +77,20 @@ IsDirectoryOf seen pair pid (d ∷ ds) = IsDirectory seen pair pid (d ∷ ds)
 abbrev pub stored : List Reference → Pairing
 stored names n id = paired names n id × (pid : ℕ) × (n ≡ Pid pid)
 
+-- these nodes name no key text
+abbrev pub HaveNoKeyTexts : Seen → List Reference → Type 0
+HaveNoKeyTexts seen nodes = (n : Reference) (it : Shown) → IsAmong n nodes → seen n it → slot_of it 2 ≡ Nil
+
 -- A space stands for a heap under a row of names, one for each id; what isn't paired has a name that is no PID. The roots are paired, and so is
 -- all that what is paired refers to: so each object that is reached from the directory is. The pairing is one-to-one, what is paired is alike, and the
--- tables have their entries.
+-- tables have their entries; the nodes of a table with int keys name no key text.
 pub record StandsUnder (space : Space) (heap : StoredHeap) (names : List Reference) : Type 0 where
   pub directory : IsDirectoryOf (SeenIn space) (paired names) space.directory heap.directory
   pub both : (pid id : ℕ) → paired names (Pid pid) id → Both (SeenIn space) heap (paired names) (Pid pid) id
   pub one_number : (pid i j : ℕ) → paired names (Pid pid) i → paired names (Pid pid) j → i ≡ j
   pub tables : TablesStand (SeenIn space) heap.objects (stored names)
+  pub plain : (pid id : ℕ) (entries : List (Entry ℤ)) → paired names (Pid pid) id → object_at heap.objects id ≡ Some (Keyed (by_ints entries))
+      → HaveNoKeyTexts (SeenIn space) (tables.nodes id)
 
 -- a space that is cut into objects, and stands for a fit heap under some row of names
 pub record SpaceStands (space : Space) (heap : StoredHeap) : Type 0 where

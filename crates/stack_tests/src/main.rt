@@ -47,7 +47,7 @@ use unit_rows::table_rows::anyhow::{Context, Result};
 const INSTRUCTIONS: &str = "instructions.rows";
 
 /// The files of the tables.
-const TABLES: [&str; 16] = [
+const TABLES: [&str; 17] = [
     "values.rows",
     "loops.rows",
     "writes.rows",
@@ -57,6 +57,7 @@ const TABLES: [&str; 16] = [
     "known.rows",
     "classes.rows",
     "inputs.rows",
+    "tables.rows",
     "calls.rows",
     "full.rows",
     "hostile.rows",

@@ -1,18 +1,19 @@
 -- Touches one after another.
-use Rattle.std.proofs.Common.{inl, inr, ◌≡◌, ◌*◌, List, [], ◌∷◌, ◌++◌, refl, ap, ◌∙◌, arith}
+use Rattle.std.proofs.Common.{inl, inr, ◌⊎◌, ◌≡◌, ◌*◌, ℕ, List, [], ◌∷◌, ◌++◌, refl, ap, sym, subst, ◌∙◌, arith}
 use Rattle.std.specs.Prelude.{Result, Ok, Err, take, drop}
 use Rattle.obj_layout.specs.ps_outside.Outside.{Outside}
 use Rattle.obj_layout.proofs.of_ps_outside.Moments.{along_none, along_then, along_now}
 use Rattle.obj_area.specs.Words.{bytes_of}
 use Rattle.obj_layout.specs.Stored.{Space}
 use Rattle.obj_layout.specs.declared.reference.Reference.{Reference}
+use Rattle.obj_layout.specs.declared.reference.Reference.TheVariants.{Nil}
 use Rattle.swizzle.specs.declared.fault.SwizzleFault.{SwizzleFault}
 use Rattle.swizzle.specs.Objects.{words_before}
-use Rattle.swizzle.specs.Heap.{Heap, top_of}
-use Rattle.swizzle.specs.Joint.{Shown}
-use Rattle.swizzle.specs.Changes.{Within, Touched}
-use Rattle.swizzle.specs.Touch.{Keeps, IsNear, IsTouchCall}
-use Rattle.swizzle.specs.Reading.{joint, AreKnown, AreNear, LeavesOutside, Reads, FailsReading, TextsStay}
+use Rattle.swizzle.specs.Heap.{Heap, IsHeld, top_of}
+use Rattle.swizzle.specs.Joint.{Shown, name_at}
+use Rattle.swizzle.specs.Changes.{IsKnown, Within, Touched}
+use Rattle.swizzle.specs.Touch.{Keeps, Only, IsNear, IsTouchCall}
+use Rattle.swizzle.specs.Reading.{joint, AreKnown, AreNear, IsAmong, LeavesOutside, Reads, FailsReading, TextsStay}
 use Rattle.swizzle.proofs.TouchLaws.{keeps-refl, keeps-trans, rose_more}
 
 pub leaves-none : (outside : Outside Space) → LeavesOutside outside outside
@@ -43,20 +44,38 @@ reads-none heap outside names = record {
   grows = λ n it j. j;
   no_more = λ known n it j. j;
   idle = λ near. refl;
+  only = λ at held. inl held;
   outside = leaves-none outside;
   calls = omega arith;
 }
 
 -- One touch.
-pub reads-touch : {T : Type 0} (old new : Heap) (a b : Outside Space) (name : Reference) (x : T) → Keeps old new → Touched (joint old a) (joint new b) name → (IsNear old name → top_of new ≡ top_of old) → IsTouchCall old new a b (Ok x) → Reads old new a b (name ∷ [])
-reads-touch old new a b name x keeps touched near call = record {
+pub reads-touch : {T : Type 0} (old new : Heap) (a b : Outside Space) (name : Reference) (x : T) → Keeps old new → Touched (joint old a) (joint new b) name → (IsNear old name → top_of new ≡ top_of old) → Only old new name → IsTouchCall old new a b (Ok x) → Reads old new a b (name ∷ [])
+reads-touch old new a b name x keeps touched near only call = record {
   keeps = keeps;
   grows = touched.grows;
   no_more = λ known n it j. touched.no_more (known.0) n it j;
   idle = λ all. near (all.0);
+  only = λ at held. elim (only at held) [ inl was ↦ inl was | inr is ↦ inr (inl is) ];
   outside = leaves-touch old new a b (Ok x) call;
   calls = elim (call.calls) [ inl none ↦ omega (arith, none) | inr some ↦ omega (arith, some.0, some.1) ];
 }
+
+-- a name among some is among more
+pub among-first : (n : Reference) (names more : List Reference) → IsAmong n names → IsAmong n (names ++ more)
+among-first n [] more k = absurd k
+among-first n (m ∷ ms) more (inl e) = inl e
+among-first n (m ∷ ms) more (inr k) = inr (among-first n ms more k)
+
+pub among-last : (n : Reference) (names more : List Reference) → IsAmong n more → IsAmong n (names ++ more)
+among-last n [] more k = k
+among-last n (m ∷ ms) more k = inr (among-last n ms more k)
+
+-- a name among known ones is nil or known
+pub among-known : (seen : Reference → Shown → Type 0) (n : Reference) (names : List Reference) → AreKnown seen names → IsAmong n names → (n ≡ Nil) ⊎ IsKnown seen n
+among-known seen n [] known k = absurd k
+among-known seen n (m ∷ ms) known (inl e) = elim (known.0) [ inl nil ↦ inl (e ∙ nil) | inr is ↦ inr (subst (IsKnown seen) (sym e) is) ]
+among-known seen n (m ∷ ms) known (inr k) = among-known seen n ms known.1 k
 
 known-first : (seen : Reference → Shown → Type 0) (names more : List Reference) → AreKnown seen (names ++ more) → AreKnown seen names
 known-first seen [] more k = tt
@@ -98,6 +117,13 @@ reads-then old mid new a b c names more first second = record {
       first.no_more (known-first (joint old a) names more known) n it
       (second.no_more (known-grows (joint old a) (joint mid b) more first.grows (known-last (joint old a) names more known)) n it j);
   idle = λ near. second.idle (near-kept old mid more first.keeps (near-last old names more near)) ∙ first.idle (near-first old names more near);
+  only = λ at held. elim (second.only at held) [
+    | inl between ↦ elim (first.only at between) [
+      | inl was ↦ inl was
+      | inr is ↦ inr (among-first (name_at new at) names more (subst (λ n. IsAmong n names) (sym (second.keeps.objects at between).name) is))
+    ]
+    | inr is ↦ inr (among-last (name_at new at) names more is)
+  ];
   outside = leaves-then a b c first.outside second.outside;
   calls = omega (arith, first.calls, second.calls, first.keeps.top, second.keeps.top);
 }

@@ -9,7 +9,7 @@ use Rattle.obj_layout.specs.declared.vault.VaultFault.TheVariants.{Device, Outpu
 use Rattle.swizzle.specs.declared.fault.SwizzleFault.{SwizzleFault}
 use Rattle.swizzle.specs.declared.fault.SwizzleFault.TheVariants.{Vault}
 use Rattle.swizzle.specs.Heap.{Heap, IsHeld, top_of, header_at}
-use Rattle.swizzle.specs.Joint.{Shown, Joint}
+use Rattle.swizzle.specs.Joint.{Shown, Joint, name_at}
 use Rattle.swizzle.specs.Changes.{IsKnown, Within}
 use Rattle.swizzle.specs.Text.{text_at}
 use Rattle.swizzle.specs.Touch.{Keeps, IsNear}
@@ -28,6 +28,11 @@ abbrev pub AreNear : Heap → List Reference → Type 0
 AreNear heap [] = Unit {0}
 AreNear heap (name ∷ names) = IsNear heap name × AreNear heap names
 
+-- the name stands in the list
+abbrev pub IsAmong : Reference → List Reference → Type 0
+IsAmong n [] = ⊥
+IsAmong n (m ∷ ms) = (n ≡ m) ⊎ IsAmong n ms
+
 -- Nothing is output, what a crash may leave and what is held stay, and no count sinks.
 pub record LeavesOutside (before after : Outside Space) : Type 0 where
   pub told : TellsNothing before after
@@ -37,12 +42,14 @@ pub record LeavesOutside (before after : Outside Space) : Type 0 where
   pub output : after.output_faults ≡ before.output_faults
 
 -- The objects of these names were touched: the area keeps its objects, no object is lost, and where all names were known none is seen more.
--- Where all were nil or in the area, no object came. For each word that came there were at most two device calls.
+-- Where all were nil or in the area, no object came, and each that came has one of the names. For each word that came there were at most two
+-- device calls.
 pub record Reads (old new : Heap) (before after : Outside Space) (names : List Reference) : Type 0 where
   pub keeps : Keeps old new
   pub grows : Within (joint old before) (joint new after)
   pub no_more : AreKnown (joint old before) names → Within (joint new after) (joint old before)
   pub idle : AreNear old names → top_of new ≡ top_of old
+  pub only : (at : ℕ) → IsHeld new at → IsHeld old at ⊎ IsAmong (name_at new at) names
   pub outside : LeavesOutside before after
   pub calls : after.device_calls ≤ before.device_calls + 2 * (top_of new - top_of old)
 

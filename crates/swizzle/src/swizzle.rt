@@ -462,8 +462,8 @@ impl Swizzle {
         );
     }
 
-    // The object with this PID, where it is in the area.
-    fn find(&self, pid: u64) -> Option<u32>
+    /// The object with this PID, where it is in the area. Nothing is fetched.
+    pub fn find(&self, pid: u64) -> Option<u32>
         requires { 1 ≤ pid }
         ensures { result ≡ local_of self.now pid }
     {
@@ -532,7 +532,7 @@ impl Swizzle {
         ensures keeps { OnOk result (Keeps self.old self.new) }
         ensures joint { OnOk result (Touched (Joint self.old (Holds (V.outside vault.old))) (Joint self.new (Holds (V.outside vault.new))) (name_of self.old (ref_at self.old object slot))) }
         ensures came { OnOk result (Came self.old self.new (V.outside vault.old) (ref_at self.old object slot)) }
-        ensures only { OnOk result (Only self.old self.new (ref_at self.old object slot)) }
+        ensures only { OnOk result (Only self.old self.new (name_of self.old (ref_at self.old object slot))) }
         ensures sound { OnOk result (Sound self.old (V.outside vault.old) (ref_at self.old object slot)) }
         ensures still { (to : Option ℕ) → ref_at self.old object slot ≡ reference_to to → (self.new ≡ self.old) × (vault.new ≡ vault.old) }
         ensures near { IsNear self.old (name_of self.old (ref_at self.old object slot)) → (top_of self.new ≡ top_of self.old) × (vault.new ≡ vault.old) }

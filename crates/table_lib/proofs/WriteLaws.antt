@@ -14,17 +14,21 @@ use Rattle.table_nodes.specs.heap_places.swizzle.Touch.{Keeps}
 use Rattle.table_nodes.specs.heap_places.Shapes.{slot_of}
 use Rattle.table_nodes.proofs.of_heap_places.of_swizzle.JointLaws.{joint-ref, joint-num}
 use Rattle.table_nodes.proofs.of_heap_places.of_swizzle.MarkLaws.{joint-mark}
-use Rattle.table_nodes.proofs.of_heap_places.of_swizzle.NameLaws.{shown-counts}
+use Rattle.table_nodes.proofs.of_heap_places.of_swizzle.NameLaws.{name_at-injective, names-decided, shown-counts}
 use Rattle.table_nodes.proofs.of_heap_places.PlaceLaws.{slot-name}
 use Rattle.table_nodes.specs.node_rows.Keys.{Keys, by_ints, by_texts, KeyOf, IsKey}
 use Rattle.table_nodes.specs.node_rows.Nodes.{Seat}
-use Rattle.table_nodes.specs.Nodes.{IsNode, IsStored, OthersStay, rows_in, seen}
+use Rattle.table_nodes.specs.Bringing.{NoneCome}
+use Rattle.table_nodes.specs.Fetching.{Came, IsNew, Fetches}
+use Rattle.table_nodes.specs.Nodes.{IsNode, IsSteady, IsStored, OthersStay, rows_in, seen}
 use Rattle.table_nodes.proofs.SeenLaws.{seen_from, seen_joint}
 use Rattle.table_nodes.specs.Sparing.{Lasts, IsNoted, Spares}
-use Rattle.table_nodes.proofs.NodeLaws.{shown_now, single_kept, stand_nodes, stand_named}
+use Rattle.table_nodes.proofs.BringLaws.{none_mark, none_num, none_ref}
+use Rattle.table_nodes.proofs.FetchLaws.{came_lasts, new_lasts}
+use Rattle.table_nodes.proofs.NodeLaws.{marked_steady, shown_now, single_kept, stand_nodes, stand_named, stand_then}
 use Rattle.table_nodes.proofs.Sparing.{kinds_kept, WritesOne, node_lasts, lasts_then, beside_ref, beside_num, beside_then, writes_one, shown_marked, unlike}
 use Rattle.table_lib.specs.Tables.{key_number, IsTableAt}
-use Rattle.table_lib.specs.Entries.{IsOpen, SparesBut, WritesTable, MarksTable}
+use Rattle.table_lib.specs.Entries.{IsOpen, NoneChange, SparesBut, WritesTable, MarksTable}
 
 -- What a call spares, step by step.
 
@@ -41,6 +45,7 @@ but_written a c outside at h held w = record {
   kinds = λ single n it k. kinds_kept a c outside at h held w.lasts (w.others single) n it k;
   flags = λ j there. elim (cases_eq j at) [ inl same ↦ inr (inl same) | inr apart ↦ inl (w.place.flags j apart) ];
   homes = λ j there. w.place.homes j;
+  texts = w.texts;
   size = w.place.size;
   top = omega (arith, w.place.top);
   contents = record { kept = λ x k. k; no_other = λ x k. k };
@@ -77,6 +82,7 @@ module _ (at : ℕ) (a b c : Heap) (x y z : Outside Space) (held : IsHeld a at) 
         record { it = m.it; there = m.there; kind_is = m.kind_is ∙ f.kind_is });
     flags = λ j h. (let there = (s.lasts j h).held in flags_but j there (s.flags j h) (t.flags j there));
     homes = λ j h. t.homes j (s.lasts j h).held ∙ s.homes j h;
+    texts = λ j h. t.texts j (s.lasts j h).held ∙ s.texts j h;
     size = t.size ∙ s.size;
     top = omega (arith, s.top, t.top);
     contents = record { kept = λ k h. t.contents.kept k (s.contents.kept k h); no_other = λ k h. s.contents.no_other k (t.contents.no_other k h) };
@@ -88,6 +94,36 @@ table_lasts a b at l t = record { held = l.held; kind = l.kind ∙ t.kind; refs 
 
 pub table_kept : (a b : Heap) (at : ℕ) → Keeps a b → IsTableAt a at → IsTableAt b at
 table_kept a b at keeps t = let s = keeps.objects at t.held in record { held = s.held; kind = ap (λ (it : Shown). it.kind) s.shown_as ∙ t.kind; refs = s.refs ∙ t.refs; nums = s.nums ∙ t.nums }
+
+-- Where a table was written, no node has changed that hadn't.
+pub table_steady : (a c : Heap) (at : ℕ) → IsHeap c → IsTableAt a at → Lasts a c at → IsSteady a c at → NoneChange a c
+table_steady a c at h table l steady n k = elim (names-decided n (name_at a at)) [
+  | inl e ↦
+      let same = name_at-injective c k.at at h k.named.node.held l.held (k.named.name ∙ (e ∙ sym l.name)) in
+      let node_is = ap (λ i. (header_at c i).kind) (sym same) ∙ k.named.node.kind in
+      let table_is = l.kind ∙ table.kind in
+      absurd (cc (node_is, table_is))
+  | inr ne ↦ steady n ne k
+]
+
+-- What came stays so where a table is written that was there.
+pub fetches_but : (ks : Keys) (at : ℕ) (a b c : Heap) (x y z : Outside Space) → IsHeld a at → SparesBut at b c y z → NoneCome b c → Fetches ks a b x → Fetches ks a c x
+fetches_but ks at a b c x y z held s none f j now = elim (f j (none j now)) [
+  | inl was ↦ inl was
+  | inr k ↦ elim (cases_eq j at) [
+    | inl e ↦ inl (subst (IsHeld a) (sym e) held)
+    | inr ne ↦ inr (go ne k)
+  ]
+]
+  where
+    noted : j ≢ at → (shown_at c j ≡ shown_at b j) ⊎ (IsOpen at c j × IsListed j c.assigned) → (shown_at c j ≡ shown_at b j) ⊎ IsNoted c j
+    noted ne (inl e) = inl e
+    noted ne (inr (inl e, l)) = absurd (ne e)
+    noted ne (inr (inr n, l)) = inr (n, l)
+
+    go : j ≢ at → Came b x j ⊎ IsNew ks b j → Came c x j ⊎ IsNew ks c j
+    go ne (inl k) = (let there = none j now in inl (came_lasts b c x j (s.lasts j there) (s.texts j there) (noted ne (s.kept j there)) (s.noted j) k))
+    go ne (inr n) = (let there = none j now in inr (new_lasts ks b c j (s.lasts j there) (s.texts j there) n))
 
 -- its words stay where nodes are written
 pub words_spared : (a b : Heap) (x y : Outside Space) (at : ℕ) → Spares a b x y → IsTableAt a at → shown_at b at ≡ shown_at a at
@@ -169,7 +205,7 @@ module _ (h0 h1 h2 h3 h4 : Heap) (outside : Outside Space) (at : ℕ) (root : Op
 
   pub wrote_one : WritesOne h0 h4 outside at
   wrote_one = writes_one h0 h3 h4 outside at i3 i4 table.held
-      (beside_then h0 h2 h3 outside at table.held (beside_then h0 h1 h2 outside at table.held (beside_ref h0 h1 outside at 0 (reference_to root) i0 i1 table.held e1 s1) (beside_num h1 h2 outside at 1 number (λ e. cc) i1 i2 held1 e2 s2)) (beside_num h2 h3 outside at 2 count (λ e. cc) i2 i3 held2 e3 s3))
+      (beside_then h0 h2 h3 outside at table.held (beside_then h0 h1 h2 outside at table.held (beside_ref h0 h1 outside at 0 (reference_to root) (λ e. cc) i0 i1 table.held e1 s1) (beside_num h1 h2 outside at 1 number (λ e. cc) i1 i2 held1 e2 s2)) (beside_num h2 h3 outside at 2 count (λ e. cc) i2 i3 held2 e3 s3))
       e4 s4
 
   same_name : (side : Option ℕ) → IfSome side (IsNode h0) → name_of h0 (reference_to side) ≡ name_of h4 (reference_to side)
@@ -185,6 +221,9 @@ module _ (h0 h1 h2 h3 h4 : Heap) (outside : Outside Space) (at : ℕ) (root : Op
     noted = wrote_one.listed;
     heap = i4;
     lasts = wrote_one.lasts;
+    steady = table_steady h0 h4 at i4 table (wrote_one.lasts at table.held) (marked_steady h0 h3 h4 at held3 (stand_then h0 h2 h3 (stand_then h0 h1 h2 s1 s2) s3)
+        (λ j k. none_ref h0 h1 at 0 (reference_to root) table.held e1 j (none_num h1 h2 at 1 number held1 e2 j (none_num h2 h3 at 2 count held2 e3 j k)))
+        (ap (λ (x : Heap). x.assigned) e3 ∙ (ap (λ (x : Heap). x.assigned) e2 ∙ ap (λ (x : Heap). x.assigned) e1)) s4 e4);
     holds = record { nodes = λ j m. stand_nodes h3 h4 s4 j (stand_nodes h2 h3 s3 j (stand_nodes h1 h2 s2 j (stand_nodes h0 h1 s1 j m))); named = λ j n m. stand_named h3 h4 s4 j n (stand_named h2 h3 s3 j n (stand_named h1 h2 s2 j n (stand_named h0 h1 s1 j n m))) };
     others = wrote_one.others;
   }
@@ -195,7 +234,7 @@ module _ (a b : Heap) (outside : Outside Space) (at : ℕ) (table : IsTableAt a 
   same_words = shown_marked a b at ha hb table.held s e at table.held
 
   pub marked_one : WritesOne a b outside at
-  marked_one = writes_one a a b outside at ha hb table.held (record { stands = λ j h. record { held = h; kind = refl; refs = refl; nums = refl; bytes = refl; pid = refl }; list = refl; shows = λ j h ne. refl; others = λ n it ne k. k; place = record { size = refl; top = refl; flags = λ j ne. refl; homes = λ j. refl } }) e s
+  marked_one = writes_one a a b outside at ha hb table.held (record { stands = λ j h. record { held = h; kind = refl; refs = refl; nums = refl; bytes = refl; pid = refl }; list = refl; shows = λ j h ne. refl; others = λ n it ne k. k; place = record { size = refl; top = refl; flags = λ j ne. refl; homes = λ j. refl }; texts = λ j h. refl }) e s
 
   no_root : (to : Reference) → name_of b to ≡ Nil → to ≡ Nil
   no_root to f = Rattle.table_lib.proofs.RootLaws.nil_named b to f
@@ -210,6 +249,9 @@ module _ (a b : Heap) (outside : Outside Space) (at : ℕ) (table : IsTableAt a 
     };
     home = ap (λ (x : Shown). Rattle.std.specs.Prelude.slice_index x.nums 0) same_words;
     noted = marked_one.listed;
+    none = none_mark a b at table.held e;
+    steady = table_steady a b at hb table (marked_one.lasts at table.held)
+        (marked_steady a a b at table.held (λ j h. record { held = h; kind = refl; refs = refl; nums = refl; bytes = refl; pid = refl }) (λ j h. h) refl s e);
     heap = hb;
     single = λ single. single;
     seen = λ single n it k. (subst (λ x. Same (joint a outside) (joint x outside)) (sym e) (joint-mark a (Holds outside) at ha table.held single.one)).grows n it k;

@@ -8,6 +8,7 @@ use Rattle.table_nodes.specs.heap_places.obj_layout.declared.reference.Reference
 use Rattle.table_nodes.specs.heap_places.swizzle.Heap.{Heap, IsHeap, IsHeld, IsListed, header_at, num_at, ref_at, reference_to, top_of}
 use Rattle.table_nodes.specs.heap_places.swizzle.Joint.{Shown, shown_at, name_at, name_of}
 use Rattle.table_nodes.specs.heap_places.swizzle.Reading.{joint}
+use Rattle.table_nodes.specs.heap_places.Shapes.{slot_of}
 use Rattle.table_nodes.specs.heap_places.heap_texts.declared.fault.OpFault.{OpFault}
 use Rattle.table_nodes.specs.heap_places.heap_texts.declared.fault.OpFault.TheVariants.{Trap, Swizzle}
 use Rattle.table_nodes.specs.heap_places.swizzle.declared.fault.SwizzleFault.{SwizzleFault}
@@ -15,7 +16,10 @@ use Rattle.table_nodes.specs.avl_trees.Rising.{enter, without}
 use Rattle.table_nodes.specs.avl_trees.Trees.{Tree, items}
 use Rattle.table_nodes.specs.avl_trees.Standing.{IsApart, seek, put, fresh_item}
 use Rattle.table_nodes.specs.node_rows.Keys.{Keys, KeyOf, order_by}
-use Rattle.table_nodes.specs.Nodes.{IsNode, IsSingle, IsFetchFault, OthersStay}
+use Rattle.table_nodes.specs.Bringing.{NoneCome}
+use Rattle.table_nodes.specs.Fetching.{Fetches}
+use Rattle.table_nodes.specs.Hanging.{AreHung}
+use Rattle.table_nodes.specs.Nodes.{IsChanged, IsNode, IsSingle, IsFetchFault, OthersStay}
 use Rattle.table_nodes.specs.node_rows.Nodes.{I}
 use Rattle.table_nodes.specs.Steps.{Place, IsPlace, Holds}
 use Rattle.table_nodes.specs.Sparing.{IsOfKind, Lasts}
@@ -28,7 +32,8 @@ abbrev pub IsOpen : ℕ → Heap → ℕ → Type 0
 IsOpen at heap j = (j ≡ at) ⊎ IsNode heap j
 
 -- What a call on a table spares, whatever its nodes are: each object of the area lasts, and shows as it did, or it is the table or a node, and is noted as
--- assigned. None but these are noted that weren't, and all others keep their flags. Each object of the area keeps its home. What is seen of an object that is
+-- assigned. None but these are noted that weren't, and all others keep their flags. Each object of the area keeps its home
+-- and its third reference, a node's key text. What is seen of an object that is
 -- neither stays, and each object that is seen keeps its kind; the area doesn't shrink, and the vault holds what it held.
 pub record SparesBut (at : ℕ) (old new : Heap) (before after : Outside Space) : Type 0 where
   pub lasts : (j : ℕ) → IsHeld old j → Lasts old new j
@@ -39,9 +44,14 @@ pub record SparesBut (at : ℕ) (old new : Heap) (before after : Outside Space) 
   pub kinds : IsSingle before → (n : Reference) (it : Shown) → joint old before n it → IsOfKind new after n it.kind
   pub flags : (j : ℕ) → IsHeld old j → ((header_at new j).flags ≡ (header_at old j).flags) ⊎ IsOpen at new j
   pub homes : (j : ℕ) → IsHeld old j → num_at new j 0 ≡ num_at old j 0
+  pub texts : (j : ℕ) → IsHeld old j → slot_of (shown_at new j) 2 ≡ slot_of (shown_at old j) 2
   pub size : new.size ≡ old.size
   pub top : top_of old ≤ top_of new
   pub contents : SameContents before after
+
+-- no node has changed that hadn't
+abbrev pub NoneChange : Heap → Heap → Type 0
+NoneChange old new = (n : Reference) → IsChanged new n → IsChanged old n
 
 -- A table's words were written, and it was noted as assigned; its home stays, and all else is seen as it was.
 pub record WritesTable (ks : Keys) (old new : Heap) (outside : Outside Space) (at : ℕ) (root : Option ℕ) (count : ℕ) : Type 0 where
@@ -54,6 +64,7 @@ pub record WritesTable (ks : Keys) (old new : Heap) (outside : Outside Space) (a
   pub holds : Holds old new
   pub lasts : (j : ℕ) → IsHeld old j → Lasts old new j
   pub others : IsSingle outside → OthersStay old new outside at
+  pub steady : NoneChange old new
 
 -- A table without keys was noted as assigned, and stays one; all is seen as it was.
 pub record MarksTable (old new : Heap) (before after : Outside Space) (at : ℕ) : Type 0 where
@@ -63,40 +74,51 @@ pub record MarksTable (old new : Heap) (before after : Outside Space) (at : ℕ)
   pub heap : IsHeap new
   pub single : IsSingle before → IsSingle after
   pub seen : IsSingle before → (n : Reference) (it : Shown) → joint old before n it → joint new after n it
+  pub none : NoneCome old new
+  pub steady : NoneChange old new
 
--- A table has this tree now, and is noted as assigned. Its home stays, and what is seen of all objects but it and these nodes.
+-- A table has this tree now, and is noted as assigned. Its home stays, and what is seen of all objects but it and these nodes; and none of these others that was
+-- seen has changed that hadn't, of the nodes.
 pub record HasNow (ks : Keys) (old new : Place) (at : ℕ) (is : List (I ks)) (t : Tree (I ks)) : Type 0 where
   pub table : IsTable ks new at t
   pub here : IsPlace new
   pub noted : IsListed at new.heap.assigned
   pub home : num_at new.heap at 0 ≡ num_at old.heap at 0
   pub others : (n : Reference) (it : Shown) → n ≢ name_at old.heap at → IsApart n is → joint old.heap old.outside n it → joint new.heap new.outside n it
+  pub steady : (n : Reference) (it : Shown) → IsApart n is → joint old.heap old.outside n it → IsChanged new.heap n → IsChanged old.heap n
 
--- The pairs of a table are those that were, with this value under the key; a new pair stands under a name that had no object.
+-- The pairs of a table are those that were, with this value under the key; a new pair stands under a name that had no object. What is new in the area came from
+-- the vault or was made; and where the nodes hung together, they do so still.
 pub record EntersPair (ks : Keys) (old new : Place) (at : ℕ) (is : List (I ks)) (key : KeyOf ks) (value : Reference) : Type 0 where
   pub tree : Tree (I ks)
   pub fresh : Reference
   pub is_fresh : (it : Shown) → joint old.heap old.outside fresh it → ⊥
   pub pairs : items tree ≡ enter (seek (order_by ks) key) (put value) (fresh_item fresh key value) is
   pub now : HasNow ks old new at is tree
+  pub fetched : Fetches ks old.heap new.heap old.outside
+  pub hung : (t : Tree (I ks)) → HasPairs ks old at t → AreHung old.heap t → AreHung new.heap tree
 
--- The pairs of a table are those that were, without the key.
+-- The pairs of a table are those that were, without the key. The area and the nodes are as with a key that is entered.
 pub record TakesKey (ks : Keys) (old new : Place) (at : ℕ) (is : List (I ks)) (key : KeyOf ks) : Type 0 where
   pub tree : Tree (I ks)
   pub pairs : items tree ≡ without (seek (order_by ks) key) is
   pub now : HasNow ks old new at is tree
+  pub fetched : Fetches ks old.heap new.heap old.outside
+  pub hung : (t : Tree (I ks)) → HasPairs ks old at t → AreHung old.heap t → AreHung new.heap tree
 
 -- no node of the first is one of the second
 abbrev pub AreApart : (other ks : Keys) → List (I other) → List (I ks) → Type 0
 AreApart other ks vs is = AllByRecursion (λ a. IsApart a.name is) vs
 
--- A table that never had a key has none now, and is noted as assigned.
+-- A table that never had a key has none now, and is noted as assigned. No object came, and no node has changed that hadn't.
 pub record StaysUnused (old new : Place) (at : ℕ) : Type 0 where
   pub unused : IsUnused new.heap at
   pub here : IsPlace new
   pub noted : IsListed at new.heap.assigned
   pub home : num_at new.heap at 0 ≡ num_at old.heap at 0
   pub others : (n : Reference) (it : Shown) → joint old.heap old.outside n it → joint new.heap new.outside n it
+  pub none : NoneCome old.heap new.heap
+  pub steady : NoneChange old.heap new.heap
 
 -- a reference's object couldn't be fetched, or there was no room for a node
 abbrev pub IsOpEnterFault : Heap → Outside Space → OpFault → Type 0

@@ -1,5 +1,5 @@
 -- What the operations on tables answer.
-use Rattle.std.specs.Prelude.{◌≡◌, ◌≢◌, ℕ, true, false, Option, Some, None, Result, Ok, Err, IfOk, MatchResult}
+use Rattle.std.specs.Prelude.{◌≡◌, ◌≢◌, ℕ, true, false, Option, Some, None, Result, Ok, Err, IfOk, OnOk, MatchResult}
 use Rattle.table_nodes.specs.heap_places.ps_outside.Outside.{Outside}
 use Rattle.table_nodes.specs.heap_places.obj_layout.Stored.{Space}
 use Rattle.table_nodes.specs.heap_places.obj_layout.declared.kind.Kind.TheVariants.{Table}
@@ -15,6 +15,7 @@ use Rattle.table_nodes.specs.node_rows.Keys.{Keys, KeyOf, order_by}
 use Rattle.table_nodes.specs.Nodes.{IsLinked, IsFetchFault}
 use Rattle.table_nodes.specs.node_rows.Nodes.{I}
 use Rattle.table_nodes.specs.Steps.{Place}
+use Rattle.table_nodes.specs.Fetching.{Fetches}
 use Rattle.table_nodes.specs.Searching.{AreSeen, IsObject, value_of}
 use Rattle.table_lib.specs.Tables.{IsTableAt, HasKeys, HasPairs, IsUnused, IsTable}
 use Rattle.table_lib.specs.declared.words.Opened.{Opened}
@@ -46,6 +47,10 @@ pub record Uses {T : Type 0} (ks : Keys) (p : Place) (table : Option ℕ) (unuse
 -- The root of a table is answered, or it couldn't be fetched.
 abbrev pub ReadsRoot : Place → Heap → ℕ → Result (Option ℕ) SwizzleFault → Type 0
 ReadsRoot old new at result = (ks : Keys) (t : Tree (I ks)) → HasPairs ks old at t → MatchResult result (λ root. IsLinked new root (root_of t)) (IsFetchFault old.heap old.outside)
+
+-- What the reading of a root fetches, where it is answered.
+abbrev pub FetchesRoot : {T : Type 0} → Place → Heap → ℕ → Result T SwizzleFault → Type 0
+FetchesRoot old new at result = (ks : Keys) (t : Tree (I ks)) → HasPairs ks old at t → OnOk result (Fetches ks old.heap new old.outside)
 
 -- The value of the key is answered, none where the table hasn't the key, or an object couldn't be fetched; where the values are seen, none is damaged.
 abbrev pub LooksUp : (ks : Keys) → Place → Heap → Option ℕ → KeyOf ks → Result (Option ℕ) OpFault → Type 0

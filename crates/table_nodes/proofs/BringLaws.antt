@@ -16,7 +16,7 @@ use Rattle.table_nodes.specs.Bringing.{Brings, NoneCome}
 use Rattle.table_nodes.specs.Sparing.{Lasts}
 
 pub keeps_lasts : (a b : Heap) → Keeps a b → (at : ℕ) → IsHeld a at → Lasts a b at
-keeps_lasts a b keeps at h = let s = keeps.objects at h in record { held = s.held; name = s.name; kind = ap (λ it. it.kind) s.shown_as; refs = s.refs; nums = s.nums }
+keeps_lasts a b keeps at h = let s = keeps.objects at h in record { held = s.held; name = s.name; kind = ap (λ it. it.kind) s.shown_as; refs = s.refs; nums = s.nums; bytes = ap (λ it. it.bytes) s.shown_as }
 
 among_front : (n : Reference) (xs ys : List Reference) → IsAmong n xs → IsAmong n (xs ++ ys)
 among_front n [] ys k = absurd k
@@ -62,7 +62,7 @@ pub brings_only : (a b : Heap) (reference : Reference) (most : ℕ) → 1 ≤ mo
 brings_only a b reference most le only = record { names = reference ∷ []; few = le; come = λ at held kind. elim (only at held) [ inl before ↦ inl before | inr e ↦ inr (inl e) ] }
 
 -- what is touched and is no node
-pub brings_other : (a b : Heap) (to : Option ℕ) (reference : Reference) (most : ℕ) → IsHeap b → Only a b reference → ((near : Option ℕ) → reference ≡ reference_to near → b ≡ a) → Denotes b to (name_of a reference)
+pub brings_other : (a b : Heap) (to : Option ℕ) (reference : Reference) (most : ℕ) → IsHeap b → Only a b (name_of a reference) → ((near : Option ℕ) → reference ≡ reference_to near → b ≡ a) → Denotes b to (name_of a reference)
     → ((at : ℕ) → to ≡ Some at → (header_at b at).kind ≢ Node) → Brings a b most
 brings_other a b to Nil most h only still denotes other = brings_same a b most (still None refl)
 brings_other a b to (Local at) most h only still denotes other = brings_same a b most (still (Some at) refl)

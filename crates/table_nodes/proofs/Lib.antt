@@ -14,6 +14,8 @@ pub mod StepLaws
 pub mod TurnLaws
 pub mod WingLaws
 pub mod BringLaws
+pub mod FetchLaws
+pub mod HangLaws
 pub mod FaultLaws
 pub mod SpanLaws
 pub use Rattle.heap_places.proofs as of_heap_places

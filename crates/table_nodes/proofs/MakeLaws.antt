@@ -1,17 +1,17 @@
 -- A node that was made: its row, and what else is seen.
-use Rattle.std.proofs.Common.{◌≡◌, ℕ, ◌≤◌, List, zero, suc, ◌-◌, ◌^◌, ℤ, pos, negsuc, true, [], ◌∷◌, Some, refl, sym, ap, ◌∙◌, subst, arith, inl}
+use Rattle.std.proofs.Common.{◌≡◌, ℕ, ◌≤◌, List, zero, suc, ◌-◌, inr, ◌^◌, ℤ, pos, negsuc, true, [], ◌∷◌, Some, refl, sym, ap, ◌∙◌, subst, arith, inl}
 use Rattle.heap_places.specs.ps_outside.Outside.{Outside}
 use Rattle.heap_places.specs.obj_layout.Stored.{Space, Holds}
 use Rattle.heap_places.specs.obj_layout.declared.kind.Kind.TheVariants.{Node}
 use Rattle.heap_places.specs.obj_layout.declared.reference.Reference.{Reference}
 use Rattle.heap_places.specs.obj_layout.declared.reference.Reference.TheVariants.{Nil, Local}
 use Rattle.heap_places.specs.swizzle.Objects.{Object}
-use Rattle.heap_places.specs.swizzle.Heap.{Heap, IsHeap, IsHeld, IsMade, IsInside, top_of, blank, with_ref, with_num, reference_to}
+use Rattle.heap_places.specs.swizzle.Heap.{Heap, IsHeap, IsHeld, IsMade, IsInside, object_at, top_of, blank, with_ref, with_num, reference_to}
 use Rattle.heap_places.specs.swizzle.Joint.{Shown, Joint, shown, shown_at, name_at, name_of}
 use Rattle.heap_places.specs.swizzle.Changes.{Within, ChangedAt}
 use Rattle.heap_places.specs.swizzle.Touch.{Keeps}
 use Rattle.heap_places.proofs.of_swizzle.TouchLaws.{keeps-new}
-use Rattle.heap_places.proofs.of_swizzle.JointLaws.{joint-made, name-fresh}
+use Rattle.heap_places.proofs.of_swizzle.JointLaws.{joint-made, name-fresh, held-cases}
 use Rattle.heap_places.proofs.of_swizzle.MadeLaws.{made-held, made-object, made-other}
 use Rattle.heap_places.proofs.of_swizzle.of_obj_layout.StoredLaws.{Holds-low}
 use Rattle.std.proofs.lemmas.Bool.{ltb-true}
@@ -21,7 +21,9 @@ use Rattle.heap_places.proofs.FillingLaws.{made-ref, made-num}
 use Rattle.heap_places.specs.Words.{int_in, int_word}
 use Rattle.table_nodes.specs.declared.keys.Key.{Key}
 use Rattle.table_nodes.specs.declared.keys.Key.TheVariants.{Int, Text}
-use Rattle.node_rows.specs.Keys.{IsKey}
+use Rattle.heap_places.specs.Shapes.{slot_of}
+use Rattle.node_rows.specs.Keys.{IsKey, by_ints}
+use Rattle.table_nodes.specs.Fetching.{IsNew, Fetches}
 use Rattle.table_nodes.specs.Nodes.{IsNode, IsNamed, IsStored, seen}
 use Rattle.table_nodes.specs.Sought.{kind_of, key_in, IsKeyHeld}
 use Rattle.table_nodes.specs.Making.{with_key}
@@ -49,6 +51,28 @@ node_made old mid m1 m2 m3 at value (Text text) made e1 e2 e3 = made-num old m2 
 -- what was there stays where an object is made
 pub made_keeps : (old new : Heap) (at : ℕ) (object : Object) → IsHeap old → IsMade old new at object → Keeps old new
 made_keeps old new at object h made = subst (Keeps old) (sym made.made) (keeps-new old object h)
+
+-- a node was made
+pub made_fetches : (old new : Heap) (x : Outside Space) (at value : ℕ) (key : Key) → IsMade old new at (node_object key value) → Fetches (kind_of key) old new x
+made_fetches old new x at value key made j held = elim (held-cases old (node_object key value) j (subst (λ (h : Heap). IsHeld h j) made.made held)) [
+  | inl was ↦ inl was
+  | inr top ↦ inr (inr (subst (IsNew (kind_of key) new) (made.place ∙ sym top) here))
+]
+  where
+    o : object_at new at ≡ node_object key value
+    o = made-object old new at (node_object key value) made
+
+    plain : (k : Key) → kind_of k ≡ by_ints → slot_of (shown (name_of new) (node_object k value)) 2 ≡ Nil
+    plain (Int z) e = refl
+    plain (Text t) e = absurd (cc)
+
+    here : IsNew (kind_of key) new at
+    here = record {
+      node = record { held = made-held old new at (node_object key value) made; kind = ap (λ (b : Object). b.header.kind) o; refs = ap (λ (b : Object). b.header.refs) o; nums = ap (λ (b : Object). b.header.nums) o };
+      unstored = ap (λ (b : Object). b.header.pid) o;
+      bytes = ap (λ (b : Object). b.header.bytes) o;
+      plain = λ e. ap (λ (b : Object). slot_of (shown (name_of new) b) 2) o ∙ plain key e;
+    }
 
 -- each reference of it is to an object of before
 same_local : (i j : ℕ) → Local i ≡ Local j → i ≡ j
@@ -122,4 +146,6 @@ module _ (old new : Heap) (outside : Outside Space) (at value : ℕ) (key : Key)
     nodes = nodes;
     named = λ j n m. record { node = nodes j m.node; name = name_same j m.node.held ∙ m.name };
     heap = h_new;
+    keeps = made_keeps old new at (node_object key value) h made;
+    fetched = made_fetches old new outside at value key made;
   }

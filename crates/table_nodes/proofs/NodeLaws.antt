@@ -1,5 +1,5 @@
 -- Nodes of the area: what is seen of one, what a touch leaves, and what a write does.
-use Rattle.std.proofs.Common.{◌≡◌, ◌≢◌, ℕ, zero, suc, ◌<◌, List, length, set, Option, Some, None, Result, refl, sym, ap, ◌∙◌, subst, arith, inl, inr}
+use Rattle.std.proofs.Common.{◌≡◌, ◌≢◌, ◌⊎◌, ℕ, zero, suc, ◌<◌, List, length, set, Option, Some, None, Result, refl, sym, ap, ◌∙◌, subst, arith, inl, inr}
 use Rattle.std.proofs.Math.ListN.{length-set}
 use Rattle.std.proofs.lemmas.List.{get_or-set_same, get_or-set_other}
 use Rattle.heap_places.specs.ps_outside.Outside.{Outside, SameContents}
@@ -7,7 +7,7 @@ use Rattle.heap_places.specs.obj_layout.Stored.{Space, Holds}
 use Rattle.heap_places.specs.obj_layout.declared.kind.Kind.TheVariants.{Node}
 use Rattle.heap_places.specs.obj_layout.declared.reference.Reference.{Reference}
 use Rattle.heap_places.specs.obj_layout.declared.reference.Reference.TheVariants.{Nil, Pid, Local}
-use Rattle.heap_places.specs.swizzle.Heap.{Heap, IsHeap, IsHeld, Stands, ref_at, with_ref, with_num, with_mark, reference_to}
+use Rattle.heap_places.specs.swizzle.Heap.{Heap, IsHeap, IsHeld, IsListed, Stands, ref_at, with_ref, with_num, with_mark, reference_to}
 use Rattle.heap_places.specs.swizzle.Joint.{Shown, Joint, shown_at, name_at, name_of}
 use Rattle.heap_places.specs.swizzle.Changes.{Within, Same, ChangedAt, Touched}
 use Rattle.heap_places.specs.swizzle.Reading.{joint, LeavesOutside}
@@ -23,9 +23,12 @@ use Rattle.avl_trees.specs.Standing.{IsWritten}
 use Rattle.heap_places.specs.Words.{int_in}
 use Rattle.heap_places.specs.Shapes.{slot_of, word_in, IsText}
 use Rattle.node_rows.specs.Keys.{Keys, by_ints, by_texts, KeyOf, Seen, IsKey}
+use Rattle.table_nodes.proofs.BringLaws.{none_mark, none_num, none_ref}
+use Rattle.table_nodes.proofs.MarkingLaws.{listed_marked}
 use Rattle.table_nodes.proofs.KeyLaws.{AreSingle, key_one, key_grows, key_changed, key_back}
 use Rattle.node_rows.specs.Nodes.{Seat, link_of, IsSeat, HasNode}
-use Rattle.table_nodes.specs.Nodes.{rows_in, seen, IsStored, IsSingle, IsNode, IsNamed, IsLinked, Grows, OthersStay, side_of, with_sides, Links, HasSides, IsSide}
+use Rattle.table_nodes.specs.Bringing.{NoneCome}
+use Rattle.table_nodes.specs.Nodes.{IsSteady, rows_in, seen, IsStored, IsSingle, IsNode, IsNamed, IsLinked, Grows, OthersStay, side_of, with_sides, Links, HasSides, IsSide}
 use Rattle.table_nodes.proofs.SeenLaws.{IsSeen, seen_joint, seen_grows}
 use Rattle.heap_places.specs.swizzle.declared.fault.SwizzleFault.{SwizzleFault}
 use Rattle.heap_places.specs.swizzle.declared.fault.SwizzleFault.TheVariants.{AreaFull, Vault}
@@ -254,6 +257,30 @@ pub mark_seen : (a b : Heap) (outside : Outside Space) (at : ℕ) → IsHeap a �
 mark_seen a b outside at h held e single =
     subst (λ x. Same (seen a outside) (seen x outside)) (sym e) (joint-mark a (IsStored outside) at h held (λ pid x y p q. single.one pid x y p.there q.there))
 
+-- No node but the marked one has changed, where an object was written.
+
+pub stand_then : (a b c : Heap) → Stands a b → Stands b c → Stands a c
+stand_then a b c f g j h = let s = f j h in let t = g j s.held in record { held = t.held; kind = t.kind ∙ s.kind; refs = t.refs ∙ s.refs; nums = t.nums ∙ s.nums; bytes = t.bytes ∙ s.bytes; pid = t.pid ∙ s.pid }
+
+pub write_steady : (a b : Heap) (at : ℕ) → Stands a b → NoneCome a b → ((j : ℕ) → IsListed j b.assigned → IsListed j a.assigned ⊎ (j ≡ at)) → IsSteady a b at
+write_steady a b at s none only n ne c =
+    let held = none c.at c.named.node.held in
+    let t = s c.at held in
+    let name : name_at a c.at ≡ n = sym (name_stands a b s c.at held) ∙ c.named.name in
+    record {
+      at = c.at;
+      named = record { node = record { held = held; kind = sym t.kind ∙ c.named.node.kind; refs = sym t.refs ∙ c.named.node.refs; nums = sym t.nums ∙ c.named.node.nums }; name = name };
+      why = elim c.why [
+        | inl z ↦ inl (sym t.pid ∙ z)
+        | inr l ↦ elim (only c.at l) [ inl m ↦ inr m | inr e ↦ absurd (ne (sym name ∙ ap (name_at a) e)) ]
+      ];
+    }
+
+pub marked_steady : (a b c : Heap) (at : ℕ) → IsHeld b at → Stands a b → NoneCome a b → b.assigned ≡ a.assigned → Stands b c → c ≡ with_mark b at → IsSteady a c at
+marked_steady a b c at held s none same t e =
+    write_steady a c at (stand_then a b c s t) (λ j k. none j (none_mark b c at held e j k))
+    (λ j l. elim (listed_marked b at j (subst (λ (x : Heap). IsListed j x.assigned) e l)) [ inl m ↦ inl (subst (IsListed j) same m) | inr d ↦ inr d ])
+
 pub links : (h0 h1 h2 h3 h4 : Heap) (outside : Outside Space) (at : ℕ) (left right : Option ℕ) (height : ℕ) → IsNode h0 at → IsHeap h0 → IsHeap h1 → IsHeap h2 → IsHeap h3 → IsHeap h4
     → h1 ≡ with_ref h0 at 0 (reference_to left) → h2 ≡ with_ref h1 at 1 (reference_to right) → h3 ≡ with_num h2 at 2 height → h4 ≡ with_mark h3 at
     → Stands h0 h1 → Stands h1 h2 → Stands h2 h3 → Stands h3 h4 → Links h0 h4 outside at left right height
@@ -261,6 +288,9 @@ links h0 h1 h2 h3 h4 outside at left right height node i0 i1 i2 i3 i4 e1 e2 e3 e
   heap = i4;
   written = written;
   others = others;
+  steady = marked_steady h0 h3 h4 at held3 (stand_then h0 h2 h3 (stand_then h0 h1 h2 s1 s2) s3)
+      (λ j k. none_ref h0 h1 at 0 (reference_to left) node.held e1 j (none_ref h1 h2 at 1 (reference_to right) held1 e2 j (none_num h2 h3 at 2 height held2 e3 j k)))
+      (ap (λ (x : Heap). x.assigned) e3 ∙ (ap (λ (x : Heap). x.assigned) e2 ∙ ap (λ (x : Heap). x.assigned) e1)) s4 e4;
   nodes = λ j m. stand_nodes h3 h4 s4 j (stand_nodes h2 h3 s3 j (stand_nodes h1 h2 s2 j (stand_nodes h0 h1 s1 j m)));
   named = λ j n m. stand_named h3 h4 s4 j n (stand_named h2 h3 s3 j n (stand_named h1 h2 s2 j n (stand_named h0 h1 s1 j n m)));
 }
@@ -326,6 +356,7 @@ links_still heap outside at left right height h has = record {
   heap = h;
   written = written;
   others = λ single n it ne k. k;
+  steady = λ n ne c. c;
   nodes = λ j m. m;
   named = λ j n m. m;
 }

@@ -17,7 +17,8 @@ use Rattle.node_rows.specs.Keys.{Keys, Seen}
 use Rattle.node_rows.specs.Nodes.{Seat, IsSeat}
 use Rattle.table_nodes.specs.Nodes.{IsNode, IsNamed, IsSingle, IsSlot, IsStored, OthersStay, rows_in, seen}
 use Rattle.table_nodes.specs.Entering.{Puts, with_value}
-use Rattle.table_nodes.proofs.NodeLaws.{seat_at, seat_one, seen_one, changed-same, written_from, key_like, mark_joint, mark_seen, stand_nodes, stand_named, renamed}
+use Rattle.table_nodes.proofs.BringLaws.{none_ref}
+use Rattle.table_nodes.proofs.NodeLaws.{marked_steady, seat_at, seat_one, seen_one, changed-same, written_from, key_like, mark_joint, mark_seen, stand_nodes, stand_named, renamed}
 
 seat_value : (ks : Keys) (seen : Seen) (it : Shown) (row : Seat ks) (n : Reference) → IsSeat ks seen it row → IsSeat ks seen (record it { refs = set it.refs 3 n }) (with_value n row)
 seat_value ks seen it row n s = record {
@@ -37,6 +38,7 @@ puts h0 h1 h2 outside at value node i0 i1 i2 e1 e2 s1 s2 = record {
   heap = i2;
   written = written;
   others = others;
+  steady = marked_steady h0 h1 h2 at (s1 at node.held).held s1 (none_ref h0 h1 at 3 (Local value) node.held e1) (ap (λ (x : Heap). x.assigned) e1) s2 e2;
   nodes = λ j m. stand_nodes h1 h2 s2 j (stand_nodes h0 h1 s1 j m);
   named = λ j n m. stand_named h1 h2 s2 j n (stand_named h0 h1 s1 j n m);
 }
@@ -65,6 +67,7 @@ puts_still heap outside at value h has = record {
   heap = h;
   written = written;
   others = λ single n it ne k. k;
+  steady = λ n ne c. c;
   nodes = λ j m. m;
   named = λ j n m. m;
 }

@@ -24,6 +24,10 @@ use Rattle.node_rows.specs.Keys.{Keys, KeyOf, order_by}
 use Rattle.table_nodes.specs.Nodes.{IsNamed, IsLinked, Grows}
 use Rattle.node_rows.specs.Nodes.{I, HasValue}
 use Rattle.table_nodes.specs.Steps.{Place, place, IsPlace, rows_of, AreSides, Holds, Touches}
+use Rattle.table_nodes.specs.Bringing.{NoneCome}
+use Rattle.table_nodes.specs.Fetching.{Fetches}
+use Rattle.table_nodes.specs.Hanging.{AreHung}
+use Rattle.table_nodes.specs.Sparing.{Spares}
 use Rattle.table_nodes.specs.Turning.{Balances}
 use Rattle.table_nodes.specs.Wings.{AreEnds, IsLeftWing, IsRightWing}
 use Rattle.table_nodes.specs.declared.wing.Wing.{Wing}
@@ -33,7 +37,10 @@ use Rattle.table_nodes.specs.declared.enter.Entered.{Entered}
 use Rattle.table_nodes.specs.declared.opening.Opened.{Opened}
 use Rattle.table_nodes.specs.declared.span.Span.{Span}
 use Rattle.table_nodes.specs.Spans.{IsWithin}
+use Rattle.table_nodes.proofs.FetchLaws.{fetches_none, fetches_then}
+use Rattle.table_nodes.proofs.HangLaws.{Parted, here_touched, hung_touched, keeps_steady, plain_hung, side_kept, steady_touched, tree_given, tree_parted}
 use Rattle.table_nodes.proofs.KeyLaws.{total}
+use Rattle.table_nodes.proofs.Sparing.{spares_then}
 use Rattle.table_nodes.proofs.SeenLaws.{seen_joint, fetch_back}
 use Rattle.table_nodes.proofs.Seeking.{lookup_here, lookup_left, lookup_right}
 use Rattle.table_nodes.proofs.WingLaws.{ends_kept, left_ends, right_ends}
@@ -87,21 +94,40 @@ module _ (ks : Keys) (key : KeyOf ks) (value : Reference) where
       here = record { heap = made.heap; single = p.single };
       root_is = made.here;
       others = λ n it p k. made.seen n it k;
+      hangs = record {
+        here = λ n k. record { at = k.at; named = made.named k.at n k.named };
+        steady = λ n it q k c. keeps_steady old new outside p.heap made.heap made.keeps n it k c;
+        hung = λ h. ((λ c. record { at = at; named = made.here }), tt, tt);
+      };
     };
+    fetched = made.fetched;
     wing = λ grew. (((tt, tt), λ lower. tt), ((tt, tt), λ lower. tt));
   }
 
-  module _ (old m m1 m2 : Place) (at : ℕ) (root : Option ℕ) (opened : Opened) (grows : Touches old m) (p : IsPlace old) (l : Tree (I ks)) (a : I ks) (r : Tree (I ks)) (t : IsTree ks old root (node l a r)) (named : IsNamed old.heap at a.name) (o : IsOpened ks m.heap key l a r opened) where
+  module _ (old m m1 m2 : Place) (at : ℕ) (root : Option ℕ) (opened : Opened) (grows : Touches old m) (p : IsPlace old) (l : Tree (I ks)) (a : I ks) (r : Tree (I ks)) (t : IsTree ks old root (node l a r)) (named : IsNamed old.heap at a.name) (o : IsOpened ks m.heap key l a r opened)
+      (came : Fetches ks old.heap m.heap old.outside) where
     standing : Stands (rows_of ks m) (node l a r)
     standing = stands_grown (rows_of ks old) (rows_of ks m) (grows.rows ks) (node l a r) t.stands
 
     here : IsPlace m
     here = place_touched old m grows p
 
-    pub put_left : (side top : Entered) → Holds m.heap m1.heap → Holds m1.heap m2.heap → Enters ks m m1 l key value side → Balances m1 m2 at (Some side.root) opened.right side.wing top.root
+    -- the nodes on both sides hang together after touches
+    opened_hung : AreHung old.heap (node l a r) → AreHung m.heap (node l a r)
+    opened_hung h = hung_touched ks old m p grows (node l a r) t.stands h
+
+    parted : Parted (items l) a (items r)
+    parted = tree_parted ks m here l a r standing t.rising
+
+    came_then : (m1 m2 : Place) → Spares m.heap m1.heap m.outside m1.outside → Spares m1.heap m2.heap m1.outside m2.outside → NoneCome m1.heap m2.heap → Fetches ks m.heap m1.heap m.outside → Fetches ks old.heap m2.heap old.outside
+    came_then m1 m2 first second none f =
+        fetches_then ks old.heap m.heap m2.heap old.outside m.outside m2.outside grows.leaves.contents (spares_then m.heap m1.heap m2.heap m.outside m1.outside m2.outside first second) came
+        (fetches_then ks m.heap m1.heap m2.heap m.outside m1.outside m2.outside first.contents second f (fetches_none ks m1.heap m2.heap m1.outside none))
+
+    pub put_left : (side top : Entered) → Spares m.heap m1.heap m.outside m1.outside → Spares m1.heap m2.heap m1.outside m2.outside → NoneCome m1.heap m2.heap → Holds m.heap m1.heap → Holds m1.heap m2.heap → Enters ks m m1 l key value side → Balances m1 m2 at (Some side.root) opened.right side.wing top.root
         → (top.root ≡ at → top.wing ≡ record { sides = Some (record { left = Some side.root; right = opened.right }); left = side.wing.sides; right = None })
         → height (node l a r) < 200 → opened.order ≡ Less → Enters ks old m2 (node l a r) key value top
-    put_left side top holds last w balances plain low less =
+    put_left side top first second no_other holds last w balances plain low less =
         let e = sym o.order ∙ less in
         let grown = entered_grown (order_by ks) (total ks) key value w.fresh l t.balanced.0 in
         let g = left_given (order_by ks) (total ks) key value w.fresh (rows_of ks m) (rows_of ks m1) (one ks m here) l a r e standing t.rising w.stands.becomes in
@@ -125,10 +151,22 @@ module _ (ks : Keys) (key : KeyOf ks) (value : Reference) where
             becomes = touched (rows_of ks old) (rows_of ks m) (rows_of ks m2) _ _ (grows.rows ks) (left_entered (order_by ks) (total ks) key value w.fresh (rows_of ks m) (rows_of ks m1) (rows_of ks m2) (λ row k. w.is_fresh k.it (seen_joint m.heap m.outside w.fresh k.it k.there)) l a r e t.rising w.stands.becomes v.becomes);
             here = v.here;
             root_is = subst (λ u. IsLinked m2.heap (Some top.root) (root_of u)) (sym is) v.root_is;
+            hangs = record {
+              here = λ n k. v.hangs.here n (w.stands.hangs.here n (here_touched old m grows n k));
+              steady = λ n it q k c.
+                  let unlike : w.fresh ≢ n = λ e. w.is_fresh it (subst (λ x. joint m.heap m.outside x it) (sym e) (grows.seen n it k)) in
+                  let side = apart_front n (items l) a (items r) q in
+                  steady_touched old m p grows n it k (w.stands.hangs.steady n it side (grows.seen n it k)
+                  (v.hangs.steady n it (apart_left (order_by ks) (total ks) key value w.fresh n unlike l a r e t.rising q) (w.stands.others n it side (grows.seen n it k)) c));
+              hung = λ h.
+                  let o = opened_hung h in
+                  subst (AreHung m2.heap) (sym is) (v.hangs.hung ((λ c. record { at = at; named = sides.name }), w.stands.hangs.hung o.1, side_kept ks m m1 l (with_entry w.fresh l) w.stands.hangs r standing.2 parted.back o.2));
+            };
             others = λ n it p k.
                 let unlike : w.fresh ≢ n = λ e. w.is_fresh it (subst (λ x. joint m.heap m.outside x it) (sym e) (grows.seen n it k)) in
                 v.others n it (apart_left (order_by ks) (total ks) key value w.fresh n unlike l a r (sym o.order ∙ less) t.rising p) (w.stands.others n it (apart_front n (items l) a (items r) p) (grows.seen n it k));
           };
+          fetched = came_then m1 m2 first second no_other w.fetched;
           wing = λ grew.
               let gl = grew_left l (with_entry w.fresh l) a r t.balanced grown (insert_leans (seek (order_by ks) key) (put value) (fresh_item w.fresh key value) l t.balanced.0) (ap height (sym is) ∙ grew) in
               let at_is = last.named at a.name (holds.named at a.name (grows.named at a.name named)) in
@@ -141,10 +179,10 @@ module _ (ks : Keys) (key : KeyOf ks) (value : Reference) where
               ((ends, λ lower. absurd (omega (arith, lower, gl.higher))), (ends, λ lower. below)));
         }
 
-    pub put_right : (side top : Entered) → Holds m.heap m1.heap → Holds m1.heap m2.heap → Enters ks m m1 r key value side → Balances m1 m2 at opened.left (Some side.root) side.wing top.root
+    pub put_right : (side top : Entered) → Spares m.heap m1.heap m.outside m1.outside → Spares m1.heap m2.heap m1.outside m2.outside → NoneCome m1.heap m2.heap → Holds m.heap m1.heap → Holds m1.heap m2.heap → Enters ks m m1 r key value side → Balances m1 m2 at opened.left (Some side.root) side.wing top.root
         → (top.root ≡ at → top.wing ≡ record { sides = Some (record { left = opened.left; right = Some side.root }); left = None; right = side.wing.sides })
         → height (node l a r) < 200 → opened.order ≡ Greater → Enters ks old m2 (node l a r) key value top
-    put_right side top holds last w balances plain low more =
+    put_right side top first second no_other holds last w balances plain low more =
         let e = sym o.order ∙ more in
         let grown = entered_grown (order_by ks) (total ks) key value w.fresh r t.balanced.1 in
         let g = right_given (order_by ks) (total ks) key value w.fresh (rows_of ks m) (rows_of ks m1) (one ks m here) l a r e standing t.rising w.stands.becomes in
@@ -168,10 +206,22 @@ module _ (ks : Keys) (key : KeyOf ks) (value : Reference) where
             becomes = touched (rows_of ks old) (rows_of ks m) (rows_of ks m2) _ _ (grows.rows ks) (right_entered (order_by ks) (total ks) key value w.fresh (rows_of ks m) (rows_of ks m1) (rows_of ks m2) (λ row k. w.is_fresh k.it (seen_joint m.heap m.outside w.fresh k.it k.there)) l a r e t.rising w.stands.becomes v.becomes);
             here = v.here;
             root_is = subst (λ u. IsLinked m2.heap (Some top.root) (root_of u)) (sym is) v.root_is;
+            hangs = record {
+              here = λ n k. v.hangs.here n (w.stands.hangs.here n (here_touched old m grows n k));
+              steady = λ n it q k c.
+                  let unlike : w.fresh ≢ n = λ e. w.is_fresh it (subst (λ x. joint m.heap m.outside x it) (sym e) (grows.seen n it k)) in
+                  let side = apart_back n (items l) a (items r) q in
+                  steady_touched old m p grows n it k (w.stands.hangs.steady n it side (grows.seen n it k)
+                  (v.hangs.steady n it (apart_right (order_by ks) (total ks) key value w.fresh n unlike l a r e t.rising q) (w.stands.others n it side (grows.seen n it k)) c));
+              hung = λ h.
+                  let o = opened_hung h in
+                  subst (AreHung m2.heap) (sym is) (v.hangs.hung ((λ c. record { at = at; named = sides.name }), side_kept ks m m1 r (with_entry w.fresh r) w.stands.hangs l standing.1 parted.across o.1, w.stands.hangs.hung o.2));
+            };
             others = λ n it p k.
                 let unlike : w.fresh ≢ n = λ e. w.is_fresh it (subst (λ x. joint m.heap m.outside x it) (sym e) (grows.seen n it k)) in
                 v.others n it (apart_right (order_by ks) (total ks) key value w.fresh n unlike l a r (sym o.order ∙ more) t.rising p) (w.stands.others n it (apart_back n (items l) a (items r) p) (grows.seen n it k));
           };
+          fetched = came_then m1 m2 first second no_other w.fetched;
           wing = λ grew.
               let gr = grew_right l a r (with_entry w.fresh r) t.balanced grown (insert_leans (seek (order_by ks) key) (put value) (fresh_item w.fresh key value) r t.balanced.1) (ap height (sym is) ∙ grew) in
               let at_is = last.named at a.name (holds.named at a.name (grows.named at a.name named)) in
@@ -184,8 +234,8 @@ module _ (ks : Keys) (key : KeyOf ks) (value : Reference) where
               ((ends, λ lower. below), (ends, λ lower. absurd (omega (arith, lower, gr.higher)))));
         }
 
-    pub put_here : (new : Heap) (at_value : ℕ) (top : Entered) → top.root ≡ at → name_at m.heap at_value ≡ value → Puts m.heap new m.outside at at_value → opened.order ≡ Equal → Enters ks old (place new m.outside) (node l a r) key value top
-    put_here new at_value top top_is is_value puts same =
+    pub put_here : (new : Heap) (at_value : ℕ) (top : Entered) → Spares m.heap new m.outside m.outside → NoneCome m.heap new → top.root ≡ at → name_at m.heap at_value ≡ value → Puts m.heap new m.outside at at_value → opened.order ≡ Equal → Enters ks old (place new m.outside) (node l a r) key value top
+    put_here new at_value top spares no_other top_is is_value puts same =
         let e = sym o.order ∙ same in
         let fresh = Local (top_of old.heap) in
         let w : IsWritten (rows_of ks m) a.name (row_of l (put value a) r) (rows_of ks (place new m.outside)) =
@@ -197,8 +247,18 @@ module _ (ks : Keys) (key : KeyOf ks) (value : Reference) where
             becomes = touched (rows_of ks old) (rows_of ks m) (rows_of ks (place new m.outside)) _ _ (grows.rows ks) (entered_here (order_by ks) (total ks) key value fresh (rows_of ks m) (rows_of ks (place new m.outside)) (one ks m here) l a r e standing t.rising w);
             here = record { heap = puts.heap; single = here.single };
             root_is = subst (λ i. IsLinked new (Some i) (root_of (with_entry fresh (node l a r)))) (sym top_is) (subst (λ u. IsLinked new (Some at) (root_of u)) (sym (entered_here_is (order_by ks) (total ks) key value fresh l a r e)) (puts.named at a.name (grows.named at a.name named)));
+            hangs = record {
+              here = λ n k. record { at = k.at; named = puts.named k.at n (grows.named k.at n k.named) };
+              steady = λ n it q k c. steady_touched old m p grows n it k (puts.steady n (other_name m.heap at n (items l) a (items r) (grows.named at a.name named) q) c);
+              hung = λ h.
+                  let o = opened_hung h in
+                  let kept = plain_hung ks m (place new m.outside) here (λ n k. record { at = k.at; named = puts.named k.at n k.named }) l a r (tree_given ks m l a r standing t.rising)
+                  (λ n it q k c. puts.steady n (λ e. q.0 (sym (e ∙ (grows.named at a.name named).name))) c) (record { at = at; named = puts.named at a.name (grows.named at a.name named) }) o in
+                  subst (AreHung new) (sym (entered_here_is (order_by ks) (total ks) key value fresh l a r e)) ((λ c. record { at = at; named = puts.named at a.name (grows.named at a.name named) }), kept.1, kept.2);
+            };
             others = λ n it p k. puts.others here.single n it (other_name m.heap at n (items l) a (items r) (grows.named at a.name named) p) (grows.seen n it k);
           };
+          fetched = fetches_then ks old.heap m.heap new old.outside m.outside m.outside grows.leaves.contents spares came (fetches_none ks m.heap new m.outside no_other);
           wing = λ grew. absurd (omega (arith, ap height (entered_here_is (order_by ks) (total ks) key value fresh l a r e), grew));
         }
 

@@ -5,6 +5,7 @@ use Rattle.std.proofs.lemmas.List.{get_or-set_other}
 use Rattle.heap_places.specs.ps_outside.Outside.{Outside, SameContents}
 use Rattle.heap_places.specs.obj_layout.Stored.{Space, Holds}
 use Rattle.heap_places.specs.obj_layout.declared.reference.Reference.{Reference}
+use Rattle.heap_places.specs.obj_layout.declared.reference.Reference.TheVariants.{Nil}
 use Rattle.heap_places.specs.swizzle.declared.fault.SwizzleFault.{SwizzleFault}
 use Rattle.heap_places.specs.swizzle.Heap.{Heap, IsHeap, IsHeld, IsListed, Stands, flagged, header_at, is_assigned, object_at, reference_to, top_of, with_mark, with_num, with_object, with_ref, num_at}
 use Rattle.heap_places.specs.swizzle.Objects.{Object, replace_from}
@@ -14,6 +15,7 @@ use Rattle.heap_places.proofs.of_swizzle.StandLaws.{like_nums, like_flags}
 use Rattle.heap_places.specs.swizzle.Joint.{Shown, Joint, shown_at, name_at, name_of}
 use Rattle.heap_places.specs.swizzle.Changes.{Same, ChangedAt, Within}
 use Rattle.heap_places.specs.swizzle.Reading.{joint}
+use Rattle.heap_places.specs.Shapes.{slot_of}
 use Rattle.heap_places.specs.swizzle.Touch.{Keeps}
 use Rattle.heap_places.proofs.of_swizzle.JointLaws.{IsLike, joint-ref, joint-num, like_long, like_ref, object-replaced_other, object-replaced}
 use Rattle.heap_places.proofs.of_swizzle.MarkLaws.{joint-mark}
@@ -29,11 +31,11 @@ pub node_lasts : (old new : Heap) (at : ℕ) → Lasts old new at → IsNode old
 node_lasts old new at l n = record { held = l.held; kind = l.kind ∙ n.kind; refs = l.refs ∙ n.refs; nums = l.nums ∙ n.nums }
 
 pub lasts_then : (a b c : Heap) (at : ℕ) → Lasts a b at → Lasts b c at → Lasts a c at
-lasts_then a b c at f g = record { held = g.held; name = g.name ∙ f.name; kind = g.kind ∙ f.kind; refs = g.refs ∙ f.refs; nums = g.nums ∙ f.nums }
+lasts_then a b c at f g = record { held = g.held; name = g.name ∙ f.name; kind = g.kind ∙ f.kind; refs = g.refs ∙ f.refs; nums = g.nums ∙ f.nums; bytes = g.bytes ∙ f.bytes }
 
 pub spares_none : (heap : Heap) (outside : Outside Space) → Spares heap heap outside outside
 spares_none heap outside = record {
-  lasts = λ at h. record { held = h; name = refl; kind = refl; refs = refl; nums = refl };
+  lasts = λ at h. record { held = h; name = refl; kind = refl; refs = refl; nums = refl; bytes = refl };
   kept = λ at h. inl refl;
   noted = λ at l. l;
   only = λ at l. inl l;
@@ -41,6 +43,7 @@ spares_none heap outside = record {
   kinds = λ single n it h. record { it = it; there = h; kind_is = refl };
   flags = λ at h. inl refl;
   homes = λ at h. refl;
+  texts = λ at h. refl;
   size = refl;
   top = omega arith;
   contents = record { kept = λ x h. h; no_other = λ x h. h };
@@ -49,7 +52,7 @@ spares_none heap outside = record {
 -- nothing was written
 pub spares_seen : (old new : Heap) (a b : Outside Space) → Keeps old new → Within (joint old a) (joint new b) → SameContents a b → Spares old new a b
 spares_seen old new a b keeps seen same = record {
-  lasts = λ at h. (let s = keeps.objects at h in record { held = s.held; name = s.name; kind = ap (λ it. it.kind) s.shown_as; refs = s.refs; nums = s.nums });
+  lasts = λ at h. (let s = keeps.objects at h in record { held = s.held; name = s.name; kind = ap (λ it. it.kind) s.shown_as; refs = s.refs; nums = s.nums; bytes = ap (λ it. it.bytes) s.shown_as });
   kept = λ at h. inl (keeps.objects at h).shown_as;
   noted = λ at l. subst (λ is. IsListed at is) (sym keeps.assigned) l;
   only = λ at l. inl (subst (λ is. IsListed at is) keeps.assigned l);
@@ -57,6 +60,7 @@ spares_seen old new a b keeps seen same = record {
   kinds = λ single n it h. record { it = it; there = seen n it h; kind_is = refl };
   flags = λ at h. inl (keeps.objects at h).flags;
   homes = λ at h. ap (λ (it : Shown). slice_index it.nums 0) (keeps.objects at h).shown_as;
+  texts = λ at h. ap (λ (it : Shown). slot_of it 2) (keeps.objects at h).shown_as;
   size = keeps.size;
   top = keeps.top;
   contents = same;
@@ -100,6 +104,7 @@ module _ (a b c : Heap) (x y z : Outside Space) (s : Spares a b x y) (t : Spares
         record { it = m.it; there = m.there; kind_is = m.kind_is ∙ k.kind_is });
     flags = λ at h. (let there = (s.lasts at h).held in flags_then at there (s.flags at h) (t.flags at there));
     homes = λ at h. t.homes at (s.lasts at h).held ∙ s.homes at h;
+    texts = λ at h. t.texts at (s.lasts at h).held ∙ s.texts at h;
     size = t.size ∙ s.size;
     top = omega (arith, s.top, t.top);
     contents = record { kept = λ k h. t.contents.kept k (s.contents.kept k h); no_other = λ k h. s.contents.no_other k (t.contents.no_other k h) };
@@ -154,6 +159,7 @@ pub record Beside (a b : Heap) (outside : Outside Space) (at : ℕ) : Type 0 whe
   pub shows : (j : ℕ) → IsHeld a j → j ≢ at → shown_at b j ≡ shown_at a j
   pub others : OthersStay a b outside at
   pub place : IsInPlace a b at
+  pub texts : (j : ℕ) → IsHeld a j → slot_of (shown_at b j) 2 ≡ slot_of (shown_at a j) 2
 
 -- nothing is stored
 abbrev none : ℕ → List ℕ → Type 0
@@ -164,23 +170,53 @@ shown_beside a b at it ha hb held s c j there ne =
     let k : Joint b none (name_at a j) (shown_at a j) = c.stays (name_at a j) (shown_at a j) (λ e. ne (name_at-injective a j at ha there held e)) (inl (record { at = j; held = there; name_is = refl; shown_is = refl })) in
     sym (seen_held b none j (shown_at a j) hb (s j there).held (subst (λ n. Joint b none n (shown_at a j)) (sym (name_stands a b s j there)) k))
 
-pub beside_ref : (a b : Heap) (outside : Outside Space) (at slot : ℕ) (to : Reference) → IsHeap a → IsHeap b → IsHeld a at → b ≡ with_ref a at slot to → Stands a b → Beside a b outside at
-beside_ref a b outside at slot to ha hb held e s = record {
+-- the third reference of each object is what it was, where that of the written one is
+texts_beside : (a b : Heap) (at : ℕ) (it : Shown) → IsHeap b → IsHeld a at → Stands a b → ChangedAt (Joint a none) (name_at a at) it (Joint b none) → slot_of it 2 ≡ slot_of (shown_at a at) 2
+    → ((j : ℕ) → IsHeld a j → j ≢ at → shown_at b j ≡ shown_at a j) → (j : ℕ) → IsHeld a j → slot_of (shown_at b j) 2 ≡ slot_of (shown_at a j) 2
+texts_beside a b at it hb held s c same shows j there = elim (cases_eq j at) [
+  | inl e ↦
+      let now = seen_held b none at it hb (s at held).held (subst (λ n. Joint b none n it) (sym (name_stands a b s at held)) c.there) in
+      subst (λ i. slot_of (shown_at b i) 2 ≡ slot_of (shown_at a i) 2) (sym e) (ap (λ (x : Shown). slot_of x 2) (sym now) ∙ same)
+  | inr ne ↦ ap (λ (x : Shown). slot_of x 2) (shows j there ne)
+]
+
+pub beside_ref : (a b : Heap) (outside : Outside Space) (at slot : ℕ) (to : Reference) → 2 ≢ slot → IsHeap a → IsHeap b → IsHeld a at → b ≡ with_ref a at slot to → Stands a b → Beside a b outside at
+beside_ref a b outside at slot to other ha hb held e s = record {
   stands = s;
   list = ap (λ (x : Heap). x.assigned) e;
-  shows = shown_beside a b at (record (shown_at a at) { refs = set (shown_at a at).refs slot (name_of a to) }) ha hb held s (subst (λ x. ChangedAt (Joint a none) (name_at a at) (record (shown_at a at) { refs = set (shown_at a at).refs slot (name_of a to) }) (Joint x none)) (sym e) (joint-ref a none at slot to ha held));
-  others = (subst (λ x. ChangedAt (joint a outside) (name_at a at) (record (shown_at a at) { refs = set (shown_at a at).refs slot (name_of a to) }) (joint x outside)) (sym e) (joint-ref a (Holds outside) at slot to ha held)).stays;
+  shows = shows;
+  others = (subst (λ x. ChangedAt (joint a outside) (name_at a at) it (joint x outside)) (sym e) (joint-ref a (Holds outside) at slot to ha held)).stays;
   place = subst (λ (x : Heap). IsInPlace a x at) (sym e) (in_place a at _ held (like_ref a at slot to) refl);
+  texts = texts_beside a b at it hb held s changed (get_or-set_other (shown_at a at).refs slot 2 (name_of a to) Nil other) shows;
 }
+  where
+    it : Shown
+    it = record (shown_at a at) { refs = set (shown_at a at).refs slot (name_of a to) }
+
+    changed : ChangedAt (Joint a none) (name_at a at) it (Joint b none)
+    changed = subst (λ x. ChangedAt (Joint a none) (name_at a at) it (Joint x none)) (sym e) (joint-ref a none at slot to ha held)
+
+    shows : (j : ℕ) → IsHeld a j → j ≢ at → shown_at b j ≡ shown_at a j
+    shows = shown_beside a b at it ha hb held s changed
 
 pub beside_num : (a b : Heap) (outside : Outside Space) (at index value : ℕ) → 0 ≢ index → IsHeap a → IsHeap b → IsHeld a at → b ≡ with_num a at index value → Stands a b → Beside a b outside at
 beside_num a b outside at index value first ha hb held e s = record {
   stands = s;
   list = ap (λ (x : Heap). x.assigned) e;
-  shows = shown_beside a b at (record (shown_at a at) { nums = set (shown_at a at).nums index value }) ha hb held s (subst (λ x. ChangedAt (Joint a none) (name_at a at) (record (shown_at a at) { nums = set (shown_at a at).nums index value }) (Joint x none)) (sym e) (joint-num a none at index value ha held));
-  others = (subst (λ x. ChangedAt (joint a outside) (name_at a at) (record (shown_at a at) { nums = set (shown_at a at).nums index value }) (joint x outside)) (sym e) (joint-num a (Holds outside) at index value ha held)).stays;
+  shows = shows;
+  others = (subst (λ x. ChangedAt (joint a outside) (name_at a at) it (joint x outside)) (sym e) (joint-num a (Holds outside) at index value ha held)).stays;
   place = subst (λ (x : Heap). IsInPlace a x at) (sym e) (in_place a at _ held (like_nums (object_at a at) _) (get_or-set_other (object_at a at).nums index 0 value 0 first));
+  texts = texts_beside a b at it hb held s changed refl shows;
 }
+  where
+    it : Shown
+    it = record (shown_at a at) { nums = set (shown_at a at).nums index value }
+
+    changed : ChangedAt (Joint a none) (name_at a at) it (Joint b none)
+    changed = subst (λ x. ChangedAt (Joint a none) (name_at a at) it (Joint x none)) (sym e) (joint-num a none at index value ha held)
+
+    shows : (j : ℕ) → IsHeld a j → j ≢ at → shown_at b j ≡ shown_at a j
+    shows = shown_beside a b at it ha hb held s changed
 
 pub beside_then : (a b c : Heap) (outside : Outside Space) (at : ℕ) → IsHeld a at → Beside a b outside at → Beside b c outside at → Beside a c outside at
 beside_then a b c outside at held f g = record {
@@ -189,6 +225,7 @@ beside_then a b c outside at held f g = record {
   shows = λ j h ne. g.shows j (f.stands j h).held ne ∙ f.shows j h ne;
   others = λ n it ne k. g.others n it (λ e. ne (e ∙ name_stands a b f.stands at held)) (f.others n it ne k);
   place = place_then a b c at f.place g.place;
+  texts = λ j h. g.texts j (f.stands j h).held ∙ f.texts j h;
 }
 
 -- It was marked then.
@@ -200,6 +237,7 @@ pub record WritesOne (a c : Heap) (outside : Outside Space) (at : ℕ) : Type 0 
   pub listed : IsListed at c.assigned
   pub others : IsSingle outside → OthersStay a c outside at
   pub place : IsInPlace a c at
+  pub texts : (j : ℕ) → IsHeld a j → slot_of (shown_at c j) 2 ≡ slot_of (shown_at a j) 2
 
 pub shown_marked : (a b : Heap) (at : ℕ) → IsHeap a → IsHeap b → IsHeld a at → Stands a b → b ≡ with_mark a at → (j : ℕ) → IsHeld a j → shown_at b j ≡ shown_at a j
 shown_marked a b at ha hb held s e j there =
@@ -211,8 +249,9 @@ pub writes_one : (a b c : Heap) (outside : Outside Space) (at : ℕ) → IsHeap 
 writes_one a b c outside at hb hc held f e s =
     let held1 = (f.stands at held).held in
     record {
-      lasts = λ j h. (let t = f.stands j h in let u = s j t.held in record { held = u.held; name = name_stands b c s j t.held ∙ name_stands a b f.stands j h; kind = u.kind ∙ t.kind; refs = u.refs ∙ t.refs; nums = u.nums ∙ t.nums });
+      lasts = λ j h. (let t = f.stands j h in let u = s j t.held in record { held = u.held; name = name_stands b c s j t.held ∙ name_stands a b f.stands j h; kind = u.kind ∙ t.kind; refs = u.refs ∙ t.refs; nums = u.nums ∙ t.nums; bytes = u.bytes ∙ t.bytes });
       kept = λ j h ne. shown_marked b c at hb hc held1 s e j (f.stands j h).held ∙ f.shows j h ne;
+      texts = λ j h. ap (λ (x : Shown). slot_of x 2) (shown_marked b c at hb hc held1 s e j (f.stands j h).held) ∙ f.texts j h;
       noted = λ j l. subst (λ (x : Heap). IsListed j x.assigned) (sym e) (listed_still b at j (subst (λ is. IsListed j is) (sym f.list) l));
       only = λ j l. elim (listed_marked b at j (subst (λ (x : Heap). IsListed j x.assigned) e l)) [ inl m ↦ inl (subst (λ is. IsListed j is) f.list m) | inr d ↦ inr d ];
       listed = subst (λ (x : Heap). IsListed at x.assigned) (sym e) (marked_listed b at hb held1);
@@ -248,6 +287,7 @@ spares_written a c outside at h node w =
       kinds = λ single n it k. kinds_kept a c outside at h node.held w.lasts (w.others single) n it k;
       flags = λ j there. elim (cases_eq j at) [ inl same ↦ inr (subst (IsNode c) (sym same) now) | inr apart ↦ inl (w.place.flags j apart) ];
       homes = λ j there. w.place.homes j;
+      texts = w.texts;
       size = w.place.size;
       top = omega (arith, w.place.top);
       contents = record { kept = λ x k. k; no_other = λ x k. k };
@@ -259,13 +299,13 @@ pub spares_sides : (h0 h1 h2 h3 h4 : Heap) (outside : Outside Space) (at : ℕ) 
     → Stands h0 h1 → Stands h1 h2 → Stands h2 h3 → Stands h3 h4 → Spares h0 h4 outside outside
 spares_sides h0 h1 h2 h3 h4 outside at left right height node i0 i1 i2 i3 i4 e1 e2 e3 e4 s1 s2 s3 s4 =
     let held1 = (s1 at node.held).held in
-    let b1 = beside_ref h0 h1 outside at 0 (reference_to left) i0 i1 node.held e1 s1 in
-    let b2 = beside_ref h1 h2 outside at 1 (reference_to right) i1 i2 held1 e2 s2 in
+    let b1 = beside_ref h0 h1 outside at 0 (reference_to left) (λ e. cc) i0 i1 node.held e1 s1 in
+    let b2 = beside_ref h1 h2 outside at 1 (reference_to right) (λ e. cc) i1 i2 held1 e2 s2 in
     let b3 = beside_num h2 h3 outside at 2 height (λ e. cc) i2 i3 (s2 at held1).held e3 s3 in
     spares_written h0 h4 outside at i0 node (writes_one h0 h3 h4 outside at i3 i4 node.held (beside_then h0 h2 h3 outside at node.held (beside_then h0 h1 h2 outside at node.held b1 b2) b3) e4 s4)
 
 -- its value
-pub spares_value : (h0 h1 h2 : Heap) (outside : Outside Space) (at slot : ℕ) (to : Reference) → IsNode h0 at → IsHeap h0 → IsHeap h1 → IsHeap h2 → h1 ≡ with_ref h0 at slot to → h2 ≡ with_mark h1 at → Stands h0 h1 → Stands h1 h2
+pub spares_value : (h0 h1 h2 : Heap) (outside : Outside Space) (at slot : ℕ) (to : Reference) → 2 ≢ slot → IsNode h0 at → IsHeap h0 → IsHeap h1 → IsHeap h2 → h1 ≡ with_ref h0 at slot to → h2 ≡ with_mark h1 at → Stands h0 h1 → Stands h1 h2
     → Spares h0 h2 outside outside
-spares_value h0 h1 h2 outside at slot to node i0 i1 i2 e1 e2 s1 s2 =
-    spares_written h0 h2 outside at i0 node (writes_one h0 h1 h2 outside at i1 i2 node.held (beside_ref h0 h1 outside at slot to i0 i1 node.held e1 s1) e2 s2)
+spares_value h0 h1 h2 outside at slot to other node i0 i1 i2 e1 e2 s1 s2 =
+    spares_written h0 h2 outside at i0 node (writes_one h0 h1 h2 outside at i1 i2 node.held (beside_ref h0 h1 outside at slot to other i0 i1 node.held e1 s1) e2 s2)

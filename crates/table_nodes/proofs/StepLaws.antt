@@ -70,6 +70,7 @@ sides_set old new outside at left right h w high = record {
       set_between (order_by ks) (total ks) (rows_of ks (place old outside)) (rows_of ks (place new outside)) (one ks (place old outside) g.here) l a r g.given (subst (λ row. IsWritten (rows_of ks (place old outside)) a.name row (rows_of ks (place new outside))) is v);
   here = λ p. record { heap = w.heap; single = p.single };
   others = λ p. w.others p.single;
+  steady = w.steady;
   holds = record { nodes = w.nodes; named = w.named };
 }
 

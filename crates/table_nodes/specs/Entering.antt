@@ -11,12 +11,14 @@ use Rattle.heap_places.specs.swizzle.Heap.{Heap, IsHeap, top_of}
 use Rattle.heap_places.specs.swizzle.Joint.{Shown, name_at}
 use Rattle.heap_places.specs.swizzle.Changes.{Within}
 use Rattle.heap_places.specs.swizzle.Reading.{joint}
+use Rattle.heap_places.specs.swizzle.Touch.{Keeps}
 use Rattle.avl_trees.specs.Trees.{Tree, node, height, items, insert, lookup}
 use Rattle.avl_trees.specs.Standing.{Row, Stands, IsRising, IsWritten, root_of, seek, put, fresh_item}
 use Rattle.node_rows.specs.Keys.{Keys, KeyOf, order_by}
 use Rattle.node_rows.specs.Nodes.{Seat, I}
-use Rattle.table_nodes.specs.Nodes.{IsNode, IsNamed, IsLinked, IsSingle, IsFetchFault, OthersStay, rows_in}
+use Rattle.table_nodes.specs.Nodes.{IsNode, IsNamed, IsSteady, IsLinked, IsSingle, IsFetchFault, OthersStay, rows_in}
 use Rattle.table_nodes.specs.Steps.{Place, IsPlace, StandsAt, rows_of}
+use Rattle.table_nodes.specs.Fetching.{Fetches}
 use Rattle.table_nodes.specs.Searching.{IsTree}
 use Rattle.table_nodes.specs.Spans.{IsWithin}
 use Rattle.table_nodes.specs.Wings.{IsLeftWing, IsRightWing}
@@ -24,7 +26,7 @@ use Rattle.table_nodes.specs.declared.span.Span.{Span}
 use Rattle.table_nodes.specs.declared.enter.Entered.{Entered}
 use Rattle.table_nodes.specs.declared.opening.Opened.{Opened}
 
--- A node was made with a key and a value, without sides, under a name that had no object; all else is seen as it was.
+-- A node was made with a key and a value, without sides, under a name that had no object; all else is seen as it was, and no other object came into the area.
 pub record Makes (ks : Keys) (old new : Heap) (outside : Outside Space) (at : ℕ) (key : KeyOf ks) (value : Reference) : Type 0 where
   pub there : rows_in ks new outside (Local at) (record { left = None; right = None; entry = record { key = key; value = value }; height = 1 })
   pub fresh : (it : Shown) → joint old outside (Local at) it → ⊥
@@ -34,6 +36,8 @@ pub record Makes (ks : Keys) (old new : Heap) (outside : Outside Space) (at : �
   pub nodes : (j : ℕ) → IsNode old j → IsNode new j
   pub named : (j : ℕ) (n : Reference) → IsNamed old j n → IsNamed new j n
   pub heap : IsHeap new
+  pub keeps : Keeps old new
+  pub fetched : Fetches ks old new outside
 
 -- the row with another value
 abbrev pub with_value : {K : Type 0} → Reference → Row Reference K Reference → Row Reference K Reference
@@ -47,6 +51,7 @@ pub record Puts (old new : Heap) (outside : Outside Space) (at value : ℕ) : Ty
   pub named : (j : ℕ) (n : Reference) → IsNamed old j n → IsNamed new j n
   pub heap : IsHeap new
   pub others : IsSingle outside → OthersStay old new outside at
+  pub steady : IsSteady old new at
 
 -- how a key stands to a node, and the node's sides
 pub record IsOpened (ks : Keys) (heap : Heap) (key : KeyOf ks) (x : Tree (I ks)) (b : I ks) (y : Tree (I ks)) (opened : Opened) : Type 0 where
@@ -60,12 +65,13 @@ abbrev pub OpensAt : (ks : Keys) → Place → Heap → ℕ → KeyOf ks → Spa
 OpensAt ks old new at key span result = (x : Tree (I ks)) (b : I ks) (y : Tree (I ks)) → Stands (rows_of ks old) (node x b y) → IsNamed old.heap at b.name
     → IsRising (order_by ks) (node x b y) → IsWithin ks old.heap span (items (node x b y)) → MatchResult result (IsOpened ks new key x b y) (IsFetchFault old.heap old.outside)
 
--- The pair was put into the tree, where the key was new under a name that had no object.
+-- The pair was put into the tree, where the key was new under a name that had no object. What is new in the area came from the vault or was made.
 -- Where the tree has grown, what a turn above looks at is known.
 pub record Enters (ks : Keys) (old new : Place) (t : Tree (I ks)) (key : KeyOf ks) (value : Reference) (entered : Entered) : Type 0 where
   pub fresh : Reference
   pub is_fresh : (it : Shown) → joint old.heap old.outside fresh it → ⊥
-  pub stands : StandsAt ks old new (items t) (insert (seek (order_by ks) key) (put value) (fresh_item fresh key value) t) entered.root
+  pub stands : StandsAt ks old new t (insert (seek (order_by ks) key) (put value) (fresh_item fresh key value) t) entered.root
+  pub fetched : Fetches ks old.heap new.heap old.outside
   pub wing : height (insert (seek (order_by ks) key) (put value) (fresh_item fresh key value) t) ≡ height t + 1
       → IsLeftWing new.heap entered.wing (insert (seek (order_by ks) key) (put value) (fresh_item fresh key value) t) × IsRightWing new.heap entered.wing (insert (seek (order_by ks) key) (put value) (fresh_item fresh key value) t)
 

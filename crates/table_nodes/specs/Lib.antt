@@ -12,6 +12,8 @@ pub mod Turning
 pub mod Wings
 pub mod Bringing
 pub mod Faults
+pub mod Fetching
+pub mod Hanging
 pub use Rattle.heap_places.specs as heap_places
 pub use Rattle.avl_trees.specs as avl_trees
 pub use Rattle.node_rows.specs as node_rows

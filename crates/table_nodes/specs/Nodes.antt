@@ -1,5 +1,5 @@
 -- The nodes of a table's tree: what is seen of one under a name.
-use Rattle.std.specs.Prelude.{◌≡◌, ◌≢◌, ℕ, ◌+◌, ◌≤◌, ◌<◌, zero, suc, List, length, Option, Some, None}
+use Rattle.std.specs.Prelude.{◌≡◌, ◌≢◌, ◌⊎◌, ℕ, ◌+◌, ◌≤◌, ◌<◌, zero, suc, List, length, Option, Some, None}
 use Rattle.heap_places.specs.ps_outside.Outside.{Outside}
 use Rattle.heap_places.specs.obj_layout.Stored.{Space, Holds}
 use Rattle.heap_places.specs.obj_layout.declared.header.Header.{Header}
@@ -8,7 +8,7 @@ use Rattle.heap_places.specs.obj_layout.declared.reference.Reference.{Reference}
 use Rattle.heap_places.specs.obj_layout.declared.vault.VaultFault.TheVariants.{Device, Output, Full, NoPages, Damaged}
 use Rattle.heap_places.specs.swizzle.declared.fault.SwizzleFault.{SwizzleFault}
 use Rattle.heap_places.specs.swizzle.declared.fault.SwizzleFault.TheVariants.{AreaFull, Vault}
-use Rattle.heap_places.specs.swizzle.Heap.{Heap, IsHeap, IsHeld, top_of, local_of, header_at, ref_at, num_at, reference_to}
+use Rattle.heap_places.specs.swizzle.Heap.{Heap, IsHeap, IsHeld, IsListed, top_of, local_of, header_at, ref_at, num_at, reference_to}
 use Rattle.heap_places.specs.swizzle.Fetched.{IsFar}
 use Rattle.heap_places.specs.swizzle.Joint.{Shown, Joint, name_at, name_of}
 use Rattle.heap_places.specs.swizzle.Changes.{Within}
@@ -49,6 +49,21 @@ pub record IsNamed (heap : Heap) (at : ℕ) (n : Reference) : Type 0 where
   pub node : IsNode heap at
   pub name : name_at heap at ≡ n
 
+-- a node of the area has this name
+pub record IsHere (heap : Heap) (n : Reference) : Type 0 where
+  pub at : ℕ
+  pub named : IsNamed heap at n
+
+-- it isn't stored, or is noted as assigned
+pub record IsChanged (heap : Heap) (n : Reference) : Type 0 where
+  pub at : ℕ
+  pub named : IsNamed heap at n
+  pub why : ((header_at heap at).pid ≡ 0) ⊎ IsListed at heap.assigned
+
+-- what a write of a node leaves: no node of another name has changed that hadn't
+abbrev pub IsSteady : Heap → Heap → ℕ → Type 0
+IsSteady old new at = (n : Reference) → n ≢ name_at old at → IsChanged new n → IsChanged old n
+
 -- the node of a side, if there is one, and its name
 abbrev pub IsLinked : Heap → Option ℕ → Option Reference → Type 0
 IsLinked heap None None = Unit {0}
@@ -86,6 +101,7 @@ pub record Links (old new : Heap) (outside : Outside Space) (at : ℕ) (left rig
   pub named : (at : ℕ) (n : Reference) → IsNamed old at n → IsNamed new at n
   pub heap : IsHeap new
   pub others : IsSingle outside → OthersStay old new outside at
+  pub steady : IsSteady old new at
 
 -- a slot of an object denotes this object, or none
 abbrev pub IsSlot : Heap → ℕ → ℕ → Option ℕ → Type 0

@@ -9,7 +9,8 @@ use Rattle.heap_places.specs.swizzle.Reading.{joint}
 use Rattle.avl_trees.specs.Trees.{Tree, height, items, node}
 use Rattle.avl_trees.specs.Standing.{Rows, Given, Becomes, IsApart, root_of}
 use Rattle.node_rows.specs.Keys.{Keys, KeyOf, order_by}
-use Rattle.table_nodes.specs.Nodes.{IsNode, IsNamed, IsLinked, IsSingle, Grows, rows_in}
+use Rattle.table_nodes.specs.Hanging.{Hangs}
+use Rattle.table_nodes.specs.Nodes.{IsNode, IsNamed, IsLinked, IsSingle, IsSteady, Grows, rows_in}
 use Rattle.node_rows.specs.Nodes.{I}
 
 -- the area and what is seen of the outside
@@ -41,12 +42,13 @@ pub record AreSides (ks : Keys) (p : Place) (at : ℕ) (left right : Option ℕ)
 abbrev pub StayBeside : (ks : Keys) → Place → Place → List (I ks) → Type 0
 StayBeside ks old new is = (n : Reference) (it : Shown) → IsApart n is → joint old.heap old.outside n it → joint new.heap new.outside n it
 
--- The tree stands now, from this place on.
-pub record StandsAt (ks : Keys) (old new : Place) (is : List (I ks)) (t : Tree (I ks)) (root : ℕ) : Type 0 where
-  pub becomes : Becomes (rows_of ks old) (rows_of ks new) is t
+-- A tree has become another one, which stands now, from this place on.
+pub record StandsAt (ks : Keys) (old new : Place) (before t : Tree (I ks)) (root : ℕ) : Type 0 where
+  pub becomes : Becomes (rows_of ks old) (rows_of ks new) (items before) t
   pub here : IsPlace new
   pub root_is : IsLinked new.heap (Some root) (root_of t)
-  pub others : StayBeside ks old new is
+  pub others : StayBeside ks old new (items before)
+  pub hangs : Hangs ks old.heap new.heap old.outside before t
 
 -- nodes of the area keep their names
 pub record Holds (old new : Heap) : Type 0 where
@@ -85,6 +87,7 @@ pub record SetsSides (old new : Place) (at : ℕ) (left right : Option ℕ) : Ty
   pub here : IsPlace old → IsPlace new
   pub holds : Holds old.heap new.heap
   pub others : IsPlace old → (n : Reference) (it : Shown) → n ≢ name_at old.heap at → joint old.heap old.outside n it → joint new.heap new.outside n it
+  pub steady : IsSteady old.heap new.heap at
 
 -- touches lead from one place to the other
 abbrev pub Touches : Place → Place → Type 0

@@ -5,6 +5,9 @@ ghost use Rattle.heap_places.specs.Words.{int_in};
 ghost use Rattle.heap_places.specs.swizzle.Heap.{num_at};
 ghost use Rattle.heap_places.specs.swizzle.Joint.{name_at, shown_at};
 ghost use Rattle.heap_places.specs.swizzle.Touch.{Keeps};
+ghost use Rattle.table_nodes.specs.Fetching.{FetchesKey};
+ghost use Rattle.table_nodes.specs.Steps.{place};
+ghost use Rattle.node_rows.specs.Keys.{by_texts};
 ghost use Rattle.table_nodes.specs.Bringing.{Brings};
 ghost use Rattle.table_nodes.specs.Nodes.{IsNode, Grows};
 ghost use Rattle.table_nodes.specs.Sought.{IsTextHeld, ReadsInt, ReadsText, keys_of, kind_of};
@@ -73,6 +76,7 @@ pub fn text_key<V: Vault>(sw: &mut Swizzle, vault: &mut V, at: u32) -> Result<u3
     ensures keeps { OnOk result (Keeps sw.old sw.new) }
     ensures still { OnErr result (Grows sw.old sw.new (V.outside vault.old) (V.outside vault.new)) }
     ensures brings { MatchResult result (λ answer. Brings sw.old sw.new 0) (λ fault. Brings sw.old sw.new 1) }
+    ensures fetched { FetchesKey by_texts (place sw.old (V.outside vault.old)) sw.new at result }
     ensures fault { IfErr result (IsNodeFault (V.outside vault.old) (V.outside vault.new) sw.new) }
     ensures numbers { SameNumbers V.used_words V.directory_at V.most_words V.access vault.old vault.new }
     ensures alive { OnOk result (V.alive vault.new) }

@@ -1,6 +1,7 @@
 ghost use Rattle.std.specs.Prelude.{OnOk, OnErr, IfOk, IfSome, IfErr};
 ghost use Rattle.heap_places.specs.obj_layout.Storing.{SameNumbers};
 ghost use Rattle.heap_places.specs.swizzle.Touch.{Keeps};
+ghost use Rattle.table_nodes.specs.Fetching.{FetchesAt};
 ghost use Rattle.table_nodes.specs.Bringing.{Brings};
 ghost use Rattle.table_nodes.specs.Entering.{OpensAt};
 ghost use Rattle.table_nodes.specs.Nodes.{IsNode, Grows};
@@ -47,6 +48,7 @@ pub fn open_node<V: Vault>(
     ensures keeps { OnOk result (Keeps sw.old sw.new) }
     ensures still { OnErr result (Grows sw.old sw.new (V.outside vault.old) (V.outside vault.new)) }
     ensures brings { Brings sw.old sw.new 2 }
+    ensures fetched { FetchesAt (kind_of key) (place sw.old (V.outside vault.old)) sw.new at result }
     ensures fault { IfErr result (IsNodeFault (V.outside vault.old) (V.outside vault.new) sw.new) }
     ensures numbers { SameNumbers V.used_words V.directory_at V.most_words V.access vault.old vault.new }
     ensures alive { OnOk result (V.alive vault.new) }

@@ -1,6 +1,8 @@
 ghost use Rattle.std.specs.Prelude.{◌≡◌, ◌≤◌, ◌+◌, ◌*◌, ◌-◌, IfOk, IfSome, OnOk, OnErr, MatchResult, IfErr};
 ghost use Rattle.heap_places.specs.obj_layout.Storing.{SameNumbers};
 ghost use Rattle.heap_places.specs.swizzle.Touch.{Keeps};
+ghost use Rattle.table_nodes.specs.Fetching.{FetchesAt, FetchesFrom};
+ghost use Rattle.node_rows.specs.Keys.{Keys};
 ghost use Rattle.table_nodes.specs.Bringing.{Brings};
 ghost use Rattle.table_nodes.specs.Nodes.{IsNode, Grows};
 ghost use Rattle.table_nodes.specs.Steps.{place};
@@ -26,6 +28,7 @@ pub fn open_sides<V: Vault>(sw: &mut Swizzle, vault: &mut V, at: u32) -> Result<
     ensures keeps { OnOk result (Keeps sw.old sw.new) }
     ensures still { OnErr result (Grows sw.old sw.new (V.outside vault.old) (V.outside vault.new)) }
     ensures brings { Brings sw.old sw.new 2 }
+    ensures fetched { (ks : Keys) → FetchesAt ks (place sw.old (V.outside vault.old)) sw.new at result }
     ensures fault { IfErr result (IsNodeFault (V.outside vault.old) (V.outside vault.new) sw.new) }
     ensures numbers { SameNumbers V.used_words V.directory_at V.most_words V.access vault.old vault.new }
     ensures alive { OnOk result (V.alive vault.new) }
@@ -57,6 +60,7 @@ fn open_inner<V: Vault>(
     ensures keeps { OnOk result (Keeps sw.old sw.new) }
     ensures still { OnErr result (Grows sw.old sw.new (V.outside vault.old) (V.outside vault.new)) }
     ensures brings { Brings sw.old sw.new 2 }
+    ensures fetched { FetchesFrom (place sw.old (V.outside vault.old)) sw.new inner result }
     ensures fault { IfErr result (IsNodeFault (V.outside vault.old) (V.outside vault.new) sw.new) }
     ensures numbers { SameNumbers V.used_words V.directory_at V.most_words V.access vault.old vault.new }
     ensures alive { OnOk result (V.alive vault.new) }
@@ -93,6 +97,7 @@ pub fn open_left<V: Vault>(
     ensures keeps { OnOk result (Keeps sw.old sw.new) }
     ensures still { OnErr result (Grows sw.old sw.new (V.outside vault.old) (V.outside vault.new)) }
     ensures brings { MatchResult result (λ ready. Brings sw.old sw.new (3 * bound + 1 - 3 * ready.bound)) (λ fault. Brings sw.old sw.new 4) }
+    ensures fetched { FetchesFrom (place sw.old (V.outside vault.old)) sw.new high result }
     ensures fault { IfErr result (IsNodeFault (V.outside vault.old) (V.outside vault.new) sw.new) }
     ensures numbers { SameNumbers V.used_words V.directory_at V.most_words V.access vault.old vault.new }
     ensures alive { OnOk result (V.alive vault.new) }
@@ -150,6 +155,7 @@ pub fn open_right<V: Vault>(
     ensures keeps { OnOk result (Keeps sw.old sw.new) }
     ensures still { OnErr result (Grows sw.old sw.new (V.outside vault.old) (V.outside vault.new)) }
     ensures brings { MatchResult result (λ ready. Brings sw.old sw.new (3 * bound + 1 - 3 * ready.bound)) (λ fault. Brings sw.old sw.new 4) }
+    ensures fetched { FetchesFrom (place sw.old (V.outside vault.old)) sw.new high result }
     ensures fault { IfErr result (IsNodeFault (V.outside vault.old) (V.outside vault.new) sw.new) }
     ensures numbers { SameNumbers V.used_words V.directory_at V.most_words V.access vault.old vault.new }
     ensures alive { OnOk result (V.alive vault.new) }

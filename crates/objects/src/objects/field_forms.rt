@@ -2,13 +2,12 @@
 ghost use Rattle.std.specs.Prelude.{ℕ, List, OnOk};
 ghost use Rattle.ps_base.specs.CodeUnit.{ConstantsView, unit};
 ghost use Rattle.ps_base.specs.declared.code_unit.Frame.{Frame};
-ghost use Rattle.joint_ops.specs.obj_layout.declared.reference.Reference.{Reference};
 ghost use Rattle.joint_ops.specs.obj_layout.Storing.{SameNumbers};
 ghost use Rattle.joint_ops.specs.swizzle.Heap.{IsHeld};
 ghost use Rattle.joint_ops.specs.swizzle.Reading.{LeavesOutside};
 ghost use Rattle.joint_ops.specs.swizzle.Touch.{Keeps};
-ghost use Rattle.joint_ops.specs.ps_heap.Objects as meaning;
-ghost use Rattle.joint_ops.specs.World.{IsUnitIn, IsWorld, Stands, FailsAsReading};
+ghost use Rattle.joint_ops.specs.Code.{StandsBy};
+ghost use Rattle.joint_ops.specs.World.{IsUnitIn, FailsAsReading};
 ghost use Rattle.objects.specs.Classes.{AnswersForm};
 ghost use Rattle.objects.specs.Known.{IsRight};
 
@@ -34,8 +33,7 @@ impl Objects {
         requires held { IsHeld self.old code }
         ensures given { (bytes : List ℕ) (row : ConstantsView) (frame : Frame) → IsUnitIn self.old (V.outside vault.old) code (unit bytes row frame)
             → AnswersForm self.old self.new (V.outside vault.old) (V.outside vault.new) code row constant field result }
-        ensures world { OnOk result ((of : meaning.Heap) (names : List Reference) → IsWorld self.old (V.outside vault.old) of names
-            → Stands self.old self.new (V.outside vault.old) (V.outside vault.new) of names) }
+        ensures world { OnOk result (StandsBy self.old self.new (V.outside vault.old) (V.outside vault.new) code) }
         ensures keeps { OnOk result (Keeps self.old self.new) }
         ensures fails { FailsAsReading (V.outside vault.old) (V.outside vault.new) result }
         ensures leaves { LeavesOutside (V.outside vault.old) (V.outside vault.new) }
@@ -60,8 +58,7 @@ fn tell_form<V: Vault>(
     requires right { IsRight sw.old known.old }
     ensures given { (bytes : List ℕ) (row : ConstantsView) (frame : Frame) → IsUnitIn sw.old (V.outside vault.old) code (unit bytes row frame)
         → AnswersForm sw.old sw.new (V.outside vault.old) (V.outside vault.new) code row constant field result }
-    ensures world { OnOk result ((of : meaning.Heap) (names : List Reference) → IsWorld sw.old (V.outside vault.old) of names
-        → Stands sw.old sw.new (V.outside vault.old) (V.outside vault.new) of names) }
+    ensures world { OnOk result (StandsBy sw.old sw.new (V.outside vault.old) (V.outside vault.new) code) }
     ensures keeps { OnOk result (Keeps sw.old sw.new) }
     ensures fails { FailsAsReading (V.outside vault.old) (V.outside vault.new) result }
     ensures leaves { LeavesOutside (V.outside vault.old) (V.outside vault.new) }

@@ -117,6 +117,7 @@ impl Objects {
         ) {
             Some(put) => {
                 write_place(&mut self.sw, put.object, put.index, put.value);
+                self.sw.sound();
                 Ok(())
             }
             None => write_field(

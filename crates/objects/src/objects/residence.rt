@@ -8,7 +8,7 @@ ghost use Rattle.joint_ops.specs.swizzle.Heap.{IsHeld, header_at};
 ghost use Rattle.joint_ops.specs.swizzle.Reading.{LeavesOutside};
 ghost use Rattle.joint_ops.specs.swizzle.Touch.{Keeps, IsTouchFault};
 ghost use Rattle.joint_ops.specs.ps_heap.Objects as meaning;
-ghost use Rattle.joint_ops.specs.World.{IsWorld, Stands, FailsAsReading};
+ghost use Rattle.joint_ops.specs.World.{IsWorld, Carried, FailsAsReading};
 ghost use Rattle.objects.specs.Known.{IsRight};
 
 use super::Objects;
@@ -36,7 +36,7 @@ impl Objects {
         ensures place { IfOk result (IsLocal self.new pid) }
         ensures held { IfOk result (IsHeld self.new) }
         ensures world { OnOk result ((of : meaning.Heap) (names : List reference.Reference) → IsWorld self.old (V.outside vault.old) of names
-            → Stands self.old self.new (V.outside vault.old) (V.outside vault.new) of names) }
+            → Carried self.old self.new (V.outside vault.old) (V.outside vault.new) of names) }
         ensures keeps { OnOk result (Keeps self.old self.new) }
         ensures fault { IfErr result (IsTouchFault self.old (V.outside vault.old) (Pid pid)) }
         ensures fails { FailsAsReading (V.outside vault.old) (V.outside vault.new) result }
@@ -62,7 +62,7 @@ fn fetch_pid<V: Vault>(
     ensures place { IfOk result (IsLocal sw.new pid) }
     ensures held { IfOk result (IsHeld sw.new) }
     ensures world { OnOk result ((of : meaning.Heap) (names : List reference.Reference) → IsWorld sw.old (V.outside vault.old) of names
-        → Stands sw.old sw.new (V.outside vault.old) (V.outside vault.new) of names) }
+        → Carried sw.old sw.new (V.outside vault.old) (V.outside vault.new) of names) }
     ensures keeps { OnOk result (Keeps sw.old sw.new) }
     ensures fault { IfErr result (IsTouchFault sw.old (V.outside vault.old) (Pid pid)) }
     ensures fails { FailsAsReading (V.outside vault.old) (V.outside vault.new) result }

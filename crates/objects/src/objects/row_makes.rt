@@ -13,7 +13,8 @@ ghost use Rattle.joint_ops.specs.heap_places.Filling.{AreNear};
 ghost use Rattle.joint_ops.specs.ps_heap.Objects as meaning;
 ghost use Rattle.joint_ops.specs.ps_heap.Texts.{Yields};
 ghost use Rattle.joint_ops.specs.ps_heap.Values as meant;
-ghost use Rattle.joint_ops.specs.World.{IsUnitIn, IsWorld, Stands, FailsAsReading};
+ghost use Rattle.joint_ops.specs.Code.{StandsBy};
+ghost use Rattle.joint_ops.specs.World.{IsUnitIn, IsWorld, FailsAsReading};
 ghost use Rattle.joint_ops.specs.Made.{Makes, BreaksAsMaking};
 ghost use Rattle.structure_rows.specs.Rows.{named};
 ghost use Rattle.objects.specs.Known.{IsRight};
@@ -43,8 +44,7 @@ impl Objects {
         requires held { IsHeld self.old code }
         ensures given { (bytes : List ℕ) (row : ConstantsView) (frame : Frame) → IsUnitIn self.old (V.outside vault.old) code (unit bytes row frame)
             → AnswersRows self.old self.new (V.outside vault.old) (V.outside vault.new) code row constant result }
-        ensures world { OnOk result ((of : meaning.Heap) (names : List Reference) → IsWorld self.old (V.outside vault.old) of names
-            → Stands self.old self.new (V.outside vault.old) (V.outside vault.new) of names) }
+        ensures world { OnOk result (StandsBy self.old self.new (V.outside vault.old) (V.outside vault.new) code) }
         ensures class { IfOk result (λ class. IfSome class (HasRows self.new)) }
         ensures keeps { OnOk result (Keeps self.old self.new) }
         ensures fails { FailsAsReading (V.outside vault.old) (V.outside vault.new) result }
@@ -98,8 +98,7 @@ fn read_rows<V: Vault>(
     requires right { IsRight sw.old known.old }
     ensures given { (bytes : List ℕ) (row : ConstantsView) (frame : Frame) → IsUnitIn sw.old (V.outside vault.old) code (unit bytes row frame)
         → AnswersRows sw.old sw.new (V.outside vault.old) (V.outside vault.new) code row constant result }
-    ensures world { OnOk result ((of : meaning.Heap) (names : List Reference) → IsWorld sw.old (V.outside vault.old) of names
-        → Stands sw.old sw.new (V.outside vault.old) (V.outside vault.new) of names) }
+    ensures world { OnOk result (StandsBy sw.old sw.new (V.outside vault.old) (V.outside vault.new) code) }
     ensures class { IfOk result (λ class. IfSome class (HasRows sw.new)) }
     ensures keeps { OnOk result (Keeps sw.old sw.new) }
     ensures fails { FailsAsReading (V.outside vault.old) (V.outside vault.new) result }

@@ -2,16 +2,14 @@
 ghost use Rattle.std.specs.Prelude.{◌≡◌, ℕ, List, IfErr, IfOk, IfSome, OnOk};
 ghost use Rattle.ps_base.specs.CodeUnit.{ConstantsView, unit, unit_view};
 ghost use Rattle.ps_base.specs.declared.code_unit.Frame.{Frame as Numbers};
-ghost use Rattle.joint_ops.specs.obj_layout.declared.reference.Reference.{Reference};
 ghost use Rattle.joint_ops.specs.obj_layout.Storing.{SameNumbers};
 ghost use Rattle.joint_ops.specs.proc_values.Loaded.{IsFitUnit};
 ghost use Rattle.joint_ops.specs.proc_values.Units.{IsCut, unit_objects};
 ghost use Rattle.joint_ops.specs.swizzle.Heap.{IsHeld, header_at, num_at, top_of};
 ghost use Rattle.joint_ops.specs.swizzle.Reading.{LeavesOutside};
 ghost use Rattle.joint_ops.specs.swizzle.Touch.{Keeps};
-ghost use Rattle.joint_ops.specs.ps_heap.Objects as meaning;
-ghost use Rattle.joint_ops.specs.World.{IsUnitIn, IsWorld, Stands, FailsAsReading};
-ghost use Rattle.joint_ops.specs.Code.{LoadsUnit, AnswersConstant};
+ghost use Rattle.joint_ops.specs.World.{IsUnitIn, FailsAsReading};
+ghost use Rattle.joint_ops.specs.Code.{LoadsUnit, AnswersConstant, StandsBy};
 ghost use Rattle.joint_procedures.specs.Units.{AnswersLiteral, AnswersText, IsFrameIn};
 
 use super::Objects;
@@ -49,8 +47,7 @@ impl Objects {
         requires held { IsHeld self.old code }
         ensures given { (bytes : List ℕ) (constants : ConstantsView) (frame : Numbers) → IsUnitIn self.old (V.outside vault.old) code (unit bytes constants frame)
             → AnswersConstant self.old self.new (V.outside vault.old) (V.outside vault.new) code constants index result }
-        ensures world { OnOk result ((of : meaning.Heap) (names : List Reference) → IsWorld self.old (V.outside vault.old) of names
-            → Stands self.old self.new (V.outside vault.old) (V.outside vault.new) of names) }
+        ensures world { OnOk result (StandsBy self.old self.new (V.outside vault.old) (V.outside vault.new) code) }
         ensures keeps { OnOk result (Keeps self.old self.new) }
         ensures held { IfOk result (IsHeld self.new) }
         ensures fails { FailsAsReading (V.outside vault.old) (V.outside vault.new) result }
@@ -93,8 +90,7 @@ impl Objects {
         requires held { IsHeld self.old code }
         ensures given { (bytes : List ℕ) (row : ConstantsView) (frame : Numbers) → IsUnitIn self.old (V.outside vault.old) code (unit bytes row frame)
             → IsFitUnit (unit bytes row frame) → AnswersLiteral self.old self.new (V.outside vault.old) (V.outside vault.new) code row index result }
-        ensures world { OnOk result ((of : meaning.Heap) (names : List Reference) → IsWorld self.old (V.outside vault.old) of names
-            → Stands self.old self.new (V.outside vault.old) (V.outside vault.new) of names) }
+        ensures world { OnOk result (StandsBy self.old self.new (V.outside vault.old) (V.outside vault.new) code) }
         ensures held { IfOk result (λ to. IfSome to (IsHeld self.new)) }
         ensures code { IfOk result (λ to. IfSome to (λ at. (header_at self.new at).kind ≡ Kind.Code)) }
         ensures keeps { OnOk result (Keeps self.old self.new) }
@@ -126,8 +122,7 @@ impl Objects {
         requires held { IsHeld self.old code }
         ensures given { (bytes : List ℕ) (row : ConstantsView) (frame : Numbers) → IsUnitIn self.old (V.outside vault.old) code (unit bytes row frame)
             → AnswersText self.old self.new (V.outside vault.old) (V.outside vault.new) code row index result }
-        ensures world { OnOk result ((of : meaning.Heap) (names : List Reference) → IsWorld self.old (V.outside vault.old) of names
-            → Stands self.old self.new (V.outside vault.old) (V.outside vault.new) of names) }
+        ensures world { OnOk result (StandsBy self.old self.new (V.outside vault.old) (V.outside vault.new) code) }
         ensures held { IfOk result (λ to. IfSome to (IsHeld self.new)) }
         ensures text { IfOk result (λ to. IfSome to (λ at. (header_at self.new at).kind ≡ Kind.Text)) }
         ensures keeps { OnOk result (Keeps self.old self.new) }

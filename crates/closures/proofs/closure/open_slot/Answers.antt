@@ -10,4 +10,4 @@ returns-in-Ok-clause-opened g c =
     let e = c.touch_slot.ensures in
     opens c.args.sw.now c.touch_slot.new.self (g.V.Vault.outside c.args.vault.now) (g.V.Vault.outside c.touch_slot.new.vault) c.args.closure
     c.args.slot
-    c.touch_slot.result c.in-Ok.ensures e.target e.keeps e.joint (λ to is. (e.still to is).0) (λ near. (e.near near).0) e.call e.fault
+    c.touch_slot.result c.in-Ok.ensures e.target e.keeps e.joint (λ to is. (e.still to is).0) (λ near. (e.near near).0) e.only e.call e.fault

@@ -16,7 +16,7 @@ pub returns-then-is_kind-clause-reads : goal.returns-then-is_kind-clause-reads
 returns-then-is_kind-clause-reads g c =
     let e = c.in-Ok-Some.ensures in
     entry-reads c.args.sw.now c.touch_slot.new.self (g.V.Vault.outside c.args.vault.now) (g.V.Vault.outside c.touch_slot.new.vault) c.args.object c.args.slot
-    c.in-Ok-Some.field-0 e.keeps e.joint (λ near. (e.near near).0) e.call
+    c.in-Ok-Some.field-0 e.keeps e.joint (λ near. (e.near near).0) e.only e.call
 
 pub returns-else-is_kind-clause-touched : goal.returns-else-is_kind-clause-touched
 returns-else-is_kind-clause-touched g c =

@@ -14,4 +14,5 @@ pub returns-in-Ok-clause-read : goal.returns-in-Ok-clause-read
 returns-in-Ok-clause-read g c =
     reads-reference c.args.sw.now c.touch_slot.new.self (g.V.Vault.outside c.args.vault.now) (g.V.Vault.outside c.touch_slot.new.vault) c.args.object
     c.args.place.index c.args.place.form c.in-Ok.to
-    c.in-Reference.is c.in-Ok.ensures.target c.in-Ok.ensures.keeps c.in-Ok.ensures.joint (λ near. (c.in-Ok.ensures.near near).0) c.in-Ok.ensures.call
+    c.in-Reference.is c.in-Ok.ensures.target c.in-Ok.ensures.keeps c.in-Ok.ensures.joint (λ near. (c.in-Ok.ensures.near near).0) c.in-Ok.ensures.only
+    c.in-Ok.ensures.call

@@ -17,7 +17,7 @@ returns-then-is_kind-clause-touched g c =
     let e = c.in-Ok-Some.ensures in
     text-there c.args.sw.now c.touch_slot.new.self (g.V.Vault.outside c.args.vault.now) (g.V.Vault.outside c.touch_slot.new.vault) c.args.object
     c.in-Ok-Some.text c.in-Ok-Some.field-0
-    c.in-Ok-Some.field-0-is e.target e.keeps e.joint (λ near. (e.near near).0) e.call (sym c.is_kind.ensures ∙ c.if-is_kind.true)
+    c.in-Ok-Some.field-0-is e.target e.keeps e.joint (λ near. (e.near near).0) e.only e.call (sym c.is_kind.ensures ∙ c.if-is_kind.true)
 
 pub returns-else-is_kind-clause-touched : goal.returns-else-is_kind-clause-touched
 returns-else-is_kind-clause-touched g c =

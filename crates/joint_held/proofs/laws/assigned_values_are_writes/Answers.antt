@@ -1,4 +1,4 @@
-use Rattle.joint_held.proofs.ValueLaws.{value-write}
+use Rattle.joint_ops.proofs.WriteLaws.{value-write}
 use Rattle.joint_held.proofs.laws.assigned_values_are_writes.Goals as goal
 
 pub returns : goal.returns

@@ -14,7 +14,8 @@ returns-clause-given g c bytes cs frame i =
 pub returns-clause-world : goal.returns-clause-world
 returns-clause-world g c =
     constant-world c.args.sw.now c.constant-given.new.sw (g.V.Vault.outside c.args.vault.now)
-    (g.V.Vault.outside c.constant-given.new.vault) c.args.code c.args.index c.constant-given.result c.constant-given.ensures.given
+    (g.V.Vault.outside c.constant-given.new.vault) c.args.code c.args.index c.constant-given.result
+    c.sound.ensures c.sound-2.ensures c.requires.held c.constant-given.ensures.given
 
 pub returns-clause-leaves : goal.returns-clause-leaves
 returns-clause-leaves g c =

@@ -6,7 +6,8 @@ use Rattle.heap_meaning.proofs.of_heap_places.TouchedLaws.{kinds-same, kinds-dif
 use Rattle.heap_meaning.specs.ps_heap.Objects.{is_class}
 use Rattle.joint_ops.specs.World.{DenotesIn}
 use Rattle.joint_ops.proofs.GrowthLaws.{same-keeps}
-use Rattle.joint_ops.proofs.SeenLaws.{text-denoted, nothing-done}
+use Rattle.joint_ops.proofs.SeenLaws.{text-denoted}
+use Rattle.joint_ops.proofs.GainLaws.{nothing-done}
 use Rattle.joint_ops.proofs.ClassLaws.{answers-class, breaks-class, class-keeps, none-value, other-value}
 use Rattle.joint_ops.proofs.structures.is_class.Goals as goal
 
@@ -16,7 +17,7 @@ returns-in_default-clause-got g c of names text o world dc d =
       is_class of o text,
       refl,
       sym (none-value c.args.sw.now outside of names o text (subst (λ (x : Option ℕ). DenotesIn c.args.sw.now outside names x o) c.in_default.is d)),
-      nothing-done c.args.sw.now outside of names world,
+      nothing-done c.args.sw.now outside of names c.sound.ensures world,
     )
 
 pub returns-then-not-is_kind-clause-got : goal.returns-then-not-is_kind-clause-got
@@ -28,7 +29,7 @@ returns-then-not-is_kind-clause-got g c of names text o world dc d =
       is_class of o text,
       refl,
       sym (other-value c.args.sw.now outside of names at o text c.sound.ensures world mine ne),
-      nothing-done c.args.sw.now outside of names world,
+      nothing-done c.args.sw.now outside of names c.sound.ensures world,
     )
 
 pub returns-in-Ok-clause-got : goal.returns-in-Ok-clause-got

@@ -6,7 +6,7 @@ use Rattle.joint_ops.proofs.texts.int_text.Goals as goal
 
 pub returns-in-Ok-clause-made : goal.returns-in-Ok-clause-made
 returns-in-Ok-clause-made g c of names world =
-    int-made (g.V.Vault.outside c.args._vault.now) c.args.sw.now c.int_text.new.sw of names c.args.value _ c.in-Ok.at c.sound.ensures
+    int-made (g.V.Vault.outside c.args._vault.now) c.args.sw.now c.int_text.new.sw of names c.args.value _ c.in-Ok.at c.sound.ensures c.sound-in-Ok.ensures
     (omega (arith, c.ranges.value.sfits)) (to_z-of_z w32 c.args.value c.ranges.value) world c.in-Ok.ensures
 
 pub returns-in-Err-clause-made : goal.returns-in-Err-clause-made

@@ -5,7 +5,7 @@ use Rattle.joint_ops.proofs.texts.join.Goals as goal
 pub returns-clause-made : goal.returns-clause-made
 returns-clause-made g c of names v w world da db =
     let outside = g.V.Vault.outside c.args._vault.now in
-    joins outside c.args.sw.now c.join-joined.new.sw of names c.args.a c.args.b v w c.join-joined.result c.sound.ensures world
+    joins outside c.args.sw.now c.join-joined.new.sw of names c.args.a c.args.b v w c.join-joined.result c.sound.ensures c.sound-2.ensures world
     (text-denoted c.args.sw.now outside names c.args.a v c.sound.ensures da).bytes_are
     (text-denoted c.args.sw.now outside names c.args.b w c.sound.ensures db).bytes_are c.join-joined.ensures
 

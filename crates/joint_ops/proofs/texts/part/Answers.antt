@@ -7,7 +7,7 @@ use Rattle.joint_ops.proofs.texts.part.Goals as goal
 pub returns-clause-made : goal.returns-clause-made
 returns-clause-made g c of names v world d =
     let outside = g.V.Vault.outside c.args._vault.now in
-    parts outside c.args.sw.now c.part-cut.new.sw of names c.args.text c.args.from c.args.count _ _ v c.part-cut.result c.sound.ensures world
+    parts outside c.args.sw.now c.part-cut.new.sw of names c.args.text c.args.from c.args.count _ _ v c.part-cut.result c.sound.ensures c.sound-2.ensures world
     (text-denoted c.args.sw.now outside names c.args.text v c.sound.ensures d).bytes_are (to_z-of_z w32 c.args.from c.ranges.from)
     (to_z-of_z w32 c.args.count c.ranges.count) c.part-cut.ensures
 

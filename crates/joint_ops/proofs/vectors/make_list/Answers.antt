@@ -6,7 +6,7 @@ use Rattle.joint_ops.proofs.vectors.make_list.Goals as goal
 pub returns-clause-made : goal.returns-clause-made
 returns-clause-made g c of names text elements world d are =
     makes-list_at (g.V.Vault.outside c.args._vault.now) c.args.sw.now c.make_list-made.new.sw of names c.args.ty c.args.low _ c.args.items.now text elements
-    c.make_list-made.result (to_z-of_z w32 c.args.low c.ranges.low) c.sound.ensures c.requires.text c.requires.near
+    c.make_list-made.result (to_z-of_z w32 c.args.low c.ranges.low) c.sound.ensures c.sound-2.ensures c.requires.text c.requires.near
     (fits-int c.args.low c.ranges.low) c.make_list-made.ensures.made world d are
 
 pub returns-clause-fails : goal.returns-clause-fails

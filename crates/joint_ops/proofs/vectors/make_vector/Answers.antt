@@ -6,7 +6,7 @@ use Rattle.joint_ops.proofs.vectors.make_vector.Goals as goal
 pub returns-clause-made : goal.returns-clause-made
 returns-clause-made g c of names text v world d form is =
     makes-filled_at (g.V.Vault.outside c.args._vault.now) c.args.sw.now c.make_vector-made.new.sw of names c.args.ty c.args.low c.args.high _ _ c.args.fill
-    text v c.make_vector-made.result (to_z-of_z w32 c.args.low c.ranges.low) (to_z-of_z w32 c.args.high c.ranges.high) c.sound.ensures
+    text v c.make_vector-made.result (to_z-of_z w32 c.args.low c.ranges.low) (to_z-of_z w32 c.args.high c.ranges.high) c.sound.ensures c.sound-2.ensures
     c.requires.text c.requires.near (fits-int c.args.low c.ranges.low) c.make_vector-made.ensures.made world d form is
 
 pub returns-clause-fails : goal.returns-clause-fails

@@ -7,7 +7,7 @@ pub returns-clause-made : goal.returns-clause-made
 returns-clause-made g c of names bytes round world dt dp =
     let outside = g.V.Vault.outside c.args._vault.now in
     makes-scope c.args.sw.now c.make_scope-made.new.sw outside of names c.args.text c.args.parent bytes round c.make_scope-made.result
-    c.sound.ensures world c.requires.text c.requires.parent (text-denoted c.args.sw.now outside names c.args.text bytes c.sound.ensures dt).bytes_are
+    c.sound.ensures c.sound-2.ensures world c.requires.text c.requires.parent (text-denoted c.args.sw.now outside names c.args.text bytes c.sound.ensures dt).bytes_are
     dt dp c.make_scope-made.ensures.made
 
 pub returns-clause-fails : goal.returns-clause-fails

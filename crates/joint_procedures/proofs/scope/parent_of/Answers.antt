@@ -5,7 +5,7 @@ pub returns-clause-got : goal.returns-clause-got
 returns-clause-got g c of names within world d =
     let before = g.V.Vault.outside c.args.vault.now in
     answers-parent c.args.sw.now c.parent_of-got.new.sw before (g.V.Vault.outside c.parent_of-got.new.vault) of names
-    c.args.scope within c.parent_of-got.result c.sound.ensures world
+    c.args.scope within c.parent_of-got.result c.sound.ensures c.sound-2.ensures world
     (scope-denoted c.args.sw.now before of names c.args.scope within c.sound.ensures world (g.met.V.Vault.one c.args.vault.now) d)
     c.parent_of-got.ensures.told
 

@@ -9,6 +9,7 @@ use Rattle.table_lib.specs.Entries.{Enters}
 use Rattle.table_lib.specs.table_nodes.Steps.{place}
 use Rattle.table_lib.proofs.of_table_nodes.SoughtLaws.{int_same}
 use Rattle.joint_ops.proofs.MadeLaws.{fits-int}
+use Rattle.joint_tables.proofs.NamedLaws.{entered-named}
 use Rattle.joint_tables.proofs.tables.enter_int.Goals as goal
 
 pub returns-clause-entered : goal.returns-clause-entered
@@ -42,3 +43,9 @@ pub returns-clause-alive : goal.returns-clause-alive
 returns-clause-alive g c =
     alive-unless (g.V.Vault.alive c.enter_int-done.new.vault) c.enter_int-done.result c.enter_int-done.ensures.alive
     (λ t e. subst (λ v. g.V.Vault.alive v) (sym (c.enter_int-done.ensures.trapped t e).1) c.requires.alive)
+
+pub returns-clause-table : goal.returns-clause-table
+returns-clause-table g c =
+    let done = c.enter_int-done in
+    entered-named by_ints (place c.args.sw.now (g.V.Vault.outside c.args.vault.now)) (place done.new.sw (g.V.Vault.outside done.new.vault)) c.args.table _
+    c.args.to done.result done.ensures.entered

@@ -5,6 +5,7 @@ use Rattle.table_lib.specs.table_nodes.node_rows.Keys.{by_texts}
 use Rattle.table_lib.specs.Entries.{Enters}
 use Rattle.joint_tables.proofs.SeenLaws.{alive-unless, changes-fail, err-leaves, pid-low}
 use Rattle.joint_tables.proofs.EnterLaws.{entered-key}
+use Rattle.joint_tables.proofs.NamedLaws.{entered-named}
 use Rattle.joint_tables.proofs.tables.enter_text.Goals as goal
 
 pub returns-clause-entered : goal.returns-clause-entered
@@ -39,3 +40,9 @@ pub returns-clause-alive : goal.returns-clause-alive
 returns-clause-alive g c =
     alive-unless (g.V.Vault.alive c.enter_text-done.new.vault) c.enter_text-done.result c.enter_text-done.ensures.alive
     (λ t e. subst (λ v. g.V.Vault.alive v) (sym (c.enter_text-done.ensures.trapped t e).1) c.requires.alive)
+
+pub returns-clause-table : goal.returns-clause-table
+returns-clause-table g c =
+    let done = c.enter_text-done in
+    entered-named by_texts (place c.args.sw.now (g.V.Vault.outside c.args.vault.now)) (place done.new.sw (g.V.Vault.outside done.new.vault)) c.args.table _
+    c.args.to done.result done.ensures.entered

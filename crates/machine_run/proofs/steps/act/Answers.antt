@@ -1,8 +1,8 @@
 -- An instruction does what the definition says of it.
-use Rattle.std.proofs.Common.{refl, rules}
+use Rattle.std.proofs.Common.{rules}
 use Rattle.machine_core.specs.ps_stepping.Steps.{push_num}
 use Rattle.machine_core.specs.Stepped.{Takes}
-use Rattle.machine_run.proofs.Dispatch.{acts_as, acts_here, acts_on, acts_not}
+use Rattle.machine_run.proofs.Dispatch.{acts_as, acts_here, acts_on}
 use Rattle.machine_run.proofs.steps.act.Goals as goal
 
 pub returns-in-Int-clause-acts : goal.returns-in-Int-clause-acts
@@ -221,7 +221,8 @@ pub returns-in-Return-clause-acts : goal.returns-in-Return-clause-acts
 returns-in-Return-clause-acts g c = acts_on (g.V.Vault.outside c.args.vault.now) c.in-Return.is (c.returned.ensures.takes c.args.vault.now) c.returned.ensures.goes
 
 pub returns-in-Lib-clause-acts : goal.returns-in-Lib-clause-acts
-returns-in-Lib-clause-acts g c = acts_here (g.V.Vault.outside c.args.vault.now) c.in-Lib.is c.library.ensures.takes c.library.ensures.fails
+returns-in-Lib-clause-acts g c =
+    acts_as (g.V.Vault.outside c.args.vault.now) (g.V.Vault.outside c.library.new.vault) c.in-Lib.is c.library.ensures.takes c.library.ensures.fails c.library.ensures.leaves
 
 pub returns-in-WriteI-clause-acts : goal.returns-in-WriteI-clause-acts
 returns-in-WriteI-clause-acts g c = acts_on (g.V.Vault.outside c.args.vault.now) c.in-WriteI.is (c.write_int.ensures.takes c.args.vault.now) c.write_int.ensures.goes
@@ -242,13 +243,15 @@ pub returns-in-ForNext-clause-acts : goal.returns-in-ForNext-clause-acts
 returns-in-ForNext-clause-acts g c = acts_on (g.V.Vault.outside c.args.vault.now) c.in-ForNext.is (c.for_next.ensures.takes c.args.vault.now) c.for_next.ensures.goes
 
 pub returns-in-ScanT-clause-acts : goal.returns-in-ScanT-clause-acts
-returns-in-ScanT-clause-acts g c = acts_not (g.V.Vault.outside c.args.vault.now) c.in-ScanT.is c.requires.sound (λ conf. refl)
+returns-in-ScanT-clause-acts g c =
+    acts_as (g.V.Vault.outside c.args.vault.now) (g.V.Vault.outside c.scan_strings.new.vault) c.in-ScanT.is c.scan_strings.ensures.takes c.scan_strings.ensures.fails c.scan_strings.ensures.leaves
 
 pub returns-in-ScanI-clause-acts : goal.returns-in-ScanI-clause-acts
-returns-in-ScanI-clause-acts g c = acts_not (g.V.Vault.outside c.args.vault.now) c.in-ScanI.is c.requires.sound (λ conf. refl)
+returns-in-ScanI-clause-acts g c =
+    acts_as (g.V.Vault.outside c.args.vault.now) (g.V.Vault.outside c.scan_ints.new.vault) c.in-ScanI.is c.scan_ints.ensures.takes c.scan_ints.ensures.fails c.scan_ints.ensures.leaves
 
 pub returns-in-ScanMore-clause-acts : goal.returns-in-ScanMore-clause-acts
-returns-in-ScanMore-clause-acts g c = acts_not (g.V.Vault.outside c.args.vault.now) c.in-ScanMore.is c.requires.sound (λ conf. refl)
+returns-in-ScanMore-clause-acts g c = acts_on (g.V.Vault.outside c.args.vault.now) c.in-ScanMore.is (c.scan_more.ensures.takes c.args.vault.now) c.scan_more.ensures.goes
 
 pub returns-in-DupM-clause-acts : goal.returns-in-DupM-clause-acts
 returns-in-DupM-clause-acts g c = acts_on (g.V.Vault.outside c.args.vault.now) c.in-DupM.is (c.dup_num.ensures.takes c.args.vault.now) c.dup_num.ensures.goes

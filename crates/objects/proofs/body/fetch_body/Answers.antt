@@ -1,4 +1,3 @@
-use Rattle.std.specs.Prelude.{Ok, Err}
 use Rattle.joint_ops.proofs.of_swizzle.TouchLaws.{keeps-trans}
 use Rattle.objects.proofs.BodyLaws.{scope-failed, body-fetched, has-body}
 use Rattle.objects.proofs.body.fetch_body.Goals as goal

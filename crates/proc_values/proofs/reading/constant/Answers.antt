@@ -25,7 +25,7 @@ returns-in-Ok-Some-clause-given g c = (
   has g c,
   denoted g c,
   reads-touch c.args.sw.now c.touch_slot.new.self _ _ _ c.in-Ok-Some.field-0 c.in-Ok-Some.ensures.keeps c.in-Ok-Some.ensures.joint
-      (λ near. (c.in-Ok-Some.ensures.near near).0)
+      (λ near. (c.in-Ok-Some.ensures.near near).0) c.in-Ok-Some.ensures.only
       c.in-Ok-Some.ensures.call,
 )
 

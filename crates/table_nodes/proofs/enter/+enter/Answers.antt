@@ -54,8 +54,8 @@ returns-in-Ok-enter-clause-entered g t c (node x b y) p h within lower =
     let enters = entered_as ks m m1 c.in-Ok-open_node.opened.left c.height-height.result (key_in m.heap c.args.key) key c.in-Ok-open_node.opened.span (name_at m.heap c.args.value) value (Ok c.in-Ok-enter.left)
     (key_in_kept old.heap m.heap c.args.key c.in-Ok-open_node.ensures.keeps c.requires.key) (c.in-Ok-open_node.ensures.keeps.objects c.args.value c.requires.value).name c.in-Ok-enter.ensures.entered in
     let w = enters x (place_touched old m c.in-Ok-open_node.ensures.grows p) (tree_left ks old m c.args.root c.in-Ok-open_node.opened.left c.in-Ok-open_node.ensures.grows x b y h o.left) (o.left_keys c.in-Less.is) (omega (arith, e)) in
-    put_left ks key value old m m1 m2 c.in-Some.at c.args.root c.in-Ok-open_node.opened c.in-Ok-open_node.ensures.grows p x b y h named o
-    c.in-Ok-enter.left c.with_left.result c.in-Ok-enter.ensures.held c.with_left.ensures.held w c.with_left.ensures.balanced c.with_left.ensures.plain (omega (arith, e, c.if-height-bound.false, c.requires.bound)) c.in-Less.is
+    put_left ks key value old m m1 m2 c.in-Some.at c.args.root c.in-Ok-open_node.opened c.in-Ok-open_node.ensures.grows p x b y h named o (c.in-Ok-open_node.ensures.fetched x b y h.stands named)
+    c.in-Ok-enter.left c.with_left.result c.in-Ok-enter.ensures.spares c.with_left.ensures.spares c.with_left.ensures.none c.in-Ok-enter.ensures.held c.with_left.ensures.held w c.with_left.ensures.balanced c.with_left.ensures.plain (omega (arith, e, c.if-height-bound.false, c.requires.bound)) c.in-Less.is
 
 pub returns-in-Err-enter-clause-entered : goal.returns-in-Err-enter-clause-entered
 returns-in-Err-enter-clause-entered g t c leaf p h within lower = absurd (no_root c.args.sw.now c.args.root c.in-Some.at c.in-Some.is h.root_is)
@@ -79,8 +79,8 @@ returns-in-Equal-clause-entered g t c (node x b y) p h within lower =
     let m = place c.open_node.new.sw (g.V.Vault.outside c.open_node.new.vault) in
     let named = root_named old.heap c.args.root c.in-Some.at b.name c.in-Some.is h.root_is in
     let o = c.in-Ok-open_node.ensures.opens x b y h.stands named h.rising within in
-    put_here ks key value old m m m c.in-Some.at c.args.root c.in-Ok-open_node.opened c.in-Ok-open_node.ensures.grows p x b y h named o
-    c.put.new.sw c.args.value _ refl (c.in-Ok-open_node.ensures.keeps.objects c.args.value c.requires.value).name c.put.ensures.put c.in-Equal.is
+    put_here ks key value old m m m c.in-Some.at c.args.root c.in-Ok-open_node.opened c.in-Ok-open_node.ensures.grows p x b y h named o (c.in-Ok-open_node.ensures.fetched x b y h.stands named)
+    c.put.new.sw c.args.value _ c.put.ensures.spares c.put.ensures.none refl (c.in-Ok-open_node.ensures.keeps.objects c.args.value c.requires.value).name c.put.ensures.put c.in-Equal.is
 
 pub returns-in-Ok-enter-2-clause-entered : goal.returns-in-Ok-enter-2-clause-entered
 returns-in-Ok-enter-2-clause-entered g t c leaf p h within lower = absurd (no_root c.args.sw.now c.args.root c.in-Some.at c.in-Some.is h.root_is)
@@ -98,8 +98,8 @@ returns-in-Ok-enter-2-clause-entered g t c (node x b y) p h within lower =
     let enters = entered_as ks m m1 c.in-Ok-open_node.opened.right c.height-height.result (key_in m.heap c.args.key) key c.in-Ok-open_node.opened.span (name_at m.heap c.args.value) value (Ok c.in-Ok-enter-2.right)
     (key_in_kept old.heap m.heap c.args.key c.in-Ok-open_node.ensures.keeps c.requires.key) (c.in-Ok-open_node.ensures.keeps.objects c.args.value c.requires.value).name c.in-Ok-enter-2.ensures.entered in
     let w = enters y (place_touched old m c.in-Ok-open_node.ensures.grows p) (tree_right ks old m c.args.root c.in-Ok-open_node.opened.right c.in-Ok-open_node.ensures.grows x b y h o.right) (o.right_keys c.in-Greater.is) (omega (arith, e)) in
-    put_right ks key value old m m1 m2 c.in-Some.at c.args.root c.in-Ok-open_node.opened c.in-Ok-open_node.ensures.grows p x b y h named o
-    c.in-Ok-enter-2.right c.with_right.result c.in-Ok-enter-2.ensures.held c.with_right.ensures.held w c.with_right.ensures.balanced c.with_right.ensures.plain (omega (arith, e, c.if-height-bound.false, c.requires.bound)) c.in-Greater.is
+    put_right ks key value old m m1 m2 c.in-Some.at c.args.root c.in-Ok-open_node.opened c.in-Ok-open_node.ensures.grows p x b y h named o (c.in-Ok-open_node.ensures.fetched x b y h.stands named)
+    c.in-Ok-enter-2.right c.with_right.result c.in-Ok-enter-2.ensures.spares c.with_right.ensures.spares c.with_right.ensures.none c.in-Ok-enter-2.ensures.held c.with_right.ensures.held w c.with_right.ensures.balanced c.with_right.ensures.plain (omega (arith, e, c.if-height-bound.false, c.requires.bound)) c.in-Greater.is
 
 pub returns-in-Err-enter-2-clause-entered : goal.returns-in-Err-enter-2-clause-entered
 returns-in-Err-enter-2-clause-entered g t c leaf p h within lower = absurd (no_root c.args.sw.now c.args.root c.in-Some.at c.in-Some.is h.root_is)

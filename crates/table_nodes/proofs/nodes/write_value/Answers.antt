@@ -18,7 +18,7 @@ returns-clause-marked g c =
 
 pub returns-clause-spares : goal.returns-clause-spares
 returns-clause-spares g c =
-    spares_value c.args.sw.now c.set_ref.new.self c.mark.new.self (g.V.Vault.outside c.args.vault.now) c.args.node 3 _
+    spares_value c.args.sw.now c.set_ref.new.self c.mark.new.self (g.V.Vault.outside c.args.vault.now) c.args.node 3 _ (λ e. cc)
     c.requires.node c.sound.ensures c.sound-2.ensures c.sound-3.ensures c.set_ref.ensures.written c.mark.ensures.written c.set_ref.ensures.stands c.mark.ensures.stands
 
 pub returns-clause-none : goal.returns-clause-none

@@ -11,6 +11,7 @@ use Rattle.table_nodes.proofs.BringLaws.{brings_more, brings_touched}
 use Rattle.table_nodes.proofs.FaultLaws.{node_fault_back}
 use Rattle.table_nodes.proofs.SpanLaws.{span_kept, within_kept}
 use Rattle.table_nodes.proofs.NodeLaws.{grows_then}
+use Rattle.table_nodes.proofs.FetchLaws.{fetches_read}
 use Rattle.table_nodes.proofs.opening.open_node.Goals as goal
 
 pub returns-in-Err-clause-opens : goal.returns-in-Err-clause-opens
@@ -85,3 +86,19 @@ returns-in-Err-side-2-clause-fault g c =
 
 pub returns-clause-span : goal.returns-clause-span
 returns-clause-span g c = span_kept c.place_key.new.sw c.side-2.new.sw c.in-Ok.placed.span (keeps-trans _ _ _ c.in-Ok-side.ensures.keeps c.in-Ok-side-2.ensures.keeps) c.in-Ok.ensures.span
+
+pub returns-clause-fetched : goal.returns-clause-fetched
+returns-clause-fetched g c x b y s named =
+    let ks = kind_of c.args.key in
+    let p = place c.args.sw.now (g.V.Vault.outside c.args.vault.now) in
+    let m = place c.place_key.new.sw (g.V.Vault.outside c.place_key.new.vault) in
+    let m1 = place c.side.new.sw (g.V.Vault.outside c.side.new.vault) in
+    let m2 = place c.side-2.new.sw (g.V.Vault.outside c.side-2.new.vault) in
+    let t = stands_grown (rows_of ks p) (rows_of ks m) (c.in-Ok.ensures.grows.rows ks) (node x b y) s in
+    let t1 = stands_grown (rows_of ks m) (rows_of ks m1) (c.in-Ok-side.ensures.grows.rows ks) (node x b y) t in
+    let name = c.in-Ok.ensures.grows.named c.args.at b.name named in
+    let first = c.in-Ok.ensures.fetched b.name (row_of x b y) named s.0 in
+    let left = c.in-Ok-side.ensures.fetched ks b.name (row_of x b y) name t.0 (is_side ks m x t.1) in
+    let right = c.in-Ok-side-2.ensures.fetched ks b.name (row_of x b y) (c.in-Ok-side.ensures.grows.named c.args.at b.name name) t1.0 (is_side ks m1 y t1.2) in
+    fetches_read ks p.heap m.heap m2.heap p.outside m.outside m2.outside c.in-Ok.ensures.grows (touches_then m m1 m2 c.in-Ok-side.ensures.grows c.in-Ok-side-2.ensures.grows) first
+    (fetches_read ks m.heap m1.heap m2.heap m.outside m1.outside m2.outside c.in-Ok-side.ensures.grows c.in-Ok-side-2.ensures.grows left right)

@@ -9,6 +9,8 @@ use Rattle.table_nodes.specs.Steps.{place}
 use Rattle.table_nodes.proofs.BringLaws.{brings_none}
 use Rattle.table_nodes.proofs.SoughtLaws.{int_key_same, int_read, int_same, same_ok}
 use Rattle.table_nodes.proofs.NodeLaws.{grows_none}
+use Rattle.table_nodes.specs.Fetching.{FetchesKey}
+use Rattle.table_nodes.proofs.FetchLaws.{fetches_same}
 use Rattle.table_nodes.proofs.placing.key_of.Goals as goal
 
 pub returns-in-Ok-clause-read : goal.returns-in-Ok-clause-read
@@ -50,3 +52,11 @@ returns-in-Ok-clause-has g c =
 
 pub returns-in-Ok-text_key-clause-has : goal.returns-in-Ok-text_key-clause-has
 returns-in-Ok-text_key-clause-has g c = record { node = c.in-Ok-text_key.ensures.grows.nodes c.args.at c.requires.node; held = c.in-Ok-text_key.ensures.held; shows = c.in-Ok-text_key.ensures.slot }
+
+pub returns-in-Ok-clause-fetched : goal.returns-in-Ok-clause-fetched
+returns-in-Ok-clause-fetched g c n row named r = fetches_same (keys_of c.args.keys) c.args.sw.now c.args.sw.now (g.V.Vault.outside c.args.vault.now) refl
+
+pub returns-in-Ok-text_key-clause-fetched : goal.returns-in-Ok-text_key-clause-fetched
+returns-in-Ok-text_key-clause-fetched g c =
+    let p = place c.args.sw.now (g.V.Vault.outside c.args.vault.now) in
+    subst (λ k. FetchesKey (keys_of k) p c.text_key.new.sw c.args.at (Ok (Text c.in-Ok-text_key.text))) (sym c.in-Texts.is) c.in-Ok-text_key.ensures.fetched

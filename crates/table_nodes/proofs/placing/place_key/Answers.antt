@@ -8,6 +8,7 @@ use Rattle.table_nodes.specs.Steps.{place}
 use Rattle.table_nodes.proofs.BringLaws.{brings_more}
 use Rattle.table_nodes.proofs.SoughtLaws.{key_held_kept, key_in_kept}
 use Rattle.table_nodes.proofs.SpanLaws.{keys_ordered, narrow_span, not_outside, placed_at, sought_is, span_failed, span_kept, within_kept}
+use Rattle.table_nodes.specs.Fetching.{FetchesKey}
 use Rattle.table_nodes.proofs.placing.place_key.Goals as goal
 
 pub returns-in-Err-clause-placed : goal.returns-in-Err-clause-placed
@@ -55,3 +56,8 @@ compare_keys-order-requires-clause-key g c = key_held_kept c.args.sw.now c.key_o
 
 pub check_span-requires-clause-span : goal.check_span-requires-clause-span
 check_span-requires-clause-span g c = span_kept c.args.sw.now c.key_of.new.sw c.args.span c.in-Ok.ensures.keeps c.requires.span
+
+pub returns-in-Ok-check_span-clause-fetched : goal.returns-in-Ok-check_span-clause-fetched
+returns-in-Ok-check_span-clause-fetched g c =
+    let p = place c.args.sw.now (g.V.Vault.outside c.args.vault.now) in
+    subst (λ k. FetchesKey k p c.key_of.new.sw c.args.at (Ok c.in-Ok.own)) c.kind_of_key.ensures c.in-Ok.ensures.fetched

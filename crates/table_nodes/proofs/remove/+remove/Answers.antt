@@ -6,6 +6,7 @@ use Rattle.heap_places.proofs.of_swizzle.ReadingLaws.{leaves-then}
 use Rattle.heap_places.proofs.of_swizzle.TouchLaws.{keeps-trans}
 use Rattle.table_nodes.specs.Sought.{kind_of, key_in}
 use Rattle.table_nodes.specs.Steps.{place, rows_of}
+use Rattle.table_nodes.proofs.FetchLaws.{fetches_read}
 use Rattle.table_nodes.proofs.BringLaws.{brings_more, brings_none, brings_then, brings_touched, brings_written, keeps_lasts}
 use Rattle.table_nodes.proofs.SeenLaws.{fetch_back}
 use Rattle.table_nodes.proofs.SoughtLaws.{key_in_kept}
@@ -78,9 +79,10 @@ returns-in-Ok-remove-clause-removed g t c (node x b y) p h within lower =
     let m1 = place c.remove.new.sw (g.V.Vault.outside c.remove.new.vault) in
     let m2 = place c.balance-root.new.sw (g.V.Vault.outside c.remove.new.vault) in
     let w = removed_as ks m m1 c.in-Ok.opened.left c.in-Ok-open_right.ready.bound (key_in m.heap c.args.key) key c.in-Ok.opened.span (Ok c.in-Ok-remove.left) same c.in-Ok-remove.ensures.removed x here side (o.left_keys c.in-Less.is) ready.1 in
-    let sides = left_sides ks key old m m1 c.in-Some.at c.args.root c.in-Ok.opened grows p x b y h named o c.in-Ok-remove.left.root c.in-Ok-remove.ensures.held (omega (arith, e, lower, c.requires.bound)) c.in-Less.is w in
-    let known = left_known ks key old m m1 c.in-Some.at c.args.root c.in-Ok.opened grows p x b y h named o c.in-Ok-open_right.ready.wing c.in-Ok-remove.ensures.held ready.0 in
-    left_done ks key old m m1 c.in-Some.at c.args.root c.in-Ok.opened grows p x b y h named o m2 c.in-Ok-remove.left.root c.balance-root.result c.in-Less.is w (c.balance-root.ensures.balanced ks _ _ _ sides known.0 known.1)
+    let came = (fetches_read ks old.heap m0.heap m.heap old.outside m0.outside m.outside c.in-Ok.ensures.grows c.in-Ok-open_right.ensures.grows (c.in-Ok.ensures.fetched x b y h.stands named) (c.in-Ok-open_right.ensures.fetched ks y s.2 o0.right)) in
+    let sides = left_sides ks key old m m1 c.in-Some.at c.args.root c.in-Ok.opened grows p x b y h named o came c.in-Ok-remove.left.root c.in-Ok-remove.ensures.held (omega (arith, e, lower, c.requires.bound)) c.in-Less.is w in
+    let known = left_known ks key old m m1 c.in-Some.at c.args.root c.in-Ok.opened grows p x b y h named o came c.in-Ok-open_right.ready.wing c.in-Ok-remove.ensures.held ready.0 in
+    left_done ks key old m m1 c.in-Some.at c.args.root c.in-Ok.opened grows p x b y h named o came m2 c.in-Ok-remove.left.root c.balance-root.result c.in-Ok-remove.ensures.spares c.balance-root.ensures.spares c.balance-root.ensures.none c.in-Less.is w (c.balance-root.ensures.balanced ks _ _ _ sides known.0 known.1)
 
 pub returns-in-Err-remove-clause-removed : goal.returns-in-Err-remove-clause-removed
 returns-in-Err-remove-clause-removed g t c leaf p h within lower = absurd (no_root c.args.sw.now c.args.root c.in-Some.at c.in-Some.is h.root_is)
@@ -138,9 +140,10 @@ returns-in-Ok-remove-2-clause-removed g t c (node x b y) p h within lower =
     let m1 = place c.remove-in-Greater.new.sw (g.V.Vault.outside c.remove-in-Greater.new.vault) in
     let m2 = place c.balance-root-in-Ok-remove-2.new.sw (g.V.Vault.outside c.remove-in-Greater.new.vault) in
     let w = removed_as ks m m1 c.in-Ok.opened.right c.in-Ok-open_left.ready.bound (key_in m.heap c.args.key) key c.in-Ok.opened.span (Ok c.in-Ok-remove-2.right) same c.in-Ok-remove-2.ensures.removed y here side (o.right_keys c.in-Greater.is) ready.1 in
-    let sides = right_sides ks key old m m1 c.in-Some.at c.args.root c.in-Ok.opened grows p x b y h named o c.in-Ok-remove-2.right.root c.in-Ok-remove-2.ensures.held (omega (arith, e, lower, c.requires.bound)) c.in-Greater.is w in
-    let known = right_known ks key old m m1 c.in-Some.at c.args.root c.in-Ok.opened grows p x b y h named o c.in-Ok-open_left.ready.wing c.in-Ok-remove-2.ensures.held ready.0 in
-    right_done ks key old m m1 c.in-Some.at c.args.root c.in-Ok.opened grows p x b y h named o m2 c.in-Ok-remove-2.right.root c.balance-root-in-Ok-remove-2.result c.in-Greater.is w (c.balance-root-in-Ok-remove-2.ensures.balanced ks _ _ _ sides known.0 known.1)
+    let came = (fetches_read ks old.heap m0.heap m.heap old.outside m0.outside m.outside c.in-Ok.ensures.grows c.in-Ok-open_left.ensures.grows (c.in-Ok.ensures.fetched x b y h.stands named) (c.in-Ok-open_left.ensures.fetched ks x s.1 o0.left)) in
+    let sides = right_sides ks key old m m1 c.in-Some.at c.args.root c.in-Ok.opened grows p x b y h named o came c.in-Ok-remove-2.right.root c.in-Ok-remove-2.ensures.held (omega (arith, e, lower, c.requires.bound)) c.in-Greater.is w in
+    let known = right_known ks key old m m1 c.in-Some.at c.args.root c.in-Ok.opened grows p x b y h named o came c.in-Ok-open_left.ready.wing c.in-Ok-remove-2.ensures.held ready.0 in
+    right_done ks key old m m1 c.in-Some.at c.args.root c.in-Ok.opened grows p x b y h named o came m2 c.in-Ok-remove-2.right.root c.balance-root-in-Ok-remove-2.result c.in-Ok-remove-2.ensures.spares c.balance-root-in-Ok-remove-2.ensures.spares c.balance-root-in-Ok-remove-2.ensures.none c.in-Greater.is w (c.balance-root-in-Ok-remove-2.ensures.balanced ks _ _ _ sides known.0 known.1)
 
 pub returns-in-Err-remove-2-clause-removed : goal.returns-in-Err-remove-2-clause-removed
 returns-in-Err-remove-2-clause-removed g t c leaf p h within lower = absurd (no_root c.args.sw.now c.args.root c.in-Some.at c.in-Some.is h.root_is)
@@ -174,7 +177,7 @@ returns-in-Ok-merge_sides-clause-removed g t c (node x b y) p h within lower =
     let m = place c.open_node.new.sw (g.V.Vault.outside c.open_node.new.vault) in
     let o = c.in-Ok.ensures.opens x b y h.stands named h.rising within in
     let m1 = place c.merge_sides.new.sw (g.V.Vault.outside c.merge_sides.new.vault) in
-    here_done ks key old m m1 c.in-Some.at c.args.root c.in-Ok.opened c.in-Ok.ensures.grows p x b y h named o c.in-Ok-merge_sides.root c.height-height.result e c.in-Equal.is c.in-Ok-merge_sides.ensures.merged
+    here_done ks key old m m1 c.in-Some.at c.args.root c.in-Ok.opened c.in-Ok.ensures.grows p x b y h named o (c.in-Ok.ensures.fetched x b y h.stands named) c.in-Ok-merge_sides.root c.height-height.result c.in-Ok-merge_sides.ensures.spares e c.in-Equal.is c.in-Ok-merge_sides.ensures.merged
 
 pub returns-in-Err-merge_sides-clause-removed : goal.returns-in-Err-merge_sides-clause-removed
 returns-in-Err-merge_sides-clause-removed g t c leaf p h within lower = absurd (no_root c.args.sw.now c.args.root c.in-Some.at c.in-Some.is h.root_is)
@@ -187,7 +190,7 @@ returns-in-Err-merge_sides-clause-removed g t c (node x b y) p h within lower =
     let m = place c.open_node.new.sw (g.V.Vault.outside c.open_node.new.vault) in
     let o = c.in-Ok.ensures.opens x b y h.stands named h.rising within in
     let m1 = place c.merge_sides.new.sw (g.V.Vault.outside c.merge_sides.new.vault) in
-    here_fault ks key old m m1 c.in-Some.at c.args.root c.in-Ok.opened c.in-Ok.ensures.grows p x b y h named o c.in-Err-merge_sides.fault c.height-height.result e c.in-Err-merge_sides.ensures.merged
+    here_fault ks key old m m1 c.in-Some.at c.args.root c.in-Ok.opened c.in-Ok.ensures.grows p x b y h named o (c.in-Ok.ensures.fetched x b y h.stands named) c.in-Err-merge_sides.fault c.height-height.result e c.in-Err-merge_sides.ensures.merged
 
 pub returns-in_default-clause-counted : goal.returns-in_default-clause-counted
 returns-in_default-clause-counted g t c tree h within lower =

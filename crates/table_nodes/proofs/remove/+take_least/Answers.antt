@@ -5,6 +5,7 @@ use Rattle.avl_trees.proofs.Standing.{stands_grown}
 use Rattle.heap_places.proofs.of_swizzle.ReadingLaws.{leaves-then}
 use Rattle.table_nodes.specs.Nodes.{IsLinked, IsNode}
 use Rattle.table_nodes.specs.Steps.{place, rows_of}
+use Rattle.table_nodes.proofs.FetchLaws.{fetches_read}
 use Rattle.table_nodes.proofs.BringLaws.{brings_more, brings_none, brings_then, brings_touched, brings_written, keeps_lasts}
 use Rattle.table_nodes.proofs.SeenLaws.{fetch_back}
 use Rattle.table_nodes.proofs.StepLaws.{linked_kept, place_touched, side_map, touches_then}
@@ -30,7 +31,7 @@ returns-in_default-clause-taken g t c ks (node u d v) b y p h lower =
     absurd (subst (λ s. IsLinked c.open_sides.new.sw s (Some d.name)) c.in_default.is ends.0)
 returns-in_default-clause-taken g t c ks leaf b y p h lower =
     let ends = c.in-Ok.ensures.ends ks leaf b y h.stands h.root_is in
-    least_here ks (place c.args.sw.now (g.V.Vault.outside c.args.vault.now)) (place c.open_sides.new.sw (g.V.Vault.outside c.open_sides.new.vault)) c.args.at (Some c.args.at) c.in-Ok.sides.right c.in-Ok.ensures.grows b y p h h.root_is ends.1
+    least_here ks (place c.args.sw.now (g.V.Vault.outside c.args.vault.now)) (place c.open_sides.new.sw (g.V.Vault.outside c.open_sides.new.vault)) c.args.at (Some c.args.at) c.in-Ok.sides.right c.in-Ok.ensures.grows (c.in-Ok.ensures.fetched ks leaf b y h.stands h.root_is) b y p h h.root_is ends.1
 
 pub returns-in-Err-open_right-clause-taken : goal.returns-in-Err-open_right-clause-taken
 returns-in-Err-open_right-clause-taken g t c ks leaf b y p h lower =
@@ -87,7 +88,9 @@ returns-clause-taken g t c ks (node u d v) b y p h lower =
     let sides = least_sides ks old m m1 c.args.at (Some c.args.at) c.in-Ok.sides.right grows c.in-Ok-take_least.ensures.held u d v b y p h h.root_is right_is c.in-Ok-take_least.least w (omega (arith, hh, lower, c.requires.bound)) in
     let known = least_known ks old m m1 c.args.at (Some c.args.at) c.in-Ok.sides.right grows c.in-Ok-take_least.ensures.held u d v b y p h h.root_is right_is c.in-Ok-take_least.least w c.in-Ok-open_right.ready.wing ready.0 in
     least_above ks old m m1 c.args.at (Some c.args.at) c.in-Ok.sides.right grows c.in-Ok-take_least.ensures.held u d v b y p h h.root_is right_is c.in-Ok-take_least.least w
-    m2 c.balance-root.result c.balance-root.ensures.held (c.balance-root.ensures.balanced ks _ b y sides known.0 known.1)
+    m2 c.balance-root.result
+    (fetches_read ks old.heap m0.heap m.heap old.outside m0.outside m.outside c.in-Ok.ensures.grows c.in-Ok-open_right.ensures.grows (c.in-Ok.ensures.fetched ks x b y h.stands h.root_is) (c.in-Ok-open_right.ensures.fetched ks y s.2 ends.1))
+    c.in-Ok-take_least.ensures.spares c.balance-root.ensures.spares c.balance-root.ensures.none c.balance-root.ensures.held (c.balance-root.ensures.balanced ks _ b y sides known.0 known.1)
 
 pub returns-clause-held : goal.returns-clause-held
 returns-clause-held g t c = record {

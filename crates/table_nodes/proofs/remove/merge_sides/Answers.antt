@@ -1,5 +1,5 @@
 use Rattle.std.proofs.Common.{◌+◌, ◌*◌, ◌-◌, Some, subst, arith}
-use Rattle.avl_trees.specs.Trees.{leaf, node, items, merge}
+use Rattle.avl_trees.specs.Trees.{leaf, node, merge}
 use Rattle.table_nodes.specs.Steps.{place}
 use Rattle.table_nodes.specs.Removing.{Leaves}
 use Rattle.table_nodes.proofs.BringLaws.{brings_more, brings_none, brings_then, brings_written, keeps_lasts}
@@ -20,7 +20,7 @@ returns-in_default-clause-merged g c ks at l a r p h e f lower =
 pub returns-in_default-left-clause-merged : goal.returns-in_default-left-clause-merged
 returns-in_default-left-clause-merged g c ks at l a r p h e f lower =
     let old = place c.args.sw.now (g.V.Vault.outside c.args.vault.now) in
-    subst (λ i. Leaves ks old old (items (node l a r)) (merge l r) i) c.in-Some.is
+    subst (λ i. Leaves ks old old (node l a r) (merge l r) i) c.in-Some.is
     (merge_right ks old c.args.left c.args.right at c.in-Some.above c.in_default-left.is c.in-Some.is l a r p h e f)
 
 pub returns-in-Err-clause-merged : goal.returns-in-Err-clause-merged
@@ -71,8 +71,8 @@ returns-clause-merged g c ks at (node u d v) a (node x b y) p h e f lower =
     let there = grows.named c.in-Some-left.below d.name below in
     let sides = merge_sides_of ks m m1 at c.in-Some-left.below c.in-Ok-take_least.ensures.held u d v a x b y (place_touched old m grows p) t there c.in-Ok-take_least.least w (omega (arith, lower, c.requires.bound)) in
     let known = merge_known ks m m1 at c.in-Some-left.below c.in-Ok-take_least.ensures.held u d v a x b y (place_touched old m grows p) t there c.in-Ok-take_least.least w c.in-Ok.ready.wing ready.0 in
-    leaves_touched ks old m m2 grows (items (node l a r)) (merge l r) (Some c.balance-root.result)
-    (merge_done ks m m1 at c.in-Some-left.below c.in-Ok-take_least.ensures.held u d v a x b y (place_touched old m grows p) t there c.in-Ok-take_least.least w m2 c.balance-root.result (c.balance-root.ensures.balanced ks _ _ _ sides known.0 known.1))
+    leaves_touched ks old m m2 grows (c.in-Ok.ensures.fetched ks l h.stands.1 below) (spares_then _ _ _ _ _ _ c.in-Ok-take_least.ensures.spares c.balance-root.ensures.spares) p (node l a r) (merge l r) (Some c.balance-root.result) h.stands
+    (merge_done ks m m1 at c.in-Some-left.below c.in-Ok-take_least.ensures.held u d v a x b y (place_touched old m grows p) t there c.in-Ok-take_least.least w m2 c.balance-root.result c.balance-root.ensures.spares c.balance-root.ensures.none c.in-Ok-take_least.ensures.spares.contents (c.balance-root.ensures.balanced ks _ _ _ sides known.0 known.1))
 
 pub returns-in_default-clause-spares : goal.returns-in_default-clause-spares
 returns-in_default-clause-spares g c = spares_none c.args.sw.now (g.V.Vault.outside c.args.vault.now)

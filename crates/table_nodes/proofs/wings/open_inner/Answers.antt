@@ -1,4 +1,4 @@
-use Rattle.std.proofs.Common.{ℕ, Option, Some, arith, subst}
+use Rattle.std.proofs.Common.{refl, ℕ, Option, Some, arith, subst}
 use Rattle.avl_trees.specs.Trees.{leaf, node}
 use Rattle.heap_places.proofs.of_swizzle.TouchLaws.{keeps-refl}
 use Rattle.table_nodes.specs.Nodes.{IsLinked}
@@ -6,6 +6,7 @@ use Rattle.table_nodes.specs.Steps.{place}
 use Rattle.table_nodes.proofs.BringLaws.{brings_none}
 use Rattle.table_nodes.proofs.Putting.{root_named, no_root}
 use Rattle.table_nodes.proofs.StepLaws.{height_is, touches_none}
+use Rattle.table_nodes.proofs.FetchLaws.{fetches_same}
 use Rattle.table_nodes.proofs.wings.open_inner.Goals as goal
 
 pub returns-then-height-clause-ends : goal.returns-then-height-clause-ends
@@ -44,3 +45,13 @@ returns-then-height-clause-brings g c = brings_none c.args.sw.now 2
 
 pub returns-in_default-clause-brings : goal.returns-in_default-clause-brings
 returns-in_default-clause-brings g c = brings_none c.args.sw.now 2
+
+pub returns-then-height-clause-fetched : goal.returns-then-height-clause-fetched
+returns-then-height-clause-fetched g c ks t s f = fetches_same ks c.args.sw.now c.args.sw.now (g.V.Vault.outside c.args.vault.now) refl
+
+pub returns-in_default-clause-fetched : goal.returns-in_default-clause-fetched
+returns-in_default-clause-fetched g c ks t s f = fetches_same ks c.args.sw.now c.args.sw.now (g.V.Vault.outside c.args.vault.now) refl
+
+pub returns-in-Ok-clause-fetched : goal.returns-in-Ok-clause-fetched
+returns-in-Ok-clause-fetched g c ks leaf s f = absurd (no_root c.args.sw.now c.args.inner c.in-Some.middle c.in-Some.is f)
+returns-in-Ok-clause-fetched g c ks (node u d v) s f = c.in-Ok.ensures.fetched ks u d v s (root_named c.args.sw.now c.args.inner c.in-Some.middle d.name c.in-Some.is f)

@@ -1,4 +1,4 @@
-use Rattle.std.proofs.Common.{ℕ, Option, Some, arith, subst, inr}
+use Rattle.std.proofs.Common.{refl, ℕ, Option, Some, arith, subst, inr}
 use Rattle.avl_trees.specs.Trees.{leaf, node}
 use Rattle.avl_trees.proofs.Standing.{stands_grown}
 use Rattle.heap_places.proofs.of_swizzle.TouchLaws.{keeps-refl, keeps-trans}
@@ -11,6 +11,7 @@ use Rattle.table_nodes.proofs.StepLaws.{height_is, touches_none, touches_then}
 use Rattle.table_nodes.proofs.WingLaws.{ends_kept, held_kept}
 use Rattle.table_nodes.proofs.FaultLaws.{node_fault_back, height_failed, the_node}
 use Rattle.table_nodes.proofs.NodeLaws.{grows_none, grows_then}
+use Rattle.table_nodes.proofs.FetchLaws.{fetches_read, fetches_same}
 use Rattle.table_nodes.proofs.wings.open_left.Goals as goal
 
 pub returns-then-above-height-clause-wing : goal.returns-then-above-height-clause-wing
@@ -104,3 +105,20 @@ returns-then-above-bound-clause-fault g c = height_failed (g.V.Vault.outside c.a
 
 pub returns-in-Err-open_inner-clause-fault : goal.returns-in-Err-open_inner-clause-fault
 returns-in-Err-open_inner-clause-fault g c = node_fault_back (g.V.Vault.outside c.args.vault.now) (g.V.Vault.outside c.open_sides.new.vault) _ _ c.in-Err-open_inner.fault c.in-Ok.ensures.grows.leaves c.in-Err-open_inner.ensures.fault
+
+pub returns-then-above-height-clause-fetched : goal.returns-then-above-height-clause-fetched
+returns-then-above-height-clause-fetched g c ks t s f = fetches_same ks c.args.sw.now c.args.sw.now (g.V.Vault.outside c.args.vault.now) refl
+
+pub returns-in_default-clause-fetched : goal.returns-in_default-clause-fetched
+returns-in_default-clause-fetched g c ks t s f = fetches_same ks c.args.sw.now c.args.sw.now (g.V.Vault.outside c.args.vault.now) refl
+
+pub returns-in-Ok-open_inner-clause-fetched : goal.returns-in-Ok-open_inner-clause-fetched
+returns-in-Ok-open_inner-clause-fetched g c ks leaf s f = absurd (no_root c.args.sw.now c.args.high c.in-Some.at c.in-Some.is f)
+returns-in-Ok-open_inner-clause-fetched g c ks (node x b y) s f =
+    let p = place c.args.sw.now (g.V.Vault.outside c.args.vault.now) in
+    let m = place c.open_sides.new.sw (g.V.Vault.outside c.open_sides.new.vault) in
+    let m1 = place c.open_inner.new.sw (g.V.Vault.outside c.open_inner.new.vault) in
+    let named = root_named p.heap c.args.high c.in-Some.at b.name c.in-Some.is f in
+    let t = stands_grown (rows_of ks p) (rows_of ks m) (c.in-Ok.ensures.grows.rows ks) (node x b y) s in
+    let ends = c.in-Ok.ensures.ends ks x b y s named in
+    fetches_read ks p.heap m.heap m1.heap p.outside m.outside m1.outside c.in-Ok.ensures.grows c.in-Ok-open_inner.ensures.grows (c.in-Ok.ensures.fetched ks x b y s named) (c.in-Ok-open_inner.ensures.fetched ks y t.2 ends.1)

@@ -1,10 +1,9 @@
-use Rattle.std.proofs.Common.{subst, List, Some, Ok}
+use Rattle.std.proofs.Common.{subst, Some, Ok}
 use Rattle.std.specs.Prelude.{OnOk}
-use Rattle.joint_ops.specs.obj_layout.declared.reference.Reference.{Reference}
 use Rattle.joint_ops.specs.swizzle.Heap as area
-use Rattle.joint_ops.specs.ps_heap.Objects.{Heap}
-use Rattle.joint_ops.specs.World.{IsWorld, Stands}
-use Rattle.joint_ops.proofs.SeenLaws.{nothing-done}
+use Rattle.joint_ops.specs.swizzle.Heap.{IsHeap}
+use Rattle.joint_ops.specs.Code.{StandsBy}
+use Rattle.joint_ops.proofs.GainLaws.{nothing-done}
 use Rattle.objects.specs.Makes.{HasRows}
 use Rattle.objects.proofs.RowsTold.{GotRows, rows-known}
 use Rattle.objects.proofs.objects.Objects.class_rows.Goals as goal
@@ -17,7 +16,8 @@ returns-in-Some-clause-given g c =
     (rows-known here outside c.args.code c.args.constant c.in-Some.class c.sound.ensures (c.in-Some.ensures here c.self.invariant.makes))
 
 pub returns-in-Some-clause-world : goal.returns-in-Some-clause-world
-returns-in-Some-clause-world g c of names w = nothing-done c.args.self.now (g.V.Vault.outside c.args.vault.now) of names w
+returns-in-Some-clause-world g c u i of names w =
+    nothing-done c.args.self.now (g.V.Vault.outside c.args.vault.now) of names (subst (λ (x : area.Heap). IsHeap x) c.self.view_is c.sound.ensures) w
 
 pub returns-in-Some-clause-class : goal.returns-in-Some-clause-class
 returns-in-Some-clause-class g c =
@@ -32,5 +32,4 @@ pub returns-in-None-clause-world : goal.returns-in-None-clause-world
 returns-in-None-clause-world g c =
     let before = g.V.Vault.outside c.args.vault.now in
     let after = g.V.Vault.outside c.read_rows.new.vault in
-    subst (λ (x : area.Heap). OnOk c.read_rows.result ((of : Heap) (names : List Reference) → IsWorld x before of names
-    → Stands x c.read_rows.new.sw before after of names)) c.self.view_is c.read_rows.ensures.world
+    subst (λ (x : area.Heap). OnOk c.read_rows.result (StandsBy x c.read_rows.new.sw before after c.args.code)) c.self.view_is c.read_rows.ensures.world

@@ -2,10 +2,9 @@ use Rattle.std.proofs.Common.{subst, ℕ, List}
 use Rattle.std.specs.Prelude.{OnOk}
 use Rattle.ps_base.specs.CodeUnit.{ConstantsView, unit}
 use Rattle.ps_base.specs.declared.code_unit.Frame.{Frame}
-use Rattle.joint_ops.specs.obj_layout.declared.reference.Reference.{Reference}
 use Rattle.joint_ops.specs.swizzle.Heap as area
-use Rattle.joint_ops.specs.ps_heap.Objects.{Heap}
-use Rattle.joint_ops.specs.World.{IsUnitIn, IsWorld, Stands}
+use Rattle.joint_ops.specs.Code.{StandsBy}
+use Rattle.joint_ops.specs.World.{IsUnitIn}
 use Rattle.objects.specs.Classes.{AnswersForm}
 use Rattle.objects.proofs.objects.Objects.field_form.Goals as goal
 
@@ -20,5 +19,4 @@ pub returns-clause-world : goal.returns-clause-world
 returns-clause-world g c =
     let before = g.V.Vault.outside c.args.vault.now in
     let after = g.V.Vault.outside c.tell_form.new.vault in
-    subst (λ (x : area.Heap). OnOk c.tell_form.result ((of : Heap) (names : List Reference) → IsWorld x before of names
-    → Stands x c.tell_form.new.sw before after of names)) c.self.view_is c.tell_form.ensures.world
+    subst (λ (x : area.Heap). OnOk c.tell_form.result (StandsBy x c.tell_form.new.sw before after c.args.code)) c.self.view_is c.tell_form.ensures.world

@@ -23,7 +23,7 @@ invariant_of-self g c =
 pub returns-in-Some-clause-set : goal.returns-in-Some-clause-set
 returns-in-Some-clause-set g c =
     put-set c.self.inside.sw c.args.self.now c.write_place.new.sw (g.V.Vault.outside c.args.vault.now) c.args.code c.args.constant c.args.field c.args.object
-    c.args.to c.in-Some.put c.self.view_is c.sound.ensures (g.met.V.Vault.one c.args.vault.now) c.in-Some.ensures c.write_place.ensures.written
+    c.args.to c.in-Some.put c.self.view_is c.sound.ensures c.sound-in-Some.ensures (g.met.V.Vault.one c.args.vault.now) c.in-Some.ensures c.write_place.ensures.written
 
 pub returns-in-Some-clause-damaged : goal.returns-in-Some-clause-damaged
 returns-in-Some-clause-damaged g c lacks =

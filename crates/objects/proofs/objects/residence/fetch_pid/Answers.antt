@@ -1,6 +1,8 @@
 use Rattle.std.proofs.Common.{ℕ}
 use Rattle.joint_ops.proofs.of_swizzle.ReadingLaws.{leaves-touch, fails-touch}
-use Rattle.joint_ops.proofs.SeenLaws.{grows-within, keeps-stands}
+use Rattle.joint_ops.proofs.SeenLaws.{grows-within, keeps-carries}
+use Rattle.joint_ops.proofs.of_heap_meaning.PairedLaws.{row-within}
+use Rattle.joint_ops.specs.World.{seen}
 use Rattle.std.specs.Prelude.{Ok, Err}
 use Rattle.objects.proofs.LastingLaws.{keeps-lasts}
 use Rattle.objects.proofs.KnownLaws.{right-stays}
@@ -13,8 +15,13 @@ pub returns-in-Ok-clause-world : goal.returns-in-Ok-clause-world
 returns-in-Ok-clause-world g c of names w =
     let before = g.V.Vault.outside c.args.vault.now in
     let after = g.V.Vault.outside c.touch_pid.new.vault in
-    keeps-stands c.args.sw.now c.touch_pid.new.self before after of names c.in-Ok.ensures.keeps
-    (grows-within c.args.sw.now c.touch_pid.new.self before after c.in-Ok.ensures.keeps c.in-Ok.ensures.joint.grows c.in-Ok.ensures.call.contents) w
+    let old = c.args.sw.now in
+    let new = c.touch_pid.new.self in
+    let grows = grows-within old new before after c.in-Ok.ensures.keeps c.in-Ok.ensures.joint.grows c.in-Ok.ensures.call.contents in
+    record {
+      world = record { row = row-within (seen old before) (seen new after) of names grows w.row };
+      carries = keeps-carries old new before after names names c.in-Ok.ensures.keeps grows (λ n id p. p);
+    }
 
 pub returns-in-Ok-clause-leaves : goal.returns-in-Ok-clause-leaves
 returns-in-Ok-clause-leaves g c =

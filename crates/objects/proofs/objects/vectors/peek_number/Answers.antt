@@ -1,4 +1,4 @@
-use Rattle.std.proofs.Common.{ℤ, w32, to_z, of_z, ◌≡◌, ◌+◌, ◌<◌, sym, subst, arith, rules}
+use Rattle.std.proofs.Common.{ℤ, w32, to_z, of_z, ◌≡◌, sym, subst, arith, rules}
 use Rattle.std.proofs.lemmas.Int.{to_z-of_z}
 use Rattle.objects.specs.Vectors.{HasNumber}
 use Rattle.objects.proofs.ElementLaws.{reached-small, reached-held, reached-refs, number-below}

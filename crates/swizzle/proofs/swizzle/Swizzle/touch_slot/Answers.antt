@@ -79,7 +79,7 @@ returns-in-Ok-clause-only g c at there =
     (subst (λ (h : Heap). IsHeld h at) c.set_ref.ensures.written there) in
     elim (c.in-Ok.ensures.only at back) [
       | inl before ↦ inl before
-      | inr named ↦ inr (((swizzled g c).objects at back).name ∙ named ∙ sym (was g c))
+      | inr named ↦ inr (((swizzled g c).objects at back).name ∙ named ∙ sym (ap (name_of c.args.self.now) (was g c)))
     ]
 
 pub returns-in-Ok-clause-sound : goal.returns-in-Ok-clause-sound

@@ -1,0 +1,5 @@
+pub mod SeenLaws
+pub mod ReachedLaws
+pub mod RowLaws
+pub mod CompactLaws
+pub mod BeginLaws

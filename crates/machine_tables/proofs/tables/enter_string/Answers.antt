@@ -1,0 +1,42 @@
+use Rattle.std.proofs.Common.{[], ◌∷◌, ◌∙◌}
+use Rattle.machine_core.specs.ps_heap.Library.{EnterString}
+use Rattle.machine_core.specs.ps_heap.Values.{Text}
+use Rattle.machine_core.specs.ps_stepping.Steps.{pop_text}
+use Rattle.machine_core.specs.ps_stepping.Objects.{pop_object}
+use Rattle.machine_core.specs.ps_stepping.Library.{answered_by, call_on_heap, gives_nothing}
+use Rattle.machine_operands.proofs.Parts.{both-leave}
+use Rattle.machine_tables.specs.inside.Operands.{StringTableEntry, string_entered}
+use Rattle.machine_tables.proofs.Parts.{denotes-there, does-as, is-pntr, parts-taken}
+use Rattle.machine_tables.proofs.tables.enter_string.Goals as goal
+
+pub returns-clause-takes : goal.returns-clause-takes
+returns-clause-takes g c =
+    let v = c.args.vault.now in
+    let line = c.args.line in
+    let m = c.args.m.now in
+    let one = c.pop_object.new.m in
+    let two = c.pop_object-2.new.m in
+    let three = c.pop_text.new.m in
+    let p = c.in-Some.ensures in
+    let q = c.in-Some-pop_object.ensures in
+    let s = c.in-Some-pop_text.ensures in
+    let put = c.put_string in
+    let f = put.ensures.puts in
+    let out = g.V.Vault.outside v in
+    let after = g.V.Vault.outside put.new.vault in
+    parts-taken out after (call_on_heap EnterString line) m three (both-leave m one three p.leaves (both-leave one two three q.leaves s.leaves)) put.new.m put.result f.sound f.names f.size
+    (λ names conf h.
+    let x = (p.pops v).gives names conf h in
+    let y = (q.pops v).gives names x.0 x.3 in
+    let z = (s.pops v).gives names y.0 y.3 in
+    let of : StringTableEntry = record { bytes = z.1; table = y.1; entry = x.1 } in
+    does-as out after three.objects.size (call_on_heap EnterString line conf) (string_entered line of z.0) put.result put.new.m
+    (x.2 (λ w d. pop_object d (λ table e. pop_text e (λ key k. answered_by EnterString line gives_nothing (Text key ∷ table ∷ w ∷ []) k)))
+    ∙ y.2 (λ table e. pop_text e (λ key k. answered_by EnterString line gives_nothing (Text key ∷ table ∷ x.1 ∷ []) k))
+    ∙ z.2 (λ key k. answered_by EnterString line gives_nothing (Text key ∷ y.1 ∷ x.1 ∷ []) k))
+    (f.does names z.0 of z.3 (record {
+      key_is = z.4;
+      table_is = denotes-there two three s.leaves.objects out names c.in-Some-pop_object.table y.1 y.4;
+      entry_is = denotes-there one three (s.leaves.objects ∙ q.leaves.objects) out names c.in-Some.to x.1 x.4;
+      is_pntr = is-pntr conf x.0 x.1 x.2;
+    })))

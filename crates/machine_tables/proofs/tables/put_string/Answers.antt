@@ -1,0 +1,36 @@
+use Rattle.machine_core.specs.ps_heap.Tables.{string_key}
+use Rattle.machine_operands.proofs.Parts.{fails-after, so-after}
+use Rattle.machine_tables.specs.inside.Operands.{AreStringTableEntry, string_entered}
+use Rattle.machine_tables.proofs.Calls.{string-put}
+use Rattle.machine_tables.proofs.Uses.{follows-entered}
+use Rattle.machine_tables.proofs.tables.put_string.Goals as goal
+
+pub returns-clause-puts : goal.returns-clause-puts
+returns-clause-puts g c =
+    let v = c.args.vault.now in
+    let done = c.enter_text-done in
+    let w = done.new.vault in
+    let before = g.V.Vault.outside v in
+    let after = g.V.Vault.outside w in
+    let m = c.args.m.now in
+    let end = c.end_enter in
+    let line = c.args.line in
+    follows-entered before after m end.new.m done.new.self end.result line c.requires.names done.ensures.leaves
+    (AreStringTableEntry m.objects before c.args.key c.args.table c.args.to) (string_entered line) (λ a. string_key a.bytes) (λ a. a.table) (λ a. a.entry) c.args.table
+    done.result done.ensures.stands done.ensures.size (string-put line) (λ names a d. d.is_pntr)
+    (λ heap names a world d. done.ensures.entered heap names a.bytes a.table a.entry world d.key_is d.table_is d.entry_is d.is_pntr) (end.ensures v w)
+
+pub returns-clause-fails : goal.returns-clause-fails
+returns-clause-fails g c =
+    let v = c.args.vault.now in
+    let done = c.enter_text-done in
+    let w = done.new.vault in
+    let end = c.end_enter in
+    fails-after end.result end.new.m (g.V.Vault.outside v) (g.V.Vault.outside w) done.result (end.ensures v w).ends.breaks done.ensures.fails
+
+pub returns-clause-alive : goal.returns-clause-alive
+returns-clause-alive g c =
+    let done = c.enter_text-done in
+    let w = done.new.vault in
+    let end = c.end_enter in
+    so-after end.result end.new.m done.result (g.V.Vault.alive w) (end.ensures w w).ends.breaks done.ensures.alive

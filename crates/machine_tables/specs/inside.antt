@@ -1,0 +1,3 @@
+pub mod Operands
+pub mod Ends
+pub mod Scanning
