@@ -24,6 +24,7 @@ use Rattle.machine_core.specs.ps_stepping.Config.{Config}
 use Rattle.machine_core.specs.ps_stepping.Steps.{Step, Stuck, attempted, push_num, push_ref}
 use Rattle.machine_core.specs.ps_stepping.Objects.{make, make_text, having, changed, when_number, when_reference}
 use Rattle.machine_core.specs.joint_ops.World.{Answers, Writes, BreaksOff, IsForIn, IsOfForm}
+use Rattle.machine_core.specs.objects.joint_tables.Tables.{Finds}
 use Rattle.machine_core.specs.joint_ops.Made.{Makes, MakesText}
 use Rattle.machine_core.specs.objects.Classes.{BreaksByCode, MakesLater}
 use Rattle.machine_core.specs.declared.machine.Machine.{Machine}
@@ -141,7 +142,7 @@ module _ (before after : Outside Space) (old new : Machine) (answer : Stepped) w
       pub ends : EndsSoundly got (IsNear old.objects) old new answer
       pub does : (here : area.Heap) (names : List Reference) (c : Config) (form : Form) (attempt : Attempt Value) → LeavesOutside before after
           → HeldIn here before names old c
-          → Answers here old.objects before after (λ k v. IsOfForm form k × IsForIn old.objects after names k v) c.store.held.objects names attempt got
+          → Finds here old.objects before after (λ k v. IsOfForm form k × IsForIn old.objects after names k v) c.store.held.objects names attempt got
           → Does before after here.size (attempted line attempt (λ w. when_reference (Some form) (push_ref w (having (reading w) c)))) answer new
       pub damaged : DoesByCode got
 
