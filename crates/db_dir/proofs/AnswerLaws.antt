@@ -11,6 +11,7 @@ use Rattle.joint_ops.specs.swizzle.Joint.{shown_at}
 use Rattle.joint_ops.specs.swizzle.Changes.{Within}
 use Rattle.joint_ops.specs.swizzle.Reading.{joint, FailsReading}
 use Rattle.joint_ops.specs.heap_meaning.Paired.{paired}
+use Rattle.joint_ops.specs.Seeing.{Gains}
 use Rattle.joint_ops.specs.World.{seen}
 use Rattle.joint_ops.specs.ps_heap.Texts.{is_same_text}
 use Rattle.joint_ops.specs.ps_heap.Databases.{Database, Directory, Numbered, Mode, Fault, Admits, Refuses, BadName, BadPassword, Exists, TooMany, NoSuchDatabase, WrongPassword, BadMode, named, create_fault, admission, admitted_to, admitted_as, mode_named, is_there}
@@ -18,11 +19,12 @@ use Rattle.db_dir.specs.declared.fault.DirFault.TheVariants as dir
 use Rattle.db_dir.specs.declared.admit.Admitted.{Admitted}
 use Rattle.db_dir.specs.declared.admit.Admitted.TheVariants as admitted
 use Rattle.db_dir.specs.Directories.{IsDirectory}
-use Rattle.db_dir.specs.Entries.{ReadsSome}
+use Rattle.db_dir.specs.Entries.{GainsBy, ReadsSome}
 use Rattle.db_dir.specs.Found.{IsName, AreFit, IsFirst, HasPassword, Opens, OpensAs, OpensAt, is_writing}
 use Rattle.db_dir.specs.Answers.{Admit}
 use Rattle.db_dir.proofs.EntryLaws.{compares-is}
 use Rattle.db_dir.proofs.ListLaws.{numbered, in_place}
+use Rattle.db_dir.proofs.GainLaws.{directory-known}
 use Rattle.db_dir.proofs.DirLaws.{in-its-place, named-there, named-nowhere, spoilt-breaks}
 
 -- Creating.
@@ -137,9 +139,9 @@ module _ (old new : Heap) (a b : Outside Space) (row : List Reference) (director
             (in-its-place old new a b row directory databases h later held is place n.0 n.1).password p;
       }
 
-  opened : (place number root : ℕ) (writing : Bool) → Within (joint old a) (joint new b) → IsFirst old new directory name place → OpensAt old new a b password mode directory place (Ok (admitted.Root number root writing))
+  opened : (place number root : ℕ) (writing : Bool) → Gains old new a b → Within (joint old a) (joint new b) → IsFirst old new directory name place → OpensAt old new a b password mode directory place (Ok (admitted.Root number root writing))
       → Admit old new a b row databases name password mode (Ok (admitted.Root number root writing))
-  opened place number root writing grows f o =
+  opened place number root writing gained grows f o =
       let x = found place true grows f o.0 in
       let m = mode-is (mode_named mode) writing o.1.2 in
       let named = in-its-place old new a b row directory databases h later held is place x.database x.there in (
@@ -150,19 +152,26 @@ module _ (old new : Heap) (a b : Outside Space) (row : List Reference) (director
           number_is = o.1.0;
           root_is = subst (λ (n : Reference). paired row n x.database.root) (sym o.1.1.denotes.1) named.root.paired;
           writing_is = m.2;
+          gains = gained;
         },
       )
 
-  pub opens-admit : (result : Result Admitted SwizzleFault) → IfErr result (FailsReading a b) → OnOk result (ReadsSome old new a b) → Opens old new a b name password mode (Some directory) result
+  -- the area only gained objects
+  gained-all : GainsBy old new a b (shown_at old directory).refs → Gains old new a b
+  gained-all w = w.gains (directory-known old (seen old a) (paired row) (Some directory) databases is)
+
+  pub opens-admit : (result : Result Admitted SwizzleFault) → IfErr result (FailsReading a b) → OnOk result (ReadsSome old new a b)
+      → OnOk result (GainsBy old new a b (shown_at old directory).refs) → Opens old new a b name password mode (Some directory) result
       → Admit old new a b row databases name password mode result
-  opens-admit (Ok (admitted.Root number root writing)) f r o = opened o.0 number root writing r.reads.grows o.1 o.2
-  opens-admit (Ok (admitted.Fault dir.NoSuchDatabase)) f r o = refuses-name databases name password mode (named-nowhere old new a b row directory databases h later held is name r.reads.grows o)
-  opens-admit (Ok (admitted.Fault dir.Password)) f r o =
-      let x = found o.0 false r.reads.grows o.1 o.2 in refuses-password databases name password mode (numbered (suc o.0) x.database) x.first x.password_is
-  opens-admit (Ok (admitted.Fault dir.BadMode)) f r o =
-      let x = found o.0 true r.reads.grows o.1 o.2.0 in refuses-mode databases name password mode (numbered (suc o.0) x.database) x.first x.password_is o.2.1
-  opens-admit (Ok (admitted.Fault dir.BadName)) f r o = absurd o.2.1
-  opens-admit (Ok (admitted.Fault dir.BadPassword)) f r o = absurd o.2.1
-  opens-admit (Ok (admitted.Fault dir.Exists)) f r o = absurd o.2.1
-  opens-admit (Ok (admitted.Fault dir.TooMany)) f r o = absurd o.2.1
-  opens-admit (Err fault) f r o = spoilt-breaks old new a b row directory databases h later held is fault f o
+  opens-admit (Ok (admitted.Root number root writing)) f r w o = opened o.0 number root writing (gained-all w) r.reads.grows o.1 o.2
+  opens-admit (Ok (admitted.Fault dir.NoSuchDatabase)) f r w o =
+      (refuses-name databases name password mode (named-nowhere old new a b row directory databases h later held is name r.reads.grows o), gained-all w)
+  opens-admit (Ok (admitted.Fault dir.Password)) f r w o =
+      let x = found o.0 false r.reads.grows o.1 o.2 in (refuses-password databases name password mode (numbered (suc o.0) x.database) x.first x.password_is, gained-all w)
+  opens-admit (Ok (admitted.Fault dir.BadMode)) f r w o =
+      let x = found o.0 true r.reads.grows o.1 o.2.0 in (refuses-mode databases name password mode (numbered (suc o.0) x.database) x.first x.password_is o.2.1, gained-all w)
+  opens-admit (Ok (admitted.Fault dir.BadName)) f r w o = absurd o.2.1
+  opens-admit (Ok (admitted.Fault dir.BadPassword)) f r w o = absurd o.2.1
+  opens-admit (Ok (admitted.Fault dir.Exists)) f r w o = absurd o.2.1
+  opens-admit (Ok (admitted.Fault dir.TooMany)) f r w o = absurd o.2.1
+  opens-admit (Err fault) f r w o = spoilt-breaks old new a b row directory databases h later held is fault f o

@@ -10,14 +10,16 @@ use Rattle.joint_ops.specs.swizzle.Changes.{Within}
 use Rattle.joint_ops.specs.swizzle.Reading.{joint, FailsReading}
 use Rattle.joint_ops.specs.heap_meaning.Standing.{Seen, Pairing}
 use Rattle.joint_ops.specs.heap_meaning.Paired.{paired}
+use Rattle.joint_ops.specs.Seeing.{Gains}
 use Rattle.joint_ops.specs.World.{seen, BreaksOff}
 use Rattle.joint_ops.proofs.of_swizzle.NameLaws.{shown-counts}
 use Rattle.joint_ops.specs.ps_heap.Databases.{Database, Directory, named}
 use Rattle.db_dir.specs.Directories.{IsDirectory, IsDirectoryAt}
-use Rattle.db_dir.specs.Entries.{ReadsSome}
+use Rattle.db_dir.specs.Entries.{GainsBy, ReadsSome}
 use Rattle.db_dir.specs.Found.{IsFirst, HasNone, IsSpoilt, Finds}
 use Rattle.db_dir.specs.Answers.{number_in}
 use Rattle.db_dir.proofs.EntryLaws.{compares-is, misses-breaks, misses-text-breaks}
+use Rattle.db_dir.proofs.GainLaws.{directory-known}
 use Rattle.db_dir.proofs.ListLaws.{numbered, in_place, place-below, place-there, fit-in_place, IsNamed, named-in_place, named-length, named-none, named-first}
 
 module _ (old new : Heap) (a b : Outside Space) (row : List Reference) (directory : ℕ) (databases : Directory) (h : IsHeap old) (later : IsHeap new)
@@ -84,12 +86,13 @@ finds-number old new a b row directory databases name (Some number) h later held
     ap (λ (i : ℕ). Some i) n ∙ ap number_in (sym there.2)
 
 pub finds-answers : (old new : Heap) (a b : Outside Space) (row : List Reference) (directory : ℕ) (databases : Directory) (name : List ℕ)
-    (result : Result (Option ℕ) SwizzleFault) → IsHeap old → IsHeap new → IsHeld old directory → OnOk result (ReadsSome old new a b) → IfErr result (FailsReading a b)
+    (result : Result (Option ℕ) SwizzleFault) → IsHeap old → IsHeap new → IsHeld old directory → OnOk result (ReadsSome old new a b)
+    → OnOk result (GainsBy old new a b (shown_at old directory).refs) → IfErr result (FailsReading a b)
     → IsDirectory (seen old a) (paired row) (shown_at old directory) databases → Finds old new a b (Some directory) name result
-    → MatchResult result (λ (number : Option ℕ). number ≡ number_in (named databases name)) (BreaksOff old new a b)
-finds-answers old new a b row directory databases name (Ok found) h later held r f is finds =
-    finds-number old new a b row directory databases name found h later held r.reads.grows is finds
-finds-answers old new a b row directory databases name (Err fault) h later held r f is finds =
+    → MatchResult result (λ (number : Option ℕ). (number ≡ number_in (named databases name)) × Gains old new a b) (BreaksOff old new a b)
+finds-answers old new a b row directory databases name (Ok found) h later held r w f is finds =
+    (finds-number old new a b row directory databases name found h later held r.reads.grows is finds, w.gains (directory-known old (seen old a) (paired row) (Some directory) databases is))
+finds-answers old new a b row directory databases name (Err fault) h later held r w f is finds =
     spoilt-breaks old new a b row directory databases h later held is fault f finds
 
 pub none-named : (databases : Directory) (name : List ℕ) → databases ≡ [] → None ≡ number_in (named databases name)

@@ -1,6 +1,7 @@
 pub mod EntryLaws
 pub mod ListLaws
 pub mod ShapeLaws
+pub mod GainLaws
 pub mod LoadLaws
 pub mod DirLaws
 pub mod FindLaws

@@ -11,7 +11,7 @@ use Rattle.joint_ops.specs.swizzle.Fetched.{IsLocal}
 use Rattle.joint_ops.specs.swizzle.Joint.{Shown, shown_at, name_at}
 use Rattle.joint_ops.specs.swizzle.Changes.{Within, Touched}
 use Rattle.joint_ops.specs.swizzle.Touch.{Keeps, Only, IsNear, IsTouchCall, IsTouchFault}
-use Rattle.joint_ops.specs.swizzle.Reading.{joint, FailsReading}
+use Rattle.joint_ops.specs.swizzle.Reading.{joint, Reads, FailsReading}
 use Rattle.joint_ops.specs.heap_places.Places.{FailsFetch}
 use Rattle.joint_ops.specs.heap_meaning.Standing.{Seen, Pairing}
 use Rattle.joint_ops.specs.heap_meaning.Paired.{paired}
@@ -61,17 +61,20 @@ big-loaded here outside row used pid [] h law high is = omega (arith, high, is)
 big-loaded here outside row used pid (d ∷ ds) h law high is = omega (arith, (seen-bounds here outside used pid pid is.it h law is.there).1, high)
 
 -- the object of a PID was touched
-pub loaded-reads : (old new : Heap) (a b : Outside Space) (pid at : ℕ) → IsHeap old → Keeps old new → Touched (joint old a) (joint new b) (Pid pid)
-    → ((to : ℕ) → local_of old pid ≡ Some to → new ≡ old) → Only old new (Pid pid) → IsTouchCall old new a b (Ok at) → ReadsSome old new a b
-loaded-reads old new a b pid at h keeps touched near only call = record {
-  names = Pid pid ∷ [];
-  reads = reads-touch old new a b (Pid pid) at keeps touched (λ n. stays n (local_of old pid) refl) only call;
-}
+pub loaded-touch : (old new : Heap) (a b : Outside Space) (pid at : ℕ) → IsHeap old → Keeps old new → Touched (joint old a) (joint new b) (Pid pid)
+    → ((to : ℕ) → local_of old pid ≡ Some to → new ≡ old) → Only old new (Pid pid) → IsTouchCall old new a b (Ok at) → Reads old new a b (Pid pid ∷ [])
+loaded-touch old new a b pid at h keeps touched near only call =
+    reads-touch old new a b (Pid pid) at keeps touched (λ n. stays n (local_of old pid) refl) only call
   where
     stays : IsNear old (Pid pid) → (o : Option ℕ) → local_of old pid ≡ o → top_of new ≡ top_of old
     stays n (Some to) e = ap top_of (near to e)
     stays (inl nil) None e = absurd (cc)
     stays (inr is) None e = absurd (not_away old is.0 pid h is.1 (sym is.2) e)
+
+pub loaded-reads : (old new : Heap) (a b : Outside Space) (pid at : ℕ) → IsHeap old → Keeps old new → Touched (joint old a) (joint new b) (Pid pid)
+    → ((to : ℕ) → local_of old pid ≡ Some to → new ≡ old) → Only old new (Pid pid) → IsTouchCall old new a b (Ok at) → ReadsSome old new a b
+loaded-reads old new a b pid at h keeps touched near only call =
+    record { names = Pid pid ∷ []; reads = loaded-touch old new a b pid at h keeps touched near only call }
 
 -- what was loaded is the directory
 pub directory-there : (old new : Heap) (a b : Outside Space) (row : List Reference) (pid at : ℕ) (databases : Directory) → IsHeap new → Within (seen old a) (seen new b)

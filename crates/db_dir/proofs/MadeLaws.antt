@@ -5,6 +5,7 @@ use Rattle.std.specs.List.{AllByRecursion}
 use Rattle.std.proofs.lemmas.List.{map-append, length-append}
 use Rattle.joint_ops.specs.ps_outside.Outside.{Outside}
 use Rattle.joint_ops.specs.obj_layout.Stored.{Space}
+use Rattle.joint_ops.specs.obj_layout.Objects as layout
 use Rattle.joint_ops.specs.obj_layout.declared.kind.Kind.TheVariants as kind
 use Rattle.joint_ops.specs.obj_layout.declared.reference.Reference.{Reference}
 use Rattle.joint_ops.specs.obj_layout.declared.reference.Reference.TheVariants.{Nil, Local}
@@ -27,16 +28,19 @@ use Rattle.joint_ops.proofs.of_swizzle.MadeLaws.{made-held, made-object}
 use Rattle.joint_ops.proofs.of_swizzle.ReadingLaws.{texts-kept}
 use Rattle.joint_ops.proofs.of_swizzle.TouchLaws.{keeps-trans}
 use Rattle.joint_ops.proofs.SeenLaws.{seen-held, reads-within, shown-bytes}
+use Rattle.joint_ops.specs.Seeing.{Gains}
 use Rattle.joint_ops.proofs.GrowthLaws.{made-keeps, made-grows}
+use Rattle.joint_ops.proofs.GainLaws.{gains-then, made-gains}
 use Rattle.joint_ops.specs.ps_heap.Databases.{Database, Directory, Numbered, named}
-use Rattle.db_dir.specs.Directories.{AreNamed, IsDirectory, IsDirectoryAt, IsRootSeen, IsFitDatabase, IsShaped, Counts, directory_of, refs_in}
-use Rattle.db_dir.specs.Entries.{ReadsSome}
-use Rattle.db_dir.specs.Found.{Extends, GoesOn, Finds, Tries}
+use Rattle.db_dir.specs.Directories.{AreNamed, IsDirectory, IsDirectoryAt, IsRootSeen, IsFitDatabase, IsShaped, Counts, directory_of, names_in, refs_in}
+use Rattle.db_dir.specs.Entries.{GainsBy, ReadsSome}
+use Rattle.db_dir.specs.Found.{Adds, AreFit, Extends, GoesOn, Finds, Tries}
 use Rattle.db_dir.specs.Answers.{IsShapedIfMade, Makes, IsShort, Creates}
 use Rattle.db_dir.specs.declared.create.Created.{Created}
 use Rattle.db_dir.specs.declared.create.Created.TheVariants as created
 use Rattle.db_dir.specs.declared.fault.DirFault.TheVariants as dir
 use Rattle.db_dir.proofs.ExtendLaws.{old-long}
+use Rattle.db_dir.proofs.GainLaws.{by-same, directory-known}
 use Rattle.db_dir.proofs.AnswerLaws.{fault-name, fault-password, fault-exists, fault-many, fault-none}
 use Rattle.db_dir.proofs.DirLaws.{named-there, named-nowhere, spoilt-breaks}
 use Rattle.db_dir.proofs.ListLaws.{numbered, named-within, named-more, fit-more, named-length}
@@ -59,11 +63,6 @@ held-three heap a b c p q r (suc (suc (suc slot))) to e = absurd (cc)
 held-old : (heap : Heap) (directory : Option ℕ) → IsHeap heap → ((at : ℕ) → directory ≡ Some at → IsHeld heap at) → AllHeld heap (refs_in heap directory)
 held-old heap None h held slot to e = absurd (cc)
 held-old heap (Some at) h held slot to e = inside_kept heap at h (held at refl) slot to e
-
--- the names of what an old directory, or none, refers to
-abbrev names_in : Heap → Option ℕ → List Reference
-names_in heap None = []
-names_in heap (Some at) = (shown_at heap at).refs
 
 names-kept : (old mid : Heap) (directory : Option ℕ) → Keeps old mid → ((at : ℕ) → directory ≡ Some at → IsHeld old at) → map (name_of mid) (refs_in mid directory) ≡ names_in old directory
 names-kept old mid None keeps held = refl
@@ -165,6 +164,51 @@ made-shaped mid new directory name password root made number h held e =
       is ∙ ap (λ (n : ℕ). 3 * n) (sym e.number_is),
     )
 
+-- the area only gained it
+made-gained : (mid new : Heap) (b : Outside Space) (directory : Option ℕ) (name password root made number : ℕ) → IsHeap mid → IsHeap new
+    → ((at : ℕ) → directory ≡ Some at → IsHeld mid at) → IsHeld mid name → IsHeld mid password → IsHeld mid root
+    → Extends mid new directory name password root made number → Gains mid new b b
+made-gained mid new b directory name password root made number h later held name_held password_held root_held e =
+    let refs = refs_in mid directory ++ Local name ∷ Local password ∷ Local root ∷ [] in
+    let long : length refs ≡ 3 * suc e.count =
+    omega (arith, length-append (refs_in mid directory) (Local name ∷ Local password ∷ Local root ∷ []), old-long mid directory e.count h held e.counts) in
+    made-gains mid new b made (directory_of refs) (layout.directory (suc e.count)) h later
+    (λ slot to is. held-more mid (refs_in mid directory) (Local name ∷ Local password ∷ Local root ∷ []) (held-old mid directory h held)
+    (held-three mid name password root name_held password_held root_held) slot to is)
+    refl (record { kind = refl; counted = ap (λ (n : ℕ). layout.counts n 1 0) long; allowed = (omega arith, omega (arith, e.few)) }) e.made_is
+
+pub adds-gains : (old mid new : Heap) (a b : Outside Space) (directory : Option ℕ) (name password root : ℕ) (result : Result Created SwizzleFault) → IsHeap mid → IsHeap new
+    → ((at : ℕ) → directory ≡ Some at → IsHeld mid at) → IsHeld mid name → IsHeld mid password → IsHeld mid root → Adds mid new directory name password root result
+    → GainsBy old mid a b (names_in old directory) → OnOk result (GainsBy old new a b (names_in old directory))
+adds-gains old mid new a b directory name password root (Ok (created.Made made number)) h later held name_held password_held root_held e g = record {
+  gains = λ known.
+      gains-then old mid new a b b (g.gains known) (made-gained mid new b directory name password root made number h later held name_held password_held root_held e);
+}
+adds-gains old mid new a b directory name password root (Ok (created.Fault dir.TooMany)) h later held name_held password_held root_held e g =
+    by-same old mid new a b (names_in old directory) e.1 g
+adds-gains old mid new a b directory name password root (Ok (created.Fault dir.BadName)) h later held name_held password_held root_held e g = absurd e
+adds-gains old mid new a b directory name password root (Ok (created.Fault dir.BadPassword)) h later held name_held password_held root_held e g = absurd e
+adds-gains old mid new a b directory name password root (Ok (created.Fault dir.Exists)) h later held name_held password_held root_held e g = absurd e
+adds-gains old mid new a b directory name password root (Ok (created.Fault dir.NoSuchDatabase)) h later held name_held password_held root_held e g = absurd e
+adds-gains old mid new a b directory name password root (Ok (created.Fault dir.Password)) h later held name_held password_held root_held e g = absurd e
+adds-gains old mid new a b directory name password root (Ok (created.Fault dir.BadMode)) h later held name_held password_held root_held e g = absurd e
+adds-gains old mid new a b directory name password root (Err fault) h later held name_held password_held root_held e g = tt
+
+pub adds-tries : (old mid new : Heap) (a b : Outside Space) (directory : Option ℕ) (name password root : ℕ) (result : Result Created SwizzleFault) → IsHeap mid → ReadsSome old mid a b
+    → AreFit (text_at old name) (text_at old password) → Finds old mid a b directory (text_at old name) (Ok None) → Adds mid new directory name password root result
+    → Tries old new a b directory name password root result
+adds-tries old mid new a b directory name password root (Ok (created.Made made number)) h r fit none e =
+    record { mid = mid; sound = h; reads = r; fit = fit; others = none; adds = e }
+adds-tries old mid new a b directory name password root (Ok (created.Fault dir.TooMany)) h r fit none e =
+    (subst (λ (x : Heap). ReadsSome old x a b) (sym e.1) r, record { mid = mid; sound = h; reads = r; fit = fit; others = none; adds = e })
+adds-tries old mid new a b directory name password root (Ok (created.Fault dir.BadName)) h r fit none e = absurd e
+adds-tries old mid new a b directory name password root (Ok (created.Fault dir.BadPassword)) h r fit none e = absurd e
+adds-tries old mid new a b directory name password root (Ok (created.Fault dir.Exists)) h r fit none e = absurd e
+adds-tries old mid new a b directory name password root (Ok (created.Fault dir.NoSuchDatabase)) h r fit none e = absurd e
+adds-tries old mid new a b directory name password root (Ok (created.Fault dir.Password)) h r fit none e = absurd e
+adds-tries old mid new a b directory name password root (Ok (created.Fault dir.BadMode)) h r fit none e = absurd e
+adds-tries old mid new a b directory name password root (Err fault) h r fit none e = inr (record { mid = mid; sound = h; reads = r; fit = fit; others = none; adds = e })
+
 -- What creating answers.
 
 module _ (old new : Heap) (a b : Outside Space) (row : List Reference) (directory : Option ℕ) (databases : Directory) (name password root : ℕ) (h : IsHeap old)
@@ -190,8 +234,8 @@ module _ (old new : Heap) (a b : Outside Space) (row : List Reference) (director
   count-is : (result : Result Created SwizzleFault) (g : Goes result) (count : ℕ) → Counts g.mid directory count → count ≡ length databases
   count-is result g count c = count-held old a row directory databases count h held is (counts-before old g.mid directory count g.reads.reads.keeps held c)
 
-  makes : (made number : ℕ) → Goes (Ok (created.Made made number)) → Makes old new a b row databases (text_at old name) (text_at old password) root made number
-  makes made number g =
+  makes : (made number : ℕ) → Gains old new a b → Goes (Ok (created.Made made number)) → Makes old new a b row databases (text_at old name) (text_at old password) root made number
+  makes made number gained g =
       let e = g.adds in
       let count = count-is (Ok (created.Made made number)) g e.count e.counts in
       record {
@@ -217,6 +261,7 @@ module _ (old new : Heap) (a b : Outside Space) (row : List Reference) (director
             } in
             subst (λ (it : Shown). IsDirectory (seen new b) (paired row) it (databases ++ d ∷ []))
             (sym (shown-made old g.mid new a b directory name password root made g.sound g.reads held name_held password_held root_held e.made_is)) all;
+        gains = gained;
       }
 
   short : (fault : SwizzleFault) → Goes (Err fault) → IsShort old new a b row databases (text_at old name) (text_at old password) fault
@@ -243,22 +288,29 @@ module _ (old new : Heap) (a b : Outside Space) (row : List Reference) (director
       let there = named-there old new a b row at databases h later (own at refl) e (text_at old name) f.0 grows f.2 in
       (numbered (suc f.0) there.0, there.2)
 
-  pub tries-creates : (result : Result Created SwizzleFault) → IsHeap new → FailsAsReading a b result → Tries old new a b directory name password root result
+  -- the area only gained objects
+  gained-all : GainsBy old new a b (names_in old directory) → Gains old new a b
+  gained-all r = r.gains (directory-known old (seen old a) (paired row) directory databases is)
+
+  pub tries-creates : (result : Result Created SwizzleFault) → IsHeap new → FailsAsReading a b result → OnOk result (GainsBy old new a b (names_in old directory))
+      → Tries old new a b directory name password root result
       → Creates old new a b row databases (text_at old name) (text_at old password) root result
-  tries-creates (Ok (created.Made made number)) later f t = makes made number t
-  tries-creates (Ok (created.Fault dir.BadName)) later f t = fault-name databases (text_at old name) (text_at old password) t.1.0
-  tries-creates (Ok (created.Fault dir.BadPassword)) later f t = fault-password databases (text_at old name) (text_at old password) t.1.0.0 t.1.0.1
-  tries-creates (Ok (created.Fault dir.Exists)) later f t =
-      let n = exists t.1.1.0 directory later held is t.0.reads.grows t.1.1.1 in fault-exists databases (text_at old name) (text_at old password) n.0 t.1.0 n.1
-  tries-creates (Ok (created.Fault dir.TooMany)) later f t =
-      let g = t.1 in
-      fault-many databases (text_at old name) (text_at old password) g.fit (no-such g.mid directory g.sound g.reads held is g.others)
-      (sym (count-is (Ok (created.Fault dir.TooMany)) g 256 g.adds.0))
-  tries-creates (Ok (created.Fault dir.NoSuchDatabase)) later f t = absurd t.1.0
-  tries-creates (Ok (created.Fault dir.Password)) later f t = absurd t.1.0
-  tries-creates (Ok (created.Fault dir.BadMode)) later f t = absurd t.1.0
-  tries-creates (Err fault) later f (inl s) = inl (spoilt fault directory later held is f s)
-  tries-creates (Err fault) later f (inr g) = inr (short fault g)
+  tries-creates (Ok (created.Made made number)) later f r t = makes made number (gained-all r) t
+  tries-creates (Ok (created.Fault dir.BadName)) later f r t = (fault-name databases (text_at old name) (text_at old password) t.1.0, gained-all r)
+  tries-creates (Ok (created.Fault dir.BadPassword)) later f r t = (fault-password databases (text_at old name) (text_at old password) t.1.0.0 t.1.0.1, gained-all r)
+  tries-creates (Ok (created.Fault dir.Exists)) later f r t =
+      let n = exists t.1.1.0 directory later held is t.0.reads.grows t.1.1.1 in (fault-exists databases (text_at old name) (text_at old password) n.0 t.1.0 n.1, gained-all r)
+  tries-creates (Ok (created.Fault dir.TooMany)) later f r t =
+      let g = t.1 in (
+        fault-many databases (text_at old name) (text_at old password) g.fit (no-such g.mid directory g.sound g.reads held is g.others)
+            (sym (count-is (Ok (created.Fault dir.TooMany)) g 256 g.adds.0)),
+        gained-all r,
+      )
+  tries-creates (Ok (created.Fault dir.NoSuchDatabase)) later f r t = absurd t.1.0
+  tries-creates (Ok (created.Fault dir.Password)) later f r t = absurd t.1.0
+  tries-creates (Ok (created.Fault dir.BadMode)) later f r t = absurd t.1.0
+  tries-creates (Err fault) later f r (inl s) = inl (spoilt fault directory later held is f s)
+  tries-creates (Err fault) later f r (inr g) = inr (short fault g)
 
 -- what it leaves
 module _ (old new : Heap) (a b : Outside Space) (directory : Option ℕ) (name password root : ℕ) (held : (at : ℕ) → directory ≡ Some at → IsHeld old at)

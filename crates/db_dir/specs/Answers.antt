@@ -10,6 +10,7 @@ use Rattle.joint_ops.specs.swizzle.Heap as area
 use Rattle.joint_ops.specs.swizzle.Heap.{IsHeld, header_at, top_of}
 use Rattle.joint_ops.specs.swizzle.Joint.{name_at}
 use Rattle.joint_ops.specs.heap_meaning.Paired.{paired}
+use Rattle.joint_ops.specs.Seeing.{Gains}
 use Rattle.joint_ops.specs.World.{seen, BreaksOff}
 use Rattle.joint_ops.specs.ps_heap.Databases.{Directory, Numbered, Mode, Fault, Admits, Refuses, create_fault, admission, directory_weight}
 use Rattle.joint_ops.specs.ps_heap.Databases as meant
@@ -37,12 +38,13 @@ fault_of dir.Password = meant.WrongPassword
 fault_of dir.BadMode = meant.BadMode
 
 module _ (old new : area.Heap) (before after : Outside Space) (row : List Reference) where
-  -- the directory names one database more, the last, and the number is its number
+  -- the directory names one database more, the last, and the number is its number; the area only gained objects
   pub record Makes (databases : Directory) (name password : List ℕ) (root directory number : ℕ) : Type 0 where
     pub none : create_fault databases name password ≡ None
     pub number_is : number ≡ suc (length databases)
     pub is : (id : ℕ) → paired row (name_at old root) id
         → IsDirectoryAt new (seen new after) (paired row) (Some directory) (databases ++ record { name = name; password = password; root = id } ∷ [])
+    pub gains : Gains old new before after
 
   -- there was no room for that directory, by its weight
   pub record IsShort (databases : Directory) (name password : List ℕ) (fault : SwizzleFault) : Type 0 where
@@ -54,7 +56,7 @@ module _ (old new : area.Heap) (before after : Outside Space) (row : List Refere
 
   abbrev pub Creates : Directory → List ℕ → List ℕ → ℕ → Result Created SwizzleFault → Type 0
   Creates databases name password root (Ok (created.Made directory number)) = Makes databases name password root directory number
-  Creates databases name password root (Ok (created.Fault fault)) = create_fault databases name password ≡ Some (fault_of fault)
+  Creates databases name password root (Ok (created.Fault fault)) = (create_fault databases name password ≡ Some (fault_of fault)) × Gains old new before after
   Creates databases name password root (Err fault) = BreaksOff old new before after fault ⊎ IsShort databases name password fault
 
   -- a database is opened in a mode
@@ -62,11 +64,12 @@ module _ (old new : area.Heap) (before after : Outside Space) (row : List Refere
     pub number_is : number ≡ to.number
     pub root_is : paired row (name_at new root) to.database.root
     pub writing_is : writing ≡ is_writing mode
+    pub gains : Gains old new before after
 
   abbrev pub Admit : Directory → List ℕ → List ℕ → List ℕ → Result Admitted SwizzleFault → Type 0
   Admit databases name password mode (Ok (admitted.Root number root writing)) =
       (to : Numbered) × (as_mode : Mode) × (admission databases name password mode ≡ Admits to as_mode) × IsOpen to as_mode number root writing
-  Admit databases name password mode (Ok (admitted.Fault fault)) = admission databases name password mode ≡ Refuses (fault_of fault)
+  Admit databases name password mode (Ok (admitted.Fault fault)) = (admission databases name password mode ≡ Refuses (fault_of fault)) × Gains old new before after
   Admit databases name password mode (Err fault) = BreaksOff old new before after fault
 
 -- what was made has the shape of a directory, and what was opened is a table

@@ -97,6 +97,11 @@ abbrev pub refs_in : area.Heap → Option ℕ → List Reference
 refs_in heap None = []
 refs_in heap (Some at) = (object_at heap at).refs
 
+-- the names of what it refers to
+abbrev pub names_in : area.Heap → Option ℕ → List Reference
+names_in heap None = []
+names_in heap (Some at) = (shown_at heap at).refs
+
 abbrev pub directory_of : List Reference → Object
 directory_of refs = record (blank kind.Directory (length refs) 1 0) { refs = refs }
 

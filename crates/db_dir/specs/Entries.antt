@@ -15,7 +15,8 @@ use Rattle.joint_ops.specs.swizzle.Joint.{shown_at}
 use Rattle.joint_ops.specs.swizzle.Text.{text_at}
 use Rattle.joint_ops.specs.swizzle.Changes.{Within}
 use Rattle.joint_ops.specs.swizzle.Touch.{Denotes, Keeps}
-use Rattle.joint_ops.specs.swizzle.Reading.{joint, Reads}
+use Rattle.joint_ops.specs.swizzle.Reading.{joint, AreKnown, Reads}
+use Rattle.joint_ops.specs.Seeing.{Gains, seen}
 use Rattle.joint_ops.specs.heap_places.Shapes.{slot_of}
 use Rattle.joint_ops.specs.heap_places.Places.{FailsFetch}
 use Rattle.joint_ops.specs.ps_heap.Texts.{is_same_text}
@@ -24,6 +25,10 @@ use Rattle.joint_ops.specs.ps_heap.Texts.{is_same_text}
 pub record ReadsSome (old new : Heap) (before after : Outside Space) : Type 0 where
   pub names : List Reference
   pub reads : Reads old new before after names
+
+-- where something is seen of each of these names, or they are nil, the area only gained objects
+pub record GainsBy (old new : Heap) (before after : Outside Space) (names : List Reference) : Type 0 where
+  pub gains : AreKnown (seen old before) names → Gains old new before after
 
 -- this is the object that the slot refers to, and it is of this kind
 pub record IsEntry (old new : Heap) (at slot : ℕ) (of : Kind) (to : ℕ) : Type 0 where

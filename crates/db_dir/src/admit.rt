@@ -3,13 +3,14 @@ ghost use Rattle.std.specs.Prelude.{◌≡◌, List, ◌+◌, ◌-◌, ◌*◌, 
 ghost use Rattle.joint_ops.specs.obj_layout.Storing.{SameNumbers};
 ghost use Rattle.joint_ops.specs.obj_layout.declared.reference.Reference.{Reference};
 ghost use Rattle.joint_ops.specs.swizzle.Heap.{IsHeld, header_at};
+ghost use Rattle.joint_ops.specs.swizzle.Joint.{shown_at};
 ghost use Rattle.joint_ops.specs.swizzle.Text.{text_at};
 ghost use Rattle.joint_ops.specs.swizzle.Reading.{FailsReading};
 ghost use Rattle.joint_ops.specs.heap_meaning.Paired.{paired};
 ghost use Rattle.joint_ops.specs.World.{seen};
 ghost use Rattle.joint_ops.specs.ps_heap.Databases.{Directory, mode_named};
 ghost use Rattle.db_dir.specs.Directories.{IsShaped, IsDirectoryAt};
-ghost use Rattle.db_dir.specs.Entries.{ReadsSome};
+ghost use Rattle.db_dir.specs.Entries.{GainsBy, ReadsSome};
 ghost use Rattle.db_dir.specs.Found.{Opens, OpensAs, OpensAt, TakesMode};
 ghost use Rattle.db_dir.specs.Answers.{Admit, IsRoot};
 
@@ -104,6 +105,7 @@ fn admit_in<V: Vault>(
     requires mode_text { (header_at sw.old mode).kind ≡ Kind.Text }
     ensures opens { Opens sw.old sw.new (V.outside vault.old) (V.outside vault.new) (text_at sw.old name) (text_at sw.old password) (text_at sw.old mode) (Some directory) result }
     ensures reads { OnOk result (ReadsSome sw.old sw.new (V.outside vault.old) (V.outside vault.new)) }
+    ensures gains { OnOk result (GainsBy sw.old sw.new (V.outside vault.old) (V.outside vault.new) (shown_at sw.old directory).refs) }
     ensures fails { IfErr result (FailsReading (V.outside vault.old) (V.outside vault.new)) }
     ensures numbers { SameNumbers V.used_words V.directory_at V.most_words V.access vault.old vault.new }
     ensures alive { OnOk result (V.alive vault.new) }
@@ -136,6 +138,7 @@ fn open_at<V: Vault>(
     requires mode_text { (header_at sw.old mode).kind ≡ Kind.Text }
     ensures opens { OpensAt sw.old sw.new (V.outside vault.old) (V.outside vault.new) (text_at sw.old password) (text_at sw.old mode) directory (number - 1) result }
     ensures reads { OnOk result (ReadsSome sw.old sw.new (V.outside vault.old) (V.outside vault.new)) }
+    ensures gains { OnOk result (GainsBy sw.old sw.new (V.outside vault.old) (V.outside vault.new) (shown_at sw.old directory).refs) }
     ensures fails { IfErr result (FailsReading (V.outside vault.old) (V.outside vault.new)) }
     ensures numbers { SameNumbers V.used_words V.directory_at V.most_words V.access vault.old vault.new }
     ensures alive { OnOk result (V.alive vault.new) }
@@ -178,6 +181,7 @@ fn open_as<V: Vault>(
     requires mode_text { (header_at sw.old mode).kind ≡ Kind.Text }
     ensures opens { TakesMode sw.old sw.new (V.outside vault.old) (V.outside vault.new) (text_at sw.old mode) directory place result }
     ensures reads { OnOk result (ReadsSome sw.old sw.new (V.outside vault.old) (V.outside vault.new)) }
+    ensures gains { OnOk result (GainsBy sw.old sw.new (V.outside vault.old) (V.outside vault.new) (shown_at sw.old directory).refs) }
     ensures fails { IfErr result (FailsReading (V.outside vault.old) (V.outside vault.new)) }
     ensures numbers { SameNumbers V.used_words V.directory_at V.most_words V.access vault.old vault.new }
     ensures alive { OnOk result (V.alive vault.new) }

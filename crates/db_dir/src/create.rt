@@ -10,7 +10,8 @@ ghost use Rattle.joint_ops.specs.swizzle.Reading.{LeavesOutside};
 ghost use Rattle.joint_ops.specs.heap_meaning.Paired.{paired};
 ghost use Rattle.joint_ops.specs.World.{seen, FailsAsReading};
 ghost use Rattle.joint_ops.specs.ps_heap.Databases.{Directory};
-ghost use Rattle.db_dir.specs.Directories.{IsShaped, IsDirectoryAt, Counts, directory_of, refs_in};
+ghost use Rattle.db_dir.specs.Directories.{IsShaped, IsDirectoryAt, Counts, directory_of, names_in, refs_in};
+ghost use Rattle.db_dir.specs.Entries.{GainsBy};
 ghost use Rattle.db_dir.specs.Found.{Adds, AreFit, AreUnfit, Tries};
 ghost use Rattle.db_dir.specs.Answers.{Creates, IsShapedIfMade};
 
@@ -182,19 +183,24 @@ fn try_create<V: Vault>(
     requires password_text { (header_at sw.old password).kind ≡ Kind.Text }
     requires root { IsHeld sw.old root }
     ensures tries { Tries sw.old sw.new (V.outside vault.old) (V.outside vault.new) directory name password root result }
+    ensures gains { OnOk result (GainsBy sw.old sw.new (V.outside vault.old) (V.outside vault.new) (names_in sw.old directory)) }
     ensures fails { FailsAsReading (V.outside vault.old) (V.outside vault.new) result }
     ensures numbers { SameNumbers V.used_words V.directory_at V.most_words V.access vault.old vault.new }
     ensures alive { OnOk result (V.alive vault.new) }
 {
+    sw.sound();
     if let Some(fault) = wrong_lengths(sw, name, password) {
         return Ok(Created::Fault(fault));
     }
-    let found = find(sw, vault, directory, name);
+    let found = find(sw, vault, directory, name)?;
     sw.sound();
     match found {
-        Ok(Some(_)) => Ok(Created::Fault(DirFault::Exists)),
-        Ok(None) => add(sw, directory, name, password, root),
-        Err(fault) => Err(fault),
+        Some(_) => Ok(Created::Fault(DirFault::Exists)),
+        None => {
+            let added = add(sw, directory, name, password, root);
+            sw.sound();
+            added
+        }
     }
 }
 

@@ -3,8 +3,9 @@ ghost use Rattle.std.specs.Prelude.{◌≡◌, ◌<◌, IfErr, OnOk, MatchResult
 ghost use Rattle.joint_ops.specs.obj_layout.Storing.{SameNumbers};
 ghost use Rattle.joint_ops.specs.swizzle.Heap.{IsHeld, header_at};
 ghost use Rattle.joint_ops.specs.swizzle.Reading.{FailsReading};
+ghost use Rattle.joint_ops.specs.swizzle.Joint.{shown_at};
 ghost use Rattle.joint_ops.specs.swizzle.Text.{text_at};
-ghost use Rattle.db_dir.specs.Entries.{Compares, IsEntry, IsTextEntry, Misses, MissesText, ReadsSome};
+ghost use Rattle.db_dir.specs.Entries.{Compares, GainsBy, IsEntry, IsTextEntry, Misses, MissesText, ReadsSome};
 
 use joint_ops::heap_places::places::damaged;
 use joint_ops::obj_layout::kind::Kind;
@@ -27,6 +28,7 @@ pub fn touch_entry<V: Vault>(
     requires below { slot < (header_at sw.old object).refs }
     ensures touched { MatchResult result (IsEntry sw.old sw.new object slot kind) (Misses sw.old sw.new (V.outside vault.old) (V.outside vault.new) object slot kind) }
     ensures reads { OnOk result (ReadsSome sw.old sw.new (V.outside vault.old) (V.outside vault.new)) }
+    ensures gains { OnOk result (GainsBy sw.old sw.new (V.outside vault.old) (V.outside vault.new) (shown_at sw.old object).refs) }
     ensures fails { IfErr result (FailsReading (V.outside vault.old) (V.outside vault.new)) }
     ensures numbers { SameNumbers V.used_words V.directory_at V.most_words V.access vault.old vault.new }
     ensures alive { OnOk result (V.alive vault.new) }
@@ -34,6 +36,7 @@ pub fn touch_entry<V: Vault>(
     sw.sound();
     match sw.touch_slot(vault, object, slot) {
         Ok(Some(to)) => {
+            sw.sound();
             if sw.is_kind(to, kind) {
                 return Ok(to);
             }
@@ -60,6 +63,7 @@ pub fn touch_text<V: Vault>(
     requires below { slot < (header_at sw.old object).refs }
     ensures touched { MatchResult result (IsTextEntry sw.old sw.new object slot least most) (MissesText sw.old sw.new (V.outside vault.old) (V.outside vault.new) object slot least most) }
     ensures reads { OnOk result (ReadsSome sw.old sw.new (V.outside vault.old) (V.outside vault.new)) }
+    ensures gains { OnOk result (GainsBy sw.old sw.new (V.outside vault.old) (V.outside vault.new) (shown_at sw.old object).refs) }
     ensures fails { IfErr result (FailsReading (V.outside vault.old) (V.outside vault.new)) }
     ensures numbers { SameNumbers V.used_words V.directory_at V.most_words V.access vault.old vault.new }
     ensures alive { OnOk result (V.alive vault.new) }
@@ -97,6 +101,7 @@ pub fn has_text<V: Vault>(
     requires text_kind { (header_at sw.old text).kind ≡ Kind.Text }
     ensures compared { MatchResult result (Compares sw.old sw.new object slot least most (text_at sw.old text)) (MissesText sw.old sw.new (V.outside vault.old) (V.outside vault.new) object slot least most) }
     ensures reads { OnOk result (ReadsSome sw.old sw.new (V.outside vault.old) (V.outside vault.new)) }
+    ensures gains { OnOk result (GainsBy sw.old sw.new (V.outside vault.old) (V.outside vault.new) (shown_at sw.old object).refs) }
     ensures fails { IfErr result (FailsReading (V.outside vault.old) (V.outside vault.new)) }
     ensures numbers { SameNumbers V.used_words V.directory_at V.most_words V.access vault.old vault.new }
     ensures alive { OnOk result (V.alive vault.new) }

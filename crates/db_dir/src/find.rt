@@ -3,13 +3,15 @@ ghost use Rattle.std.specs.Prelude.{◌≡◌, ◌*◌, List, Some, IfErr, IfSom
 ghost use Rattle.joint_ops.specs.obj_layout.Storing.{SameNumbers};
 ghost use Rattle.joint_ops.specs.obj_layout.declared.reference.Reference.{Reference};
 ghost use Rattle.joint_ops.specs.swizzle.Heap.{IsHeld, header_at};
+ghost use Rattle.joint_ops.specs.swizzle.Joint.{shown_at};
 ghost use Rattle.joint_ops.specs.swizzle.Text.{text_at};
 ghost use Rattle.joint_ops.specs.swizzle.Reading.{FailsReading};
 ghost use Rattle.joint_ops.specs.heap_meaning.Paired.{paired};
+ghost use Rattle.joint_ops.specs.Seeing.{Gains};
 ghost use Rattle.joint_ops.specs.World.{seen, BreaksOff};
 ghost use Rattle.joint_ops.specs.ps_heap.Databases.{Directory, named};
-ghost use Rattle.db_dir.specs.Directories.{IsShaped, IsDirectoryAt};
-ghost use Rattle.db_dir.specs.Entries.{ReadsSome};
+ghost use Rattle.db_dir.specs.Directories.{IsShaped, IsDirectoryAt, names_in};
+ghost use Rattle.db_dir.specs.Entries.{GainsBy, ReadsSome};
 ghost use Rattle.db_dir.specs.Found.{Finds};
 ghost use Rattle.db_dir.specs.Answers.{number_in};
 
@@ -36,9 +38,10 @@ pub fn find<V: Vault>(
     requires held { IsHeld sw.old name }
     requires text { (header_at sw.old name).kind ≡ Kind.Text }
     ensures found { (databases : Directory) (row : List Reference) → IsDirectoryAt sw.old (seen sw.old (V.outside vault.old)) (paired row) directory databases
-        → MatchResult result (λ number. number ≡ number_in (named databases (text_at sw.old name))) (BreaksOff sw.old sw.new (V.outside vault.old) (V.outside vault.new)) }
+        → MatchResult result (λ number. (number ≡ number_in (named databases (text_at sw.old name))) × Gains sw.old sw.new (V.outside vault.old) (V.outside vault.new)) (BreaksOff sw.old sw.new (V.outside vault.old) (V.outside vault.new)) }
     ensures finds { Finds sw.old sw.new (V.outside vault.old) (V.outside vault.new) directory (text_at sw.old name) result }
     ensures reads { OnOk result (ReadsSome sw.old sw.new (V.outside vault.old) (V.outside vault.new)) }
+    ensures gains { OnOk result (GainsBy sw.old sw.new (V.outside vault.old) (V.outside vault.new) (names_in sw.old directory)) }
     ensures fails { IfErr result (FailsReading (V.outside vault.old) (V.outside vault.new)) }
     ensures numbers { SameNumbers V.used_words V.directory_at V.most_words V.access vault.old vault.new }
     ensures alive { OnOk result (V.alive vault.new) }
@@ -65,10 +68,12 @@ fn find_in<V: Vault>(
     requires text { (header_at sw.old name).kind ≡ Kind.Text }
     ensures finds { Finds sw.old sw.new (V.outside vault.old) (V.outside vault.new) (Some directory) (text_at sw.old name) result }
     ensures reads { OnOk result (ReadsSome sw.old sw.new (V.outside vault.old) (V.outside vault.new)) }
+    ensures gains { OnOk result (GainsBy sw.old sw.new (V.outside vault.old) (V.outside vault.new) (shown_at sw.old directory).refs) }
     ensures fails { IfErr result (FailsReading (V.outside vault.old) (V.outside vault.new)) }
     ensures numbers { SameNumbers V.used_words V.directory_at V.most_words V.access vault.old vault.new }
     ensures alive { OnOk result (V.alive vault.new) }
 {
+    sw.sound();
     let count = database_count(sw, directory);
     for place in 0..count {
         sw.sound();

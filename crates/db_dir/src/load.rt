@@ -2,6 +2,7 @@
 ghost use Rattle.std.specs.Prelude.{◌≡◌, List, None, IfOk, IfErr, IfSome, OnOk, MatchResult};
 ghost use Rattle.joint_ops.specs.obj_layout.Storing.{SameNumbers};
 ghost use Rattle.joint_ops.specs.obj_layout.declared.reference.Reference.{Reference};
+ghost use Rattle.joint_ops.specs.Seeing.{Gains};
 ghost use Rattle.joint_ops.specs.World.{seen, BreaksOff};
 ghost use Rattle.joint_ops.specs.heap_meaning.Paired.{paired};
 ghost use Rattle.joint_ops.specs.swizzle.Reading.{FailsReading};
@@ -26,7 +27,7 @@ pub fn load_directory<V: Vault>(
 ) -> Result<Option<u32>, SwizzleFault>
     requires alive { V.alive vault.old }
     ensures loaded { (databases : Directory) (row : List Reference) → IsDirectoryUnder (seen sw.old (V.outside vault.old)) (paired row) (V.directory_at vault.old) databases
-        → MatchResult result (λ at. IsDirectoryAt sw.new (seen sw.new (V.outside vault.new)) (paired row) at databases) (BreaksOff sw.old sw.new (V.outside vault.old) (V.outside vault.new)) }
+        → MatchResult result (λ at. IsDirectoryAt sw.new (seen sw.new (V.outside vault.new)) (paired row) at databases × Gains sw.old sw.new (V.outside vault.old) (V.outside vault.new)) (BreaksOff sw.old sw.new (V.outside vault.old) (V.outside vault.new)) }
     ensures shaped { IfOk result (λ at. IfSome at (IsShaped sw.new)) }
     ensures none { IfOk result (λ at. (at ≡ None → V.directory_at vault.old ≡ 0) × (V.directory_at vault.old ≡ 0 → at ≡ None)) }
     ensures reads { OnOk result (ReadsSome sw.old sw.new (V.outside vault.old) (V.outside vault.new)) }

@@ -34,7 +34,8 @@ use Rattle.database_meaning.proofs.SameStarts.{home-kept}
 use Rattle.ps_code_laws.specs.Compiled.{compiled_object, compiled_heap, compiled_held}
 use Rattle.joint_ops.specs.World.{seen}
 use Rattle.reach_commit.specs.commit_images.Stored.{IsCut}
-use Rattle.joint_held.specs.Held.{IsAtHome, AreHung, HaveNoTexts, IsKeyed, AreTrees, HoldsRun}
+use Rattle.joint_held.specs.db_dir.Directories.{IsDirectoryUnder}
+use Rattle.joint_held.specs.Held.{IsAtHome, AreHung, HaveNoTexts, IsKeyed, AreTrees, IsOneStore, HoldsRun}
 use Rattle.joint_held.proofs.TreeLaws.{tree-one}
 use Rattle.space_meaning.specs.Space.{SeenIn}
 use Rattle.space_meaning.specs.Stands.{HasUnits, IsThing, IsHome, stored, SpaceStands}
@@ -43,6 +44,7 @@ use Rattle.space_meaning.proofs.KeptLaws.{seen-far, object-kept}
 use Rattle.joint_begun.specs.Beginning.{IsCompact, BeginsOver, BeginsOverSame}
 use Rattle.joint_begun.proofs.CompactLaws.{has-compact}
 use Rattle.joint_begun.proofs.SeenLaws.{space-seen}
+use Rattle.joint_begun.proofs.DirectoryLaws.{directory-begun}
 use Rattle.joint_begun.proofs.ReachedLaws.{reached-pid}
 use Rattle.joint_begun.proofs.RowLaws.{name-take, take-name, name-below, compiled-at, keyed-back, row-long, root-among}
 
@@ -87,8 +89,11 @@ none-hung size (node l a r) = ((λ c. absurd (no-object size c.at c.held)), none
 none-some : {A : Type 0} (a b : A) → Some a ≡ Some b → a ≡ b
 none-some a b e = cc
 
-module _ (outside : Outside Space) (one : (a b : Space) → outside.contents a → outside.contents b → a ≡ b) (space : Space) (is : outside.contents space) (heap : StoredHeap)
+module _ (outside : Outside Space) (store : IsOneStore outside) (space : Space) (is : outside.contents space) (heap : StoredHeap)
     (stands : SpaceStands (without_file space) heap) (compact : IsCompact heap) (size : ℕ) where
+  one : (a b : Space) → outside.contents a → outside.contents b → a ≡ b
+  one a b p q = store.one a b p q
+
   abbrev before : Seen
   before = SeenIn (without_file space)
 
@@ -216,6 +221,12 @@ module _ (outside : Outside Space) (one : (a b : Space) → outside.contents a �
       plain-by int_keys (by_strings entries) u means k r s = absurd k
       plain-by int_keys (by_ints entries) u means k r s = plain-now n id entries it u p means there r s
 
+  -- the directory of the space is that of the heap, beside the vault
+  directory-now : IsDirectoryUnder now (paired names) space.directory heap.directory
+  directory-now =
+      directory-begun (without_file space) now (paired stands.names) (paired names) grows on-row space.directory heap.objects heap.directory stands.fit.few stands.fit.databases
+      stands.stands.directory
+
   all-there : (id : ℕ) → IsInHeap heap id → id < length heap.objects
   all-there id r = let at = stands.fit.each id r in there-object heap.objects id at.object at.is
 
@@ -244,6 +255,7 @@ module _ (outside : Outside Space) (one : (a b : Space) → outside.contents a �
     holds : HoldsRun (fresh_heap size) outside names [] None h
     unfolding each_once
     holds = record {
+      store = store;
       world = record { row = stands-row };
       homes = home-of;
       homed = let a = row-long (λ id. home_if (Rattle.reaching.specs.Reaching.is_in id (reached_from_roots heap)) (home_at heap.homes id)) 0 (length heap.objects) in
@@ -270,17 +282,22 @@ module _ (outside : Outside Space) (one : (a b : Space) → outside.contents a �
         others = λ number d e away. root-home number d e;
       };
       asked = λ a. absurd (cc);
-      unasked = λ a. record { openings = refl; created = refl; none = refl };
+      unasked = λ a. record {
+        openings = refl;
+        created = refl;
+        none = refl;
+        named = λ other k. subst (λ (s : Space). IsDirectoryUnder now (paired names) s.directory heap.directory) (one space other is k) directory-now;
+      };
     }
 
     pub begins-over : BeginsOver size outside weigh replies counted heap
     begins-over = record { names = names; holds = holds }
 
 -- and so it begins over each heap for which the space stands, with other ids
-pub begins-over_same : (outside : Outside Space) → ((a b : Space) → outside.contents a → outside.contents b → a ≡ b) → (space : Space) → outside.contents space → (heap : StoredHeap)
+pub begins-over_same : (outside : Outside Space) → IsOneStore outside → (space : Space) → outside.contents space → (heap : StoredHeap)
     → SpaceStands (without_file space) heap → (size : ℕ) (weigh : Routine → ℕ) (replies : List Reply) (counted : ℕ)
     → BeginsOverSame size outside weigh replies counted (without_file space) heap
-begins-over_same outside one space is heap stands size weigh replies counted =
+begins-over_same outside store space is heap stands size weigh replies counted =
     let c = has-compact heap stands.fit in
     let then = stands-same (without_file space) heap c.compact c.same stands in
-    record { compact = c.compact; same = c.same; stands = then; begins = begins-over outside one space is c.compact then c.all size weigh replies counted }
+    record { compact = c.compact; same = c.same; stands = then; begins = begins-over outside store space is c.compact then c.all size weigh replies counted }

@@ -50,7 +50,7 @@ far-at (w ∷ ws) zero f below = f.0
 far-at (w ∷ ws) (suc k) f below = far-at ws k f.1 (omega arith)
 
 -- An object of a volume may come into the area.
-may-come : (words : List ℕ) → (o : IsObject words) → volume.IsStored words → IsFar words o.header
+pub may-come : (words : List ℕ) → (o : IsObject words) → volume.IsStored words → IsFar words o.header
 may-come words o s =
     let header = header-spelled words o.header o.fields (sym o.spelled) in
     let refs = subst (λ (k : Header). AllByRecursion IsStoredReference (take k.refs (drop 4 words))) header s.refs in

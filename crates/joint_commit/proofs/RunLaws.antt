@@ -20,7 +20,7 @@ use Rattle.heap_meaning.specs.ps_heap.Commit.{created_with, or_else, first_datab
 use Rattle.joint_ops.specs.World.{seen, IsWorld}
 use Rattle.db_dir.specs.Directories as area
 use Rattle.db_dir.specs.Directories.{IsDirectoryAt}
-use Rattle.joint_held.specs.Held.{IsOfHeap, AreAssigned, IsCurrent, AreSources, IsAtHome, HasPlace, HoldsRun}
+use Rattle.joint_held.specs.Held.{IsOfHeap, AreAssigned, IsCurrent, AreSources, IsAtHome, HasPlace, IsOneStore, HoldsRun}
 use Rattle.joint_reach.specs.Meets.{MeetsHomes}
 use Rattle.joint_commit.specs.Saving.{none_made}
 use Rattle.joint_commit.proofs.StoredLaws.{Setting, named-before, among-back, stored-now}
@@ -156,7 +156,8 @@ module _ (old new : Heap) (before after : Outside Space) (names : List Reference
     (s : Setting old new before after names writing directory h)
     (unassigned : new.assigned ≡ [])
     (meets : MeetsHomes old new names writing directory h)
-    (asked : h.asked ≡ true) where
+    (asked : h.asked ≡ true)
+    (store : IsOneStore after) where
   abbrev ρ : Reference → Reference
   ρ = (s.tells.moved s.holds.current.told).to
 
@@ -223,6 +224,7 @@ module _ (old new : Heap) (before after : Outside Space) (names : List Reference
 
   pub run-after : HoldsRun new after (map ρ names) (none_made writing) directory (held_after h)
   run-after = record {
+    store = store;
     world = world-after;
     homes = homes-hold old new before after names writing directory h s meets;
     homed = omega (arith, homes-long h);

@@ -30,7 +30,7 @@ use Rattle.reach_commit.specs.Deciding.{AreWritable}
 use Rattle.reach_commit.specs.Committing.{Commits, BreaksOff, pid_of}
 use Rattle.reach_commit.specs.Telling.{after_step, Tells}
 use Rattle.reach_commit.specs.Answers.{Decides, LeavesAll, Stores}
-use Rattle.joint_held.specs.Held.{IsAtHome, HoldsRun}
+use Rattle.joint_held.specs.Held.{IsAtHome, IsOneStore, HoldsRun}
 use Rattle.space_meaning.specs.heap_fit.Heaps.{IsFitHeap}
 use Rattle.space_meaning.specs.Space.{SeenIn}
 use Rattle.space_meaning.specs.Stands.{IsHome, SpaceStands}
@@ -183,11 +183,13 @@ keeps-run outside old new before after names writing directory h (Err fault) hol
 module _ (old new : Heap) (before after : Outside Space) (names : List Reference) (writing : List Source) (directory : Option ℕ) (h : Held) (used now most named : ℕ)
     (sound : IsHeap old)
     (good : IsHeap new)
-    (only : (a b : Space) → before.contents a → before.contents b → a ≡ b)
-    (one : (a b : Space) → after.contents a → after.contents b → a ≡ b)
+    (store : IsOneStore after)
     (given : IfSome directory (IsHeld old))
     (holds : HoldsRun old before names writing directory (compiled_held h))
     (owed : IsOwed h) where
+  only : (a b : Space) → before.contents a → before.contents b → a ≡ b
+  only a b p q = holds.store.one a b p q
+
   decides : (result : Result CommitAnswer SwizzleFault) → Decides old writing result → DecidesAs (compiled_held h) result
   decides result d = decides-as old before names writing directory (compiled_held h) sound (seen-one old before sound only) holds result d
 
@@ -236,7 +238,7 @@ module _ (old new : Heap) (before after : Outside Space) (names : List Reference
       let made = decides (Ok (answer.Saved fresh rewritten)) d in
       let both = saves-both h made in
       let asked = saves-asked old before names writing directory (compiled_held h) made holds in
-      let s = setting after stores.fresh stores.changed d.0 one stores.commits stores.becomes stores.tells in
+      let s = setting after stores.fresh stores.changed d.0 store.one stores.commits stores.becomes stores.tells in
       let at_home = homes stores.fresh stores.changed d.0 stores.commits in
       let stands = contents-stand old new before after names writing directory h s at_home owed.fit owed.units both asked in
       let t = holds.current.told in
@@ -246,7 +248,7 @@ module _ (old new : Heap) (before after : Outside Space) (names : List Reference
         record {
           more = map m.to names;
           holds = subst (HoldsRun new after (map m.to names) (none_made writing) directory) (run-same h (homes-same h both.made))
-              (run-after old new before after names writing directory (compiled_held h) s stores.unassigned at_home asked);
+              (run-after old new before after names writing directory (compiled_held h) s stores.unassigned at_home asked store);
           values = λ at v e. m.values names at v e;
           scopes = λ at scope e. m.scopes names at scope e;
           units = m.units;

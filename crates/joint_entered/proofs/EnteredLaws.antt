@@ -1,8 +1,7 @@
 -- All that an enter into a table is asked, from what was entered.
-use Rattle.std.proofs.Common.{◌≡◌, ◌≢◌, ◌⊎◌, ℕ, ◌^◌, ◌<◌, List, [], slice_index, get_or, Some, refl, sym, ap, ◌∙◌, subst, arith, inl, inr}
+use Rattle.std.proofs.Common.{◌≡◌, ◌≢◌, ◌⊎◌, ℕ, ◌^◌, ◌<◌, List, [], slice_index, get_or, Option, Some, refl, sym, ap, ◌∙◌, subst, arith, inl, inr}
 use Rattle.std.proofs.lemmas.Bool.{cases_eq}
 use Rattle.joint_ops.specs.ps_outside.Outside.{Outside}
-use Rattle.joint_ops.specs.obj_area.Words.{AreWords}
 use Rattle.joint_ops.specs.obj_layout.Stored.{Space, Holds}
 use Rattle.joint_ops.proofs.of_heap_meaning.of_obj_layout.StoredLaws.{Holds-one}
 use Rattle.joint_ops.specs.obj_layout.declared.kind.Kind.TheVariants as kind
@@ -18,7 +17,8 @@ use Rattle.joint_ops.specs.heap_meaning.Standing.{IsOne}
 use Rattle.joint_ops.specs.heap_meaning.Tables as standing
 use Rattle.joint_ops.specs.heap_meaning.Tables.{names_of}
 use Rattle.joint_ops.specs.ps_heap.Tables as meant
-use Rattle.joint_ops.specs.ps_heap.Tables.{Table, by_strings, without_keys}
+use Rattle.joint_ops.specs.ps_heap.Tables.{Key, Table, by_strings, without_keys}
+use Rattle.joint_ops.specs.ps_heap.Values.{Pointer, Value}
 use Rattle.joint_ops.specs.ps_heap.Objects.{Heap, Keyed, object_at}
 use Rattle.joint_ops.specs.ps_heap.Held.{Held}
 use Rattle.joint_ops.specs.World.{seen}
@@ -37,8 +37,10 @@ use Rattle.joint_tables.proofs.SeenLaws.{nodes-seen, tree-within}
 use Rattle.commit_walk.specs.declared.homes.Source.{Source}
 use Rattle.joint_held.specs.Held.{AreTrees, HoldsRun, IsKeyed, IsOfHeap, IsTree}
 use Rattle.joint_held.specs.Entering.{EntersTable, IsEnter}
+use Rattle.joint_held.proofs.StoreLaws.{same-store, store-low}
 use Rattle.joint_held.proofs.TreeLaws.{tree-in, tree-one}
-use Rattle.joint_entered.specs.Entered.{HasEntered}
+use Rattle.joint_entered.specs.Entered.{HasAnswered, HasEntered}
+use Rattle.joint_entered.proofs.AnswerLaws.{answered-table}
 use Rattle.joint_entered.proofs.BroughtLaws.{brought}
 use Rattle.joint_entered.proofs.OutcomeLaws.{HasChanged, Outcome, StaysBeside, again, first, outcome, rest, stays-beside}
 use Rattle.joint_entered.proofs.OtherLaws.{other-stands, other-tree, others-seen}
@@ -74,9 +76,8 @@ some_name a b e = cc
 some_table : (a b : Table) → Some (Keyed a) ≡ Some (Keyed b) → a ≡ b
 some_table a b e = cc
 
-module _ (ks : Keys) (old new : area.Heap) (before after : Outside Space) (names : List Reference) (writing : List Source) (directory : Rattle.std.specs.Prelude.Option ℕ) (h : Held) (x id : ℕ) (key : KeyOf ks) (to : Rattle.std.specs.Prelude.Option ℕ) (objects : Heap)
-    (was_sound : IsHeap old) (sound : IsHeap new) (was_one : (a b : Space) → before.contents a → before.contents b → a ≡ b) (now_one : (a b : Space) → after.contents a → after.contents b → a ≡ b)
-    (low : (pid : ℕ) (words : List ℕ) → Holds before pid words → pid < 2 ^ 30) (wide : (space : Space) → before.contents space → AreWords space.words) (run : HoldsRun old before names writing directory h)
+module _ (ks : Keys) (old new : area.Heap) (before after : Outside Space) (names : List Reference) (writing : List Source) (directory : Option ℕ) (h : Held) (x id : ℕ) (key : KeyOf ks) (to : Option ℕ) (objects : Heap)
+    (was_sound : IsHeap old) (sound : IsHeap new) (run : HoldsRun old before names writing directory h)
     (w : HasEntered ks old new before after names h x id key to objects) where
   abbrev S : Seen
   S = seen old before
@@ -91,13 +92,16 @@ module _ (ks : Keys) (old new : area.Heap) (before after : Outside Space) (names
   later i = w.world.row.stands.tables.nodes i
 
   old_one : IsOne S
-  old_one = seen-one old before was_sound was_one
+  old_one = seen-one old before was_sound run.store.one
 
   new_one : IsOne N
-  new_one = seen-one new after sound now_one
+  new_one = seen-one new after sound (same-store before after w.spares.contents run.store).one
+
+  low : (pid : ℕ) (words : List ℕ) → Holds before pid words → pid < 2 ^ 30
+  low pid words there = store-low before pid words run.store there
 
   single : nodes.IsSingle before
-  single = record { one = λ pid a b p q. Holds-one before pid a b was_one p q }
+  single = record { one = λ pid a b p q. Holds-one before pid a b run.store.one p q }
 
   here : IsPlace (place old before)
   here = record { heap = was_sound; single = single }
@@ -310,9 +314,17 @@ module _ (ks : Keys) (old new : area.Heap) (before after : Outside Space) (names
   pub entered-table : EntersTable old new before after names h run.world.row.stands.tables.nodes x id objects
   entered-table = record {
     enter = enter;
-    brought = brought ks old new before after x sound wide w.spares beside.fetched run.current.told.whole;
+    brought = brought ks old new before after x sound run.store.wide w.spares beside.fetched run.current.told.whole;
     of = w.of;
     world = w.world;
     trees = trees;
     were = were;
   }
+
+-- what was answered is of a table with an id, and is such an enter
+pub answered-enter : (ks : Keys) (old new : area.Heap) (before after : Outside Space) (names : List Reference) (writing : List Source) (directory : Option ℕ) (h : Held) (x : ℕ) (table : Value) (named : Key) (v : Value) (key : KeyOf ks) (to : Option ℕ) (objects : Heap) → IsHeap old → IsHeap new
+    → (run : HoldsRun old before names writing directory h) → HasAnswered ks old new before after names h x table named v key to objects
+    → (id : ℕ) × (table ≡ Pointer id) × EntersTable old new before after names h run.world.row.stands.tables.nodes x id objects
+answered-enter ks old new before after names writing directory h x table named v key to objects was_sound sound run d =
+    let w = answered-table ks old new before after names h x table named v key to objects was_sound run.world d in
+    (w.0, w.1, entered-table ks old new before after names writing directory h x w.0 key to objects was_sound sound run w.2)

@@ -1,14 +1,14 @@
 -- A key was entered into a table of the heap, or taken out, as the call on tables has it and as the meaning has it.
-use Rattle.std.specs.Prelude.{◌≡◌, ◌≢◌, ℕ, false, List, Option, Some, None, Ok}
+use Rattle.std.specs.Prelude.{◌≡◌, ◌≢◌, ℕ, List, Option, Some, Ok}
 use Rattle.joint_held.specs.joint_ops.ps_outside.Outside.{Outside}
 use Rattle.joint_held.specs.joint_ops.obj_layout.Stored.{Space}
 use Rattle.joint_held.specs.joint_ops.obj_layout.declared.reference.Reference.{Reference}
 use Rattle.joint_held.specs.joint_ops.swizzle.Heap as area
 use Rattle.joint_held.specs.joint_ops.ps_heap.Tables.{Key, Table}
 use Rattle.joint_held.specs.joint_ops.ps_heap.Texts.{Yields}
-use Rattle.joint_held.specs.joint_ops.ps_heap.Values.{Pointer, Value}
+use Rattle.joint_held.specs.joint_ops.ps_heap.Values.{Value}
 use Rattle.joint_held.specs.joint_ops.ps_heap.Objects.{Heap, Keyed, object_at}
-use Rattle.joint_held.specs.joint_ops.ps_heap.Held.{Held, home_at}
+use Rattle.joint_held.specs.joint_ops.ps_heap.Held.{Held}
 use Rattle.joint_held.specs.joint_ops.World.{DenotesIn, IsWorld}
 use Rattle.joint_held.specs.Held.{IsOf}
 use Rattle.joint_tables.specs.Tables.{with_entry}

@@ -11,7 +11,8 @@ use Rattle.joint_ops.specs.ps_heap.Databases.{Directory, Database, database_at, 
 use Rattle.joint_ops.specs.ps_heap.Held.{Held, Place}
 use Rattle.reaching.specs.Reaching.{IsIn}
 use Rattle.reach_commit.specs.commit_images.Stored.{IsCut}
-use Rattle.joint_held.specs.Held.{HasPlace, HoldsRun}
+use Rattle.db_dir.specs.Directories.{IsDirectoryUnder}
+use Rattle.joint_held.specs.Held.{HasPlace, IsOneStore, HoldsRun}
 use Rattle.joint_held.specs.Keeping.{IsEmpty, word_0}
 
 no-name : (n : Reference) (id : ℕ) → paired [] n id → ⊥
@@ -44,9 +45,10 @@ empty-row outside size = record {
   long = refl;
 }
 
-pub empty-run : (outside : Outside Space) (size : ℕ) (h : Held) → ((a b : Space) → outside.contents a → outside.contents b → a ≡ b) → outside.contents word_0 → IsEmpty h
+pub empty-run : (outside : Outside Space) (size : ℕ) (h : Held) → IsOneStore outside → outside.contents word_0 → IsEmpty h
     → HoldsRun (fresh_heap size) outside [] [] None h
-empty-run outside size h one is e = record {
+empty-run outside size h store is e = record {
+  store = store;
   world = record { row = subst (λ (of : Heap). StandsRow (seen (fresh_heap size) outside) of []) (sym e.objects) (empty-row outside size) };
   homes = λ n id p. absurd (no-name n id p);
   homed = omega (arith, ap (λ (homes : List (Option ℕ)). length homes) e.homes);
@@ -60,7 +62,7 @@ empty-run outside size h one is e = record {
     told = record {
       content = word_0;
       is = is;
-      cut = λ space k. subst IsCut (one word_0 space is k) (record { objects = []; cut = (omega arith, refl) });
+      cut = λ space k. subst IsCut (store.one word_0 space is k) (record { objects = []; cut = (omega arith, refl) });
       there = λ x held low. absurd (no-object size x held);
       whole = λ x held. absurd (no-object size x held);
     };
@@ -75,5 +77,11 @@ empty-run outside size h one is e = record {
     others = λ number d k away. absurd (no-database number d (ap (λ (ds : Directory). database_at ds number) (sym e.directory) ∙ k));
   };
   asked = λ a. e.directory;
-  unasked = λ a. record { openings = e.openings; created = e.created; none = refl };
+  unasked = λ a. record {
+    openings = e.openings;
+    created = e.created;
+    none = refl;
+    named = λ space k.
+        subst (IsDirectoryUnder (seen (fresh_heap size) outside) (paired []) space.directory) (sym e.directory) (ap (λ (s : Space). s.directory) (store.one space word_0 k is));
+  };
 }

@@ -15,7 +15,7 @@ use Rattle.joint_ops.specs.swizzle.Heap.{IsHeap, IsHeld, IsListed, header_at, nu
 use Rattle.joint_ops.specs.swizzle.Joint.{Shown, name_at, shown_at}
 use Rattle.swizzle.proofs.NameLaws.{names-decided, name-pid, name-none, pid_in}
 use Rattle.joint_ops.specs.World.{IsStored, seen}
-use Rattle.joint_ops.proofs.SeenLaws.{seen-is, seen-held, stored-stays}
+use Rattle.joint_ops.proofs.SeenLaws.{seen-is, seen-held, seen-one, stored-stays}
 use Rattle.joint_ops.specs.heap_places.Shapes.{word_in, IsText}
 use Rattle.joint_ops.specs.heap_meaning.Standing.{Seen, IsOne, IsKindOf}
 use Rattle.joint_ops.specs.heap_meaning.Paired.{paired}
@@ -28,9 +28,10 @@ use Rattle.commit_walk.specs.Walk.{has_home}
 use Rattle.commit_walk.specs.Homes.{source_at}
 use Rattle.commit_walk.specs.declared.homes.Source.{Source}
 use Rattle.reach_commit.specs.commit_images.Images.{image_of}
-use Rattle.joint_held.specs.Held.{IsAtHome, IsOf, IsNoted, HasPlace, IsOfHeap, HasRoot, HoldsRun}
+use Rattle.joint_held.specs.Held.{IsAtHome, IsOf, IsNoted, HasPlace, IsOfHeap, HasRoot, IsOneStore, HoldsRun}
 use Rattle.joint_held.specs.Entering.{EntersTable}
 use Rattle.joint_held.proofs.ImageLaws.{far-same}
+use Rattle.joint_held.proofs.StoreLaws.{same-store, unasked-stays, unasked-as}
 use Rattle.joint_held.proofs.GainLaws.{home-by_kind}
 use Rattle.joint_held.proofs.WriteLaws.{with-place, with-this, place-with, named-stays}
 
@@ -51,13 +52,19 @@ held-or here y = go (area.found here y) refl
     go None is = inr (λ h. let bad : None ≡ Some h.object = sym is ∙ h.is in absurd (cc))
 
 module _ (old new : area.Heap) (before after : Outside Space) (names : List Reference) (writing : List Source) (directory : Option ℕ) (h : Held) (x : ℕ) (place : Place) (objects : Heap)
-    (was_sound : IsHeap old) (sound : IsHeap new) (was_one : IsOne (seen old before)) (one : IsOne (seen new after)) (run : HoldsRun old before names writing directory h)
+    (was_sound : IsHeap old) (sound : IsHeap new) (run : HoldsRun old before names writing directory h)
     (w : EntersTable old new before after names h run.world.row.stands.tables.nodes x (object_of place) objects) where
   abbrev S : Seen
   S = seen old before
 
   abbrev N : Seen
   N = seen new after
+
+  store : IsOneStore after
+  store = same-store before after w.enter.contents run.store
+
+  was_one : IsOne (seen old before)
+  was_one = seen-one old before was_sound run.store.one
 
   abbrev Id : ℕ
   Id = object_of place
@@ -273,11 +280,16 @@ module _ (old new : area.Heap) (before after : Outside Space) (names : List Refe
         names = named-stays S N (paired names) (shown_at old at).refs h.directory text-stays table-stays is.names;
       })
 
+  directory-seen : (n : Reference) (it : Shown) → it.kind ≡ kind.Directory → S n it → N n it
+  directory-seen n it k s =
+      still-seen n it (λ e. let bad : kind.Directory ≡ kind.Node = sym k ∙ e in absurd (cc)) (λ e. let bad : kind.Directory ≡ kind.Table = sym k ∙ e in absurd (cc)) s
+
   root-new : (number at : ℕ) → HasRoot old names h number at → HasRoot new names (assigning place objects h) number at
   root-new number at r = record { database = r.database; is = r.is; root = of-new at r.database.root r.root }
 
   pub entered-run : HoldsRun new after names writing directory (assigning place objects h)
   entered-run = record {
+    store = store;
     world = w.world;
     homes = homes;
     homed = omega (arith, run.homed, run.world.row.long, w.world.row.long);
@@ -308,6 +320,6 @@ module _ (old new : area.Heap) (before after : Outside Space) (names : List Refe
     };
     asked = λ e. directory-new directory (run.asked e);
     unasked = λ e.
-        let u = run.unasked e in
-        record { openings = u.openings; created = u.created; none = u.none };
+        unasked-as new after names h (assigning place objects h) directory refl refl refl
+        (unasked-stays old new before after names names h directory w.enter.contents.no_other directory-seen (λ ns a. named-stays S N (paired names) ns h.directory text-stays table-stays a) (run.unasked e));
   }

@@ -17,7 +17,7 @@ use Rattle.joint_ops.specs.swizzle.Heap.{IsHeap, IsHeld, IsListed, header_at, lo
 use Rattle.joint_ops.specs.swizzle.Joint.{Shown, name_at, shown_at}
 use Rattle.swizzle.proofs.NameLaws.{name-pid, name-none, pid_in}
 use Rattle.joint_ops.specs.World.{IsStored, IsWorld, seen}
-use Rattle.joint_ops.proofs.SeenLaws.{stored-stays}
+use Rattle.joint_ops.proofs.SeenLaws.{seen-one, stored-stays}
 use Rattle.joint_ops.specs.heap_places.Shapes.{slot_of}
 use Rattle.joint_ops.specs.heap_meaning.avl_trees.Trees.{Tree}
 use Rattle.joint_ops.specs.heap_meaning.avl_trees.Standing.{root_of, Stands}
@@ -37,11 +37,12 @@ use Rattle.commit_walk.specs.declared.homes.Source.{Source}
 use Rattle.reach_commit.specs.commit_images.Images.{image_of}
 use Rattle.reach_commit.specs.commit_images.Stored.{IsWhole}
 use Rattle.reach_commit.specs.Telling.{IsTold}
-use Rattle.joint_held.specs.Held.{IsAtHome, IsOf, IsNoted, IsHere, HasChanged, IsTree, IsKeyed, IsNodeOf, IsOfHeap, HasRoot, HoldsRun}
+use Rattle.joint_held.specs.Held.{IsAtHome, IsOf, IsNoted, IsHere, HasChanged, IsTree, IsKeyed, IsNodeOf, IsOfHeap, HasRoot, IsOneStore, HoldsRun}
 use Rattle.joint_ops.specs.Seeing.{Came, Gains}
 use Rattle.joint_held.proofs.TreeLaws as trees
 use Rattle.joint_held.proofs.TreeLaws.{tree-stays, tree-one, tree-in, nodes-one, node-known, WasOpen, is-tree}
 use Rattle.joint_held.proofs.ImageLaws.{came-image}
+use Rattle.joint_held.proofs.StoreLaws.{same-store, unasked-stays}
 
 -- The kind decides whether an object has a home.
 pub home-by_kind : (h i : Header) → h.kind ≡ i.kind → has_home h ≡ has_home i
@@ -49,13 +50,18 @@ unfolding has_home
 home-by_kind h i e = ap (λ k. if nat_eq (kind_number k) 2 then true else (if nat_eq (kind_number k) 3 then true else (if nat_eq (kind_number k) 4 then true else nat_eq (kind_number k) 7))) e
 
 module _ (old new : area.Heap) (before after : Outside Space) (names : List Reference) (writing : List Source) (directory : Option ℕ) (h : Held)
-    (was_one : IsOne (seen old before)) (one : IsOne (seen new after)) (wide : (space : Space) → before.contents space → AreWords space.words) (t : Gains old new before after)
-    (run : HoldsRun old before names writing directory h) where
+    (t : Gains old new before after) (run : HoldsRun old before names writing directory h) where
   was_sound : IsHeap old
   was_sound = t.was_sound
 
   sound : IsHeap new
   sound = t.sound
+
+  store : IsOneStore after
+  store = same-store before after t.contents run.store
+
+  one : IsOne (seen new after)
+  one = seen-one new after sound store.one
 
   abbrev S : Seen
   S = seen old before
@@ -185,7 +191,7 @@ module _ (old new : area.Heap) (before after : Outside Space) (names : List Refe
 
   came-stored : (x : ℕ) → IsHeld new x → Came old new before x → IsStored after (header_at new x).pid (image_of new x)
   came-stored x held c =
-      let words_fit : AreWords c.words = Rattle.joint_held.proofs.ImageLaws.held-words before (header_at new x).pid c.words wide c.there.there in
+      let words_fit : AreWords c.words = Rattle.joint_held.proofs.ImageLaws.held-words before (header_at new x).pid c.words run.store.wide c.there.there in
       let same = came-image new x c.words c.there.header sound held c.there.far words_fit c.there.clean c.shown in
       subst (IsStored after (header_at new x).pid) (sym same) (stored-stays before after (header_at new x).pid c.words t.contents c.there)
 
@@ -267,6 +273,7 @@ module _ (old new : area.Heap) (before after : Outside Space) (names : List Refe
 
   pub holds : HoldsRun new after names writing directory h
   holds = record {
+    store = store;
     world = world;
     homes = homes;
     homed = run.homed;
@@ -293,5 +300,5 @@ module _ (old new : area.Heap) (before after : Outside Space) (names : List Refe
       others = run.sources.others;
     };
     asked = λ e. directory-new directory (run.asked e);
-    unasked = run.unasked;
+    unasked = λ e. unasked-stays old new before after names names h directory t.contents.no_other (λ n it k s. t.grows n it s) (λ ns a. named-within S N (paired names) ns h.directory t.grows a) (run.unasked e);
   }

@@ -10,6 +10,7 @@ use Rattle.joint_ops.specs.swizzle.Heap.{IsHeap, IsHeld, IsListed, header_at}
 use Rattle.joint_ops.specs.swizzle.Joint.{Shown, name_at, shown_at}
 use Rattle.swizzle.proofs.NameLaws.{name-none, name-pid}
 use Rattle.joint_ops.specs.World.{seen}
+use Rattle.joint_ops.proofs.SeenLaws.{seen-one}
 use Rattle.joint_ops.specs.heap_places.Shapes.{slot_of}
 use Rattle.joint_ops.specs.heap_meaning.avl_trees.Trees.{Tree}
 use Rattle.joint_ops.specs.heap_meaning.avl_trees.Standing.{root_of, Stands}
@@ -32,6 +33,7 @@ use Rattle.joint_ops.specs.Made.{IsFresh}
 use Rattle.joint_held.specs.Keeping.{GetsId}
 use Rattle.joint_held.proofs.TreeLaws as trees
 use Rattle.joint_held.proofs.TreeLaws.{nodes-one}
+use Rattle.joint_held.proofs.StoreLaws.{unasked-stays, unasked-as}
 
 -- a row of a directory stands under more names
 named-pairs : (seen : Seen) (pair more : Pairing) (ns : List Reference) (ds : Directory) → ((n : Reference) (id : ℕ) → pair n id → more n id) → AreNamed seen pair ns ds → AreNamed seen more ns ds
@@ -67,9 +69,12 @@ home-past (home ∷ homes) zero low = absurd (omega (arith, low))
 home-past (home ∷ homes) (suc id) low = home-past homes id (omega (arith, low))
 
 module _ (here : area.Heap) (outside : Outside Space) (names : List Reference) (writing : List Source) (directory : Option ℕ) (h : Held) (at : ℕ) (object : Object) (sound : IsHeap here)
-    (one : IsOne (seen here outside)) (g : GetsId here outside names h at object) (run : HoldsRun here outside names writing directory h) where
+    (g : GetsId here outside names h at object) (run : HoldsRun here outside names writing directory h) where
   abbrev S : Seen
   S = seen here outside
+
+  one : IsOne (seen here outside)
+  one = seen-one here outside sound run.store.one
 
   abbrev More : List Reference
   More = and_name names (name_at here at)
@@ -159,6 +164,7 @@ module _ (here : area.Heap) (outside : Outside Space) (names : List Reference) (
 
   pub id-given : HoldsRun here outside More writing directory (made object h)
   id-given = record {
+    store = run.store;
     world = g.world;
     homes = homes;
     homed = omega (arith, run.homed, length-append h.objects (object ∷ []));
@@ -184,5 +190,7 @@ module _ (here : area.Heap) (outside : Outside Space) (names : List Reference) (
       others = run.sources.others;
     };
     asked = λ e. directory-more directory (run.asked e);
-    unasked = λ e. let u = run.unasked e in record { openings = u.openings; created = u.created; none = u.none };
+    unasked = λ e.
+        unasked-as here outside More h (made object h) directory refl refl refl
+        (unasked-stays here here outside outside names More h directory (λ space is. is) (λ n it k s. s) (λ ns a. named-pairs S (paired names) (paired More) ns h.directory before a) (run.unasked e));
   }

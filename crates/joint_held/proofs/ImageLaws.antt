@@ -103,6 +103,18 @@ contents-same h i c k r n b w = record {
   allowed = w.allowed;
 }
 
+-- what is shown of an object of a vault has as many references and number words as its header says
+pub far-counts : (words : List ℕ) (header : Header) → IsFar words header → (length (shown_words words).refs ≡ header.refs) × (length (shown_words words).nums ≡ header.nums)
+unfolding object_in
+far-counts words header f =
+    let h = far_header words header f in
+    let r : (header_in words).refs ≡ header.refs = ap (λ (g : Header). g.refs) h in
+    let n : (header_in words).nums ≡ header.nums = ap (λ (g : Header). g.nums) h in
+    let long = f.long in (
+      length-map (object_in words).refs far_of ∙ (length-map (take (header_in words).refs (drop 4 words)) reference_at ∙ (length-take-le (header_in words).refs (drop 4 words) (let d = length-drop 4 words in omega (arith, d, long, r)) ∙ r)),
+      length-take-le (header_in words).nums (drop (4 + (header_in words).refs) words) (let d = length-drop (4 + (header_in words).refs) words in omega (arith, d, long, r, n)) ∙ n,
+    )
+
 pub came-whole : (heap : Heap) (outside : Outside Space) (x : ℕ) (words : List ℕ) → IsHeap heap → IsHeld heap x → IsStored outside (header_at heap x).pid words → shown_at heap x ≡ shown_words words
     → IsWhole heap x
 unfolding object_in
@@ -120,16 +132,6 @@ came-whole heap outside x words sound held s shows =
     let nums : (header_at heap x).nums ≡ is.header.nums =
     sym (split 1 heap.objects x o sound.fit (held_is heap x held)).fit.nums ∙ (ap (λ (i : Shown). length i.nums) shows ∙ (counts_of_shown.1 ∙ ap (λ (h : Header). h.nums) (sym far ∙ spelled))) in
     record { contents = is.contents; counts = contents-same is.header (header_at heap x) is.contents kinds refs nums bytes is.holds }
-  where
-    far-counts : (words : List ℕ) (header : Header) → IsFar words header → (length (shown_words words).refs ≡ header.refs) × (length (shown_words words).nums ≡ header.nums)
-    far-counts words header f =
-        let h = far_header words header f in
-        let r : (header_in words).refs ≡ header.refs = ap (λ (g : Header). g.refs) h in
-        let n : (header_in words).nums ≡ header.nums = ap (λ (g : Header). g.nums) h in
-        let long = f.long in (
-          length-map (object_in words).refs far_of ∙ (length-map (take (header_in words).refs (drop 4 words)) reference_at ∙ (length-take-le (header_in words).refs (drop 4 words) (let d = length-drop 4 words in omega (arith, d, long, r)) ∙ r)),
-          length-take-le (header_in words).nums (drop (4 + (header_in words).refs) words) (let d = length-drop (4 + (header_in words).refs) words in omega (arith, d, long, r, n)) ∙ n,
-        )
 
 -- Words of an object are words of the space.
 

@@ -1,11 +1,13 @@
 pub mod TreeLaws
 pub mod ImageLaws
+pub mod StoreLaws
 pub mod GainLaws
 pub mod MadeLaws
 pub mod IdLaws
 pub mod EmptyLaws
 pub mod WriteLaws
 pub mod ValueLaws
+pub mod BelowLaws
 pub mod EnterLaws
 pub mod OpenLaws
 pub mod NewTableLaws

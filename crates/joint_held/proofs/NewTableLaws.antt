@@ -1,9 +1,8 @@
 -- A new table, in the area and in what a run holds.
-use Rattle.std.proofs.Common.{◌≡◌, ℕ, List, [], ◌∷◌, ◌++◌, length, refl, sym, ap, ◌∙◌, subst, Option, None}
+use Rattle.std.proofs.Common.{◌≡◌, ℕ, List, [], ◌∷◌, ◌++◌, refl, sym, ap, ◌∙◌, subst, Option}
 use Rattle.joint_ops.specs.ps_outside.Outside.{Outside}
 use Rattle.joint_ops.specs.obj_layout.Stored.{Space}
 use Rattle.joint_ops.specs.obj_layout.Objects.{table}
-use Rattle.joint_ops.specs.obj_area.Words.{AreWords}
 use Rattle.joint_ops.proofs.of_heap_meaning.of_obj_layout.StoredLaws.{Holds-low}
 use Rattle.joint_ops.specs.obj_layout.declared.kind.Kind.TheVariants as kind
 use Rattle.joint_ops.specs.obj_layout.declared.header.Header.{Header}
@@ -16,12 +15,11 @@ use Rattle.swizzle.proofs.JointLaws.{joint-blank, name-fresh, held-top, object-t
 use Rattle.swizzle.proofs.KeptLaws.{inside_nil}
 use Rattle.swizzle.proofs.NameLaws.{name-none}
 use Rattle.joint_ops.specs.World.{IsStored, seen}
-use Rattle.joint_ops.specs.heap_meaning.Standing.{IsOne}
 use Rattle.joint_ops.specs.heap_meaning.Paired.{StandsRow, and_name}
 use Rattle.heap_meaning.proofs.PairedLaws.{row-made}
 use Rattle.joint_ops.specs.ps_heap.Tables.{without_keys}
 use Rattle.joint_ops.specs.ps_heap.Objects.{Keyed}
-use Rattle.joint_ops.specs.ps_heap.Held.{Held, home_at, made}
+use Rattle.joint_ops.specs.ps_heap.Held.{Held, made}
 use Rattle.commit_walk.specs.declared.homes.Source.{Source}
 use Rattle.reach_commit.specs.commit_images.Stored.{IsWhole}
 use Rattle.joint_held.specs.Held.{HoldsRun}
@@ -34,7 +32,6 @@ abbrev new_table : Object
 new_table = blank kind.Table 1 3 0
 
 module _ (old new : Heap) (outside : Outside Space) (names : List Reference) (writing : List Source) (directory : Option ℕ) (h : Held) (at : ℕ) (was_sound : IsHeap old) (sound : IsHeap new)
-    (was_one : IsOne (seen old outside)) (one : IsOne (seen new outside)) (wide : (space : Space) → outside.contents space → AreWords space.words)
     (m : IsMade old new at new_table) (run : HoldsRun old outside names writing directory h) where
   head : header_at new at ≡ new_table.header
   head = ap (λ (n : Heap). header_at n at) m.made ∙ (ap (header_at (with_new old new_table)) m.place ∙ ap (λ (o : Object). o.header) (object-top old new_table))
@@ -70,6 +67,6 @@ module _ (old new : Heap) (outside : Outside Space) (names : List Reference) (wr
 
   pub table-made : HoldsRun new outside (and_name names (name_at new at)) writing directory (made (Keyed without_keys) h)
   table-made =
-      id-given new outside names writing directory h at (Keyed without_keys) sound one
+      id-given new outside names writing directory h at (Keyed without_keys) sound
       (record { held = held; unstored = unstored; fresh = tt; world = record { row = row } })
-      (holds old new outside outside names writing directory h was_one one wide (made-gains old new outside was_sound sound at new_table making) run)
+      (holds old new outside outside names writing directory h (made-gains old new outside was_sound sound at new_table making) run)

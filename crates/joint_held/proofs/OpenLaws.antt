@@ -142,6 +142,7 @@ module _ (here : area.Heap) (outside : Outside Space) (names : List Reference) (
   pub known-run : (directory now : Option ℕ) → IsDirectoryAt here (seen here outside) (paired names) now h.directory → HoldsRun here outside names writing directory h
       → HoldsRun here outside names writing now (directory_known h)
   known-run directory now d run = record {
+    store = run.store;
     world = run.world;
     homes = run.homes;
     homed = run.homed;
@@ -173,6 +174,7 @@ module _ (here : area.Heap) (outside : Outside Space) (names : List Reference) (
     pub same-run : (number : ℕ) (mode : Mode) → open_for_writing (h.openings ++ record { number = number; mode = mode } ∷ []) ≡ open_for_writing h.openings → h.asked ≡ true
         → HoldsRun here outside names writing directory (with_opening number mode h)
     same-run number mode same asked = record {
+      store = run.store;
       world = run.world;
       homes = run.homes;
       homed = run.homed;
@@ -224,6 +226,7 @@ module _ (here : area.Heap) (outside : Outside Space) (names : List Reference) (
     -- A database is opened for writing that wasn't open so.
     pub opened-run : (number : ℕ) → (IsIn number (open_for_writing h.openings) → ⊥) → h.asked ≡ true → HoldsRun here outside names (and_source writing number None) directory (with_opening number Writing h)
     opened-run number fresh asked = record {
+      store = run.store;
       world = run.world;
       homes = run.homes;
       homed = run.homed;
@@ -269,6 +272,7 @@ module _ (here : area.Heap) (outside : Outside Space) (names : List Reference) (
 
       pub created-run : HoldsRun here outside names (and_source writing Number (Some at)) now (with_database d h)
       created-run = record {
+        store = run.store;
         world = run.world;
         homes = run.homes;
         homed = run.homed;

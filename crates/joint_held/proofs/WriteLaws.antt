@@ -17,7 +17,7 @@ use Rattle.joint_ops.specs.swizzle.Joint.{Shown, name_by, name_at, name_of, show
 use Rattle.swizzle.proofs.NameLaws.{names-decided, name-pid, name-none, not_away}
 use Rattle.swizzle.proofs.FetchedLaws.{local-place}
 use Rattle.joint_ops.specs.World.{IsStored, seen}
-use Rattle.joint_ops.proofs.SeenLaws.{seen-is, seen-held}
+use Rattle.joint_ops.proofs.SeenLaws.{seen-is, seen-held, seen-one}
 use Rattle.joint_ops.specs.heap_places.Shapes.{slot_of, word_in, IsText}
 use Rattle.joint_ops.specs.heap_meaning.avl_trees.Trees.{Tree}
 use Rattle.joint_ops.specs.heap_meaning.avl_trees.Standing.{root_of, Stands}
@@ -44,6 +44,7 @@ use Rattle.joint_held.specs.Writing.{WritesObject}
 use Rattle.joint_held.proofs.TreeLaws as trees
 use Rattle.joint_held.proofs.TreeLaws.{tree-stays, tree-one, tree-in, nodes-one, WasOpen, is-tree}
 use Rattle.joint_held.proofs.ImageLaws.{far-same, contents-same}
+use Rattle.joint_held.proofs.StoreLaws.{unasked-stays, unasked-as}
 use Rattle.joint_held.proofs.GainLaws.{home-by_kind}
 
 -- Places.
@@ -148,13 +149,19 @@ parts-home h p = go h.kind p
     go kind.Directory p = absurd p
 
 module _ (old new : area.Heap) (outside : Outside Space) (names : List Reference) (writing : List Source) (directory : Option ℕ) (h : Held) (x : ℕ) (place : Place) (objects : Heap)
-    (was_sound : IsHeap old) (sound : IsHeap new) (was_one : IsOne (seen old outside)) (one : IsOne (seen new outside)) (w : WritesObject old new outside names h x (object_of place) objects)
+    (was_sound : IsHeap old) (sound : IsHeap new) (w : WritesObject old new outside names h x (object_of place) objects)
     (run : HoldsRun old outside names writing directory h) where
   abbrev S : Seen
   S = seen old outside
 
   abbrev N : Seen
   N = seen new outside
+
+  was_one : IsOne (seen old outside)
+  was_one = seen-one old outside was_sound run.store.one
+
+  one : IsOne (seen new outside)
+  one = seen-one new outside sound run.store.one
 
   abbrev Id : ℕ
   Id = object_of place
@@ -409,6 +416,12 @@ module _ (old new : area.Heap) (outside : Outside Space) (names : List Reference
     | inr e ↦ inl (home-by_kind (header_at new y) (header_at old x) (kind-same y ∙ ap (λ z. (header_at old z).kind) e) ∙ parts-home (header_at old x) w.write.parts)
   ]
 
+  kind-stays : (n : Reference) → IsKindOf S n kind.Table → IsKindOf N n kind.Table
+  kind-stays n k = record { it = k.it; there = table-stays n k.it k.kind_is k.there; kind_is = k.kind_is }
+
+  directory-seen : (n : Reference) (it : Shown) → it.kind ≡ kind.Directory → S n it → N n it
+  directory-seen n it k s = seen-new n it (not-x n it s (λ p. subst HasParts k p)) s
+
   directory-new : (d : Option ℕ) → IsDirectoryAt old S (paired names) d h.directory → IsDirectoryAt new N (paired names) d h.directory
   directory-new None is = is
   directory-new (Some at) is =
@@ -419,7 +432,7 @@ module _ (old new : area.Heap) (outside : Outside Space) (names : List Reference
         some = is.some;
         few = is.few;
         fit = is.fit;
-        names = named-stays S N (paired names) (shown_at old at).refs h.directory text-stays (λ n k. record { it = k.it; there = table-stays n k.it k.kind_is k.there; kind_is = k.kind_is }) is.names;
+        names = named-stays S N (paired names) (shown_at old at).refs h.directory text-stays kind-stays is.names;
       })
 
   root-new : (number at : ℕ) → HasRoot old names h number at → HasRoot new names (assigning place objects h) number at
@@ -427,6 +440,7 @@ module _ (old new : area.Heap) (outside : Outside Space) (names : List Reference
 
   pub written : HoldsRun new outside names writing directory (assigning place objects h)
   written = record {
+    store = run.store;
     world = w.world;
     homes = homes;
     homed = omega (arith, run.homed, run.world.row.long, w.world.row.long);
@@ -460,6 +474,6 @@ module _ (old new : area.Heap) (outside : Outside Space) (names : List Reference
     };
     asked = λ e. directory-new directory (run.asked e);
     unasked = λ e.
-        let u = run.unasked e in
-        record { openings = u.openings; created = u.created; none = u.none };
+        unasked-as new outside names h (assigning place objects h) directory refl refl refl
+        (unasked-stays old new outside outside names names h directory (λ space is. is) directory-seen (λ ns a. named-stays S N (paired names) ns h.directory text-stays kind-stays a) (run.unasked e));
   }

@@ -1,5 +1,5 @@
 -- A table gets a value under a key, or loses a key: in the area, and in what a run holds.
-use Rattle.std.specs.Prelude.{◌≡◌, ◌≢◌, ◌⊎◌, ℕ, ◌≤◌, false, List, None}
+use Rattle.std.specs.Prelude.{◌≡◌, ◌≢◌, ◌⊎◌, ℕ, ◌≤◌, List}
 use Rattle.joint_ops.specs.ps_outside.Outside.{Outside, SameContents}
 use Rattle.joint_ops.specs.obj_layout.Stored.{Space, Holds}
 use Rattle.joint_ops.specs.obj_layout.declared.kind.Kind.TheVariants.{Table, Node}
@@ -8,7 +8,7 @@ use Rattle.joint_ops.specs.swizzle.Heap as area
 use Rattle.joint_ops.specs.swizzle.Heap.{IsHeld, IsListed, header_at, num_at}
 use Rattle.joint_ops.specs.swizzle.Joint.{Shown, name_at, shown_at}
 use Rattle.joint_ops.specs.ps_heap.Objects.{Heap}
-use Rattle.joint_ops.specs.ps_heap.Held.{Held, home_at}
+use Rattle.joint_ops.specs.ps_heap.Held.{Held}
 use Rattle.joint_ops.specs.World.{IsStored, IsWorld, seen}
 use Rattle.reach_commit.specs.commit_images.Images.{image_of}
 use Rattle.reach_commit.specs.commit_images.Stored.{IsWhole}

@@ -1,6 +1,7 @@
 -- What a run holds of the heap and of databases, as area and vault show it, and as code has it that knows which databases are open.
-use Rattle.std.specs.Prelude.{◌≡◌, ◌≢◌, ◌⊎◌, ℕ, ◌<◌, ◌≤◌, true, false, List, [], ◌∷◌, map, length, Option, Some, None}
+use Rattle.std.specs.Prelude.{◌≡◌, ◌≢◌, ◌⊎◌, ℕ, ◌<◌, ◌≤◌, ◌^◌, true, false, List, [], ◌∷◌, map, length, Option, Some, None}
 use Rattle.joint_ops.specs.ps_outside.Outside.{Outside}
+use Rattle.joint_ops.specs.obj_area.Words.{AreWords}
 use Rattle.joint_ops.specs.obj_layout.Stored.{Space}
 use Rattle.joint_ops.specs.obj_layout.declared.kind.Kind.TheVariants.{Node}
 use Rattle.joint_ops.specs.obj_layout.declared.reference.Reference.{Reference}
@@ -29,7 +30,7 @@ use Rattle.reach_commit.specs.commit_walk.Homes.{source_at}
 use Rattle.reach_commit.specs.commit_images.Images.{image_of}
 use Rattle.reach_commit.specs.Becoming.{AreNewRoots}
 use Rattle.reach_commit.specs.Telling.{IsTold}
-use Rattle.db_dir.specs.Directories.{IsDirectoryAt}
+use Rattle.db_dir.specs.Directories.{IsDirectoryAt, IsDirectoryUnder}
 
 -- An object is at home in a database exactly where it is stored: then its name is a PID, and its first number word is the number of the database.
 abbrev pub IsAtHome : Seen → Reference → Option ℕ → Type 0
@@ -141,14 +142,22 @@ pub record AreSources (here : area.Heap) (names : List Reference) (h : Held) (wr
   pub roots : AreNewRoots here writing
   pub others : (number : ℕ) (d : Database) → database_at h.directory number ≡ Some d → (IsIn number h.created → ⊥) → is_there (home_at h.homes d.root) ≡ true
 
--- before the first call on databases none is open and none was made, and code has no directory
-pub record IsUnasked (h : Held) (directory : Option ℕ) : Type 0 where
+-- Before the first call on databases none is open and none was made, and code has no directory; that of the run is the one on the vault.
+pub record IsUnasked (here : area.Heap) (outside : Outside Space) (names : List Reference) (h : Held) (directory : Option ℕ) : Type 0 where
   pub openings : h.openings ≡ []
   pub created : h.created ≡ []
   pub none : directory ≡ None
+  pub named : (space : Space) → outside.contents space → IsDirectoryUnder (seen here outside) (paired names) space.directory h.directory
+
+-- What a vault holds is one space, of words of 64 bits, fewer than 2 ^ 30.
+pub record IsOneStore (outside : Outside Space) : Type 0 where
+  pub one : (a b : Space) → outside.contents a → outside.contents b → a ≡ b
+  pub wide : (space : Space) → outside.contents space → AreWords space.words
+  pub small : (space : Space) → outside.contents space → length space.words < 2 ^ 30
 
 -- Area and vault, the databases that are open for writing and the directory stand for what a run holds, under a row of names.
 pub record HoldsRun (here : area.Heap) (outside : Outside Space) (names : List Reference) (writing : List Source) (directory : Option ℕ) (h : Held) : Type 0 where
+  pub store : IsOneStore outside
   pub world : IsWorld here outside h.objects names
   pub homes : (n : Reference) (id : ℕ) → paired names n id → IsAtHome (seen here outside) n (home_at h.homes id)
   pub homed : length h.homes ≤ length h.objects
@@ -157,4 +166,4 @@ pub record HoldsRun (here : area.Heap) (outside : Outside Space) (names : List R
   pub current : IsCurrent here outside h.objects names world.row.stands.tables.nodes
   pub sources : AreSources here names h writing
   pub asked : h.asked ≡ true → IsDirectoryAt here (seen here outside) (paired names) directory h.directory
-  pub unasked : h.asked ≡ false → IsUnasked h directory
+  pub unasked : h.asked ≡ false → IsUnasked here outside names h directory

@@ -1,5 +1,5 @@
 -- What keeps what a run holds: objects that were touched, and objects that were made.
-use Rattle.std.specs.Prelude.{◌≡◌, ℕ, List, [], ◌∷◌, ◌++◌, length, None}
+use Rattle.std.specs.Prelude.{◌≡◌, ℕ, List, [], ◌∷◌, ◌++◌}
 use Rattle.joint_ops.specs.ps_outside.Outside.{Outside, SameContents}
 use Rattle.joint_ops.specs.obj_layout.Stored.{Space}
 use Rattle.joint_ops.specs.obj_layout.declared.reference.Reference.{Reference}
@@ -12,7 +12,7 @@ use Rattle.joint_ops.specs.swizzle.Touch.{Keeps, Only}
 use Rattle.joint_ops.specs.swizzle.Reading.{joint}
 use Rattle.joint_ops.specs.heap_meaning.Paired.{and_name}
 use Rattle.joint_ops.specs.ps_heap.Objects.{Object as Meant}
-use Rattle.joint_ops.specs.ps_heap.Held.{Held, home_at}
+use Rattle.joint_ops.specs.ps_heap.Held.{Held}
 use Rattle.joint_ops.specs.Seeing.{seen}
 use Rattle.joint_ops.specs.World.{IsWorld}
 use Rattle.joint_ops.specs.Made.{IsFresh}

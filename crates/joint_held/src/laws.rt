@@ -17,13 +17,14 @@ ghost use Rattle.joint_ops.specs.ps_heap.Calls.{directory_known};
 ghost use Rattle.joint_ops.specs.Seeing.{Gains, seen};
 ghost use Rattle.joint_ops.specs.Writing.{HasParts, IsBehindHome, IsWrite};
 ghost use Rattle.db_dir.specs.Directories.{IsDirectoryAt};
+ghost use Rattle.new_pids.specs.Giving.{AreBelow};
 ghost use Rattle.reach_commit.specs.commit_walk.reaching.Reaching.{IsIn};
 ghost use Rattle.reach_commit.specs.commit_walk.declared.homes.Source.{Source};
 ghost use Rattle.joint_held.specs.Held.{HoldsRun};
 ghost use Rattle.joint_held.specs.Keeping.{MayBeTouched, IsTouch, IsMaking, GetsId, IsEmpty, word_0};
 ghost use Rattle.joint_held.specs.Entering.{EntersTable};
 ghost use Rattle.joint_held.specs.Opening.{CreatesDatabase, and_source, with_database, with_opening};
-ghost use Rattle.joint_held.specs.Writing.{WritesObject, counting_as};
+ghost use Rattle.joint_held.specs.Writing.{HoldsAlike, WritesObject, counting_as};
 
 use reach_commit::joint_ops::obj_layout::vault::Vault;
 
@@ -74,6 +75,18 @@ pub fn assigned_values_are_writes()
 pub fn counts_are_nothing_to_what_is_held<V: Vault>()
     ensures { (vault : V) (here : Heap) (names : List Reference) (writing : List Source) (directory : Option ℕ) (h : Held) (touched : List ℕ) (counted : ℕ)
         → HoldsRun here (V.outside vault) names writing directory h → HoldsRun here (V.outside vault) names writing directory (counting_as h touched counted) }
+{}
+
+/// Runs that are the same of the heap and of databases are held alike: touched objects, what is counted, replies and weights are nothing to what is held.
+pub fn runs_that_hold_alike_are_held_alike<V: Vault>()
+    ensures { (vault : V) (here : Heap) (names : List Reference) (writing : List Source) (directory : Option ℕ) (h k : Held) → HoldsAlike h k
+        → HoldsRun here (V.outside vault) names writing directory h → HoldsRun here (V.outside vault) names writing directory k }
+{}
+
+/// The PIDs of the area are below the words that the vault uses.
+pub fn pids_are_below_the_used_words<V: Vault>()
+    ensures { (vault : V) (here : Heap) (names : List Reference) (writing : List Source) (directory : Option ℕ) (h : Held)
+        → HoldsRun here (V.outside vault) names writing directory h → AreBelow here (V.used_words vault) }
 {}
 
 /// A table that gets a value under a key, or loses a key: where area and vault stand for the heap with it, and nodes hang together, what the run holds then is held.

@@ -8,7 +8,7 @@ pub use laws::{
     a_new_table_is_held, a_run_begins_with_nothing, an_object_gets_the_next_id,
     assigned_values_are_writes, counts_are_nothing_to_what_is_held, created_databases_are_held,
     enters_keep_what_a_run_holds, gains_keep_what_a_run_holds, makings_are_gains,
-    opened_databases_are_held, the_directory_is_known, touches_are_gains,
-    writes_keep_what_a_run_holds,
+    opened_databases_are_held, pids_are_below_the_used_words, runs_that_hold_alike_are_held_alike,
+    the_directory_is_known, touches_are_gains, writes_keep_what_a_run_holds,
 };
 pub use reach_commit;

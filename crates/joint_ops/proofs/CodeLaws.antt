@@ -31,7 +31,7 @@ use Rattle.heap_meaning.proofs.of_swizzle.NameLaws.{shown-counts, name-none}
 use Rattle.heap_meaning.proofs.of_heap_places.PlaceLaws.{slot-name}
 use Rattle.heap_meaning.specs.heap_places.Shapes.{slot_of}
 use Rattle.heap_meaning.specs.heap_texts.Texts.{text_object, wanted_of}
-use Rattle.heap_meaning.specs.proc_values.Units.{code_object, unit_objects, constants_objects, constant_objects, constants_places, constant_words, count_of, Loads}
+use Rattle.heap_meaning.specs.proc_values.Units.{code_object, unit_objects, constants_objects, constant_objects, constants_places, constant_words, count_of, HasConstants, AllHaveConstants, Loads}
 use Rattle.heap_meaning.specs.proc_values.Reading.{HasConstant, GivesConstant}
 use Rattle.heap_meaning.specs.proc_values.Loaded.{IsUnit, AreNamed, IsConstant, IsFitUnit, constant_numbered}
 use Rattle.heap_meaning.proofs.of_proc_values.UnitLaws.{size-unit}
@@ -43,7 +43,7 @@ use Rattle.heap_meaning.specs.Standing.{Seen}
 use Rattle.heap_meaning.proofs.StandingLaws.{Fixed, fixed-text, unit-more}
 use Rattle.joint_ops.specs.Seeing.{WasMade, Gains}
 use Rattle.joint_ops.specs.World.{IsWorld, seen, IsUnitIn, FailsAsReading}
-use Rattle.joint_ops.specs.Code.{unit_weight, HasConstants, AllHaveConstants, LoadsUnit, DenotesConstant, AnswersConstant, StandsBy}
+use Rattle.joint_ops.specs.Code.{unit_weight, LoadsUnit, DenotesConstant, AnswersConstant, StandsBy}
 use Rattle.joint_ops.proofs.SeenLaws.{area-stays, seen-held, seen-is, nil-unseen, shown-bytes, reads-within, keeps-passes, keeps-carries, Known, caused-touch, breaks}
 use Rattle.joint_ops.proofs.GainLaws.{local-place, reads-stands}
 use Rattle.joint_ops.proofs.TextLaws.{text-whole}

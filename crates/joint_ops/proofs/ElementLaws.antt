@@ -327,7 +327,7 @@ module _ (old new : area.Heap) (before after : Outside Space) (of : Heap) (names
     (was_one : (a b : Space) → before.contents a → before.contents b → a ≡ b) (is_one : (a b : Space) → after.contents a → after.contents b → a ≡ b) where
   pub writes-element : (at id : ℕ) (z y : ℤ) (c : code.Value) (e : Value) (result : Result (Unit {0}) OpFault) → y ≡ z
       → VectorAt old before of names at id → IsOfForm (operands.form_in of id) c → IsForIn old before names c e
-      → SetsElement old new before after at y c result → Writes old new before after of names (with_element of (Vector id) z e) result
+      → SetsElement old new before after at y c result → Writes old new before after (Vector id) of names (with_element of (Vector id) z e) result
   writes-element at id z y c e (Ok done) q v form for g =
       let mid = g.mid in
       let touched = slot_of (shown_at old at) 0 ∷ [] in

@@ -60,7 +60,7 @@ module _ (old new : area.Heap) (before after : Outside Space) (of : Heap) (names
     (was_one : (a b : Space) → before.contents a → before.contents b → a ≡ b) (is_one : (a b : Space) → after.contents a → after.contents b → a ≡ b) where
   pointer-put : (at id : ℕ) (text : List ℕ) (n : ℕ) (l : Located) (c : code.Value) (v : Value) (result : Result (Unit {0}) OpFault)
       → StructureAt old before of names at id → located_in (forms_of text) n ≡ Some l → IsOfForm l.place.form c → IsForIn old before names c v
-      → SetsField old new before after (Some at) text l c result → Writes old new before after of names (with_field of (Pointer id) text n v) result
+      → SetsField old new before after (Some at) text l c result → Writes old new before after (Pointer id) of names (with_field of (Pointer id) text n v) result
   pointer-put at id text n l c v (Ok done) s is form for g =
       let mid = g.mid in
       let touched = slot_of (shown_at old at) 0 ∷ [] in
@@ -99,11 +99,11 @@ module _ (old new : area.Heap) (before after : Outside Space) (of : Heap) (names
   pub writes-field : (at : ℕ) (given_text text : List ℕ) (n : ℕ) (o : Value) (l : Located) (c : code.Value) (v : Value)
       (result : Result (Unit {0}) OpFault) → given_text ≡ text → (header_at old at).kind ≡ kind.Structure → DenotesIn old before names (Some at) o
       → located_in (forms_of text) n ≡ Some l → IsOfForm l.place.form c → IsForIn old before names c v
-      → SetsField old new before after (Some at) given_text l c result → Writes old new before after of names (with_field of o text n v) result
+      → SetsField old new before after (Some at) given_text l c result → Writes old new before after o of names (with_field of o text n v) result
   writes-field at given_text text n o l c v result e k d is form for g =
       let p = structure-value old before names at o h d k in
       let s = structure-pointed old before of names at (p.0) h w (subst (DenotesIn old before names (Some at)) (p.1) d) k in
-      subst (λ (x : Value). Writes old new before after of names (with_field of x text n v) result) (sym (p.1))
+      subst (λ (x : Value). Writes old new before after x of names (with_field of x text n v) result) (sym (p.1))
       (pointer-put at (p.0) text n l c v result s is form for (subst (λ (t : List ℕ). SetsField old new before after (Some at) t l c result) e g))
 
 -- What is no structure has no field to write, and nothing is read.

@@ -205,15 +205,14 @@ stands-then a b c start before after of later names s t = record {
 }
 
 -- an object that was written, after a reading
-pub rewritten-then : (a b c : area.Heap) (start before after : Outside Space) (of later : Heap) (names : List reference.Reference)
-    → Stands a b start before of names → Rewritten b c before after of later names → Rewritten a c start after of later names
-rewritten-then a b c start before after of later names s t = record {
+pub rewritten-then : (a b c : area.Heap) (start before after : Outside Space) (id : ℕ) (of later : Heap) (names : List reference.Reference)
+    → Stands a b start before of names → Rewritten b c before after id of later names → Rewritten a c start after id of later names
+rewritten-then a b c start before after id of later names s t = record {
   mid = t.mid;
   gains = gains-then a b t.mid start before after s.gains t.gains;
   x = t.x;
   write = t.write;
   sound = t.sound;
-  id = t.id;
   named = t.named;
   others = t.others;
   plain = t.plain;
@@ -268,7 +267,7 @@ pub write-stands : (old mid new : area.Heap) (before after : Outside Space) (of 
     (object : Object) → IsHeap mid → IsHeap new → ((a b : Space) → after.contents a → after.contents b → a ≡ b) → Stands old mid before after of names
     → IsHeld mid at → paired names (name_at mid at) id → (HasBytes (header_at mid at).kind → ⊥)
     → it.kind ≡ (shown_at mid at).kind → standing.IsLike (seen mid after) (paired names) it object → standing.IsPlain object → IsWrite mid new at
-    → Replaced mid new at it → Rewritten old new before after of (with_object of id object) names
+    → Replaced mid new at it → Rewritten old new before after id of (with_object of id object) names
 write-stands old mid new before after of names at id it object h now is_one s there p none same like plain write r =
     let a = seen mid after in
     let b = seen new after in
@@ -286,7 +285,6 @@ write-stands old mid new before after of names at id it object h now is_one s th
       x = at;
       write = write;
       sound = now;
-      id = id;
       named = p;
       others = λ i ne. object-set_other of id i object ne;
       plain = λ table e. plain-object object table plain (sym (object-set of id was.object object was.means) ∙ e);

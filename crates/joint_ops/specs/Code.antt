@@ -1,6 +1,6 @@
 -- Units of code: loaded into the area beside a vault, and their constants read.
 use Rattle.std.specs.Prelude.{◌≡◌, ◌⊎◌, ℕ, ◌+◌, ◌*◌, ◌<◌, ◌≤◌, List, [], Result, Ok, Err, Some, None}
-use Rattle.heap_meaning.specs.ps_base.CodeUnit.{UnitView, unit, ConstantView, text, literal, ConstantsView, no_constants, constant_then}
+use Rattle.heap_meaning.specs.ps_base.CodeUnit.{UnitView, ConstantView, text, literal, ConstantsView}
 use Rattle.heap_meaning.specs.ps_outside.Outside.{Outside}
 use Rattle.heap_meaning.specs.obj_layout.Stored.{Space}
 use Rattle.heap_meaning.specs.obj_layout.declared.kind.Kind.TheVariants as kind
@@ -9,7 +9,7 @@ use Rattle.heap_meaning.specs.swizzle.Heap as area
 use Rattle.heap_meaning.specs.swizzle.Heap.{top_of, header_at}
 use Rattle.heap_meaning.specs.swizzle.declared.fault.SwizzleFault.{SwizzleFault}
 use Rattle.heap_meaning.specs.swizzle.declared.fault.SwizzleFault.TheVariants.{AreaFull}
-use Rattle.heap_meaning.specs.proc_values.Units.{unit_words, count_of}
+use Rattle.heap_meaning.specs.proc_values.Units.{unit_words, HasConstants}
 use Rattle.heap_meaning.specs.proc_values.Reading.{IsDamaged}
 use Rattle.heap_meaning.specs.proc_values.Loaded.{IsFitUnit, constant_numbered}
 use Rattle.heap_meaning.specs.ps_heap.Values.{Text}
@@ -20,16 +20,6 @@ use Rattle.joint_ops.specs.World.{IsWorld, DenotesIn, IsUnitIn, Carried, Stands,
 -- how many bytes the objects of a unit have
 abbrev pub unit_weight : UnitView → ℕ
 unit_weight u = 8 * unit_words u
-
-unfoldable mutual
-  -- each of its units has a constant: the text of its type comes first
-  pub HasConstants : UnitView → Type 0
-  HasConstants (unit code constants frame) = (1 ≤ count_of constants) × AllHaveConstants constants
-
-  pub AllHaveConstants : ConstantsView → Type 0
-  AllHaveConstants no_constants = Unit {0}
-  AllHaveConstants (constant_then (text bytes) rest) = AllHaveConstants rest
-  AllHaveConstants (constant_then (literal u) rest) = HasConstants u × AllHaveConstants rest
 
 -- A unit was loaded: its code object lies there, and what area and vault stood for they stand for still; under no names they stand for the empty
 -- heap. Where its units have constants, its objects are whole.

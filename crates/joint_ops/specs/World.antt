@@ -22,7 +22,7 @@ use Rattle.heap_meaning.specs.ps_heap.Operators.{is_int}
 use Rattle.heap_meaning.specs.ps_heap.Values.{Value}
 use Rattle.heap_meaning.specs.ps_heap.Texts.{Attempt, Yields, Fails}
 use Rattle.heap_meaning.specs.ps_heap.Tables.{Table}
-use Rattle.heap_meaning.specs.ps_heap.Objects.{Heap, Keyed, object_at}
+use Rattle.heap_meaning.specs.ps_heap.Objects.{Heap, Keyed, object_at, id_of}
 use Rattle.heap_meaning.specs.Units.{IsUnitSeen}
 use Rattle.heap_meaning.specs.Paired.{paired, StandsRow}
 use Rattle.heap_meaning.specs.Denoting.{DenotesValue, DenotesScope, IsFor}
@@ -79,14 +79,13 @@ module _ (old new : area.Heap) (before after : Outside Space) where
     pub carries : Carries names names
     pub gains : Gains old new before after
 
-  -- After a reading one object was written, for which the heap has another one now, that is no table; all others stay.
-  pub record Rewritten (of later : Heap) (names : List reference.Reference) : Type 0 where
+  -- After a reading the object of this id was written, for which the heap has another one now, that is no table; all others stay.
+  pub record Rewritten (id : ℕ) (of later : Heap) (names : List reference.Reference) : Type 0 where
     pub mid : area.Heap
     pub gains : Gains old mid before after
     pub x : ℕ
     pub write : IsWrite mid new x
     pub sound : IsHeap new
-    pub id : ℕ
     pub named : paired names (name_at mid x) id
     pub others : (i : ℕ) → i ≢ id → object_at later i ≡ object_at of i
     pub plain : (table : Table) → object_at later id ≡ Some (Keyed table) → ⊥
@@ -115,11 +114,11 @@ module _ (old new : area.Heap) (before after : Outside Space) where
   Answers is of names attempt (Err (op.Trap t)) = (attempt ≡ Fails t) × Stands of names
   Answers is of names attempt (Err (op.Swizzle fault)) = BreaksOff fault
 
-  -- An operation that writes: area and vault stand for the heap that the meaning's yields, or it ends in its trap, or broke off.
-  abbrev pub Writes : Heap → List reference.Reference → Attempt Heap → Result (Unit {0}) OpFault → Type 0
-  Writes of names attempt (Ok done) = (later : Heap) × (attempt ≡ Yields later) × Rewritten of later names
-  Writes of names attempt (Err (op.Trap t)) = (attempt ≡ Fails t) × Stands of names
-  Writes of names attempt (Err (op.Swizzle fault)) = BreaksOff fault
+  -- An operation that writes a place of what a value denotes: area and vault stand for the heap that the meaning's yields, or it ends in its trap, or broke off.
+  abbrev pub Writes : Value → Heap → List reference.Reference → Attempt Heap → Result (Unit {0}) OpFault → Type 0
+  Writes operand of names attempt (Ok done) = (later : Heap) × (attempt ≡ Yields later) × Rewritten (id_of operand) of later names
+  Writes operand of names attempt (Err (op.Trap t)) = (attempt ≡ Fails t) × Stands of names
+  Writes operand of names attempt (Err (op.Swizzle fault)) = BreaksOff fault
 
 -- An operation that broke off failed as a reading does, whatever is known of the vault: it named the device only where that failed, and never
 -- the output, nor that the vault is full.

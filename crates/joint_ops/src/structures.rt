@@ -151,7 +151,7 @@ pub fn set_field<V: Vault>(
     ensures set { (of : meaning.Heap) (names : List Reference) (text : List ℕ) (n : ℕ) (o v : meant.Value) → IsWorld sw.old (V.outside vault.old) of names
         → DenotesIn sw.old (V.outside vault.old) names (Some class) (meant.Text text) → DenotesIn sw.old (V.outside vault.old) names object o
         → located_in (forms_of text) n ≡ Some located → IsForIn sw.old (V.outside vault.old) names to v
-        → Writes sw.old sw.new (V.outside vault.old) (V.outside vault.new) of names (meaning.with_field of o text n v) result }
+        → Writes sw.old sw.new (V.outside vault.old) (V.outside vault.new) o of names (meaning.with_field of o text n v) result }
     ensures does { SetsField sw.old sw.new (V.outside vault.old) (V.outside vault.new) object (text_at sw.old class) located to result }
     ensures fails { BreaksAsReading (V.outside vault.old) (V.outside vault.new) result }
     ensures leaves { LeavesOutside (V.outside vault.old) (V.outside vault.new) }

@@ -192,7 +192,7 @@ pub fn set_element<V: Vault>(
     ensures set { (of : meaning.Heap) (names : List Reference) (id : ℕ) (v : meant.Value) → IsWorld sw.old (V.outside vault.old) of names
         → DenotesIn sw.old (V.outside vault.old) names (Some vector) (meant.Vector id) → IsOfForm (form_in of id) to
         → IsForIn sw.old (V.outside vault.old) names to v
-        → Writes sw.old sw.new (V.outside vault.old) (V.outside vault.new) of names (meaning.with_element of (meant.Vector id) at v) result }
+        → Writes sw.old sw.new (V.outside vault.old) (V.outside vault.new) (meant.Vector id) of names (meaning.with_element of (meant.Vector id) at v) result }
     ensures does { SetsElement sw.old sw.new (V.outside vault.old) (V.outside vault.new) vector at to result }
     ensures fails { BreaksAsReading (V.outside vault.old) (V.outside vault.new) result }
     ensures leaves { LeavesOutside (V.outside vault.old) (V.outside vault.new) }

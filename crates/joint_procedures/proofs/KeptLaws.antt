@@ -255,7 +255,7 @@ module _ (mid : area.Heap) (before : Outside Space) (of : Heap) (names : List re
     pub f : Form
     pub place : form_in (forms_of s.text) which ≡ Some f
     pub of_row : IsOfRow f c
-    pub rewritten : Rewritten mid new before after of (with_object of id (Scope s.text s.parent (set s.values which (kept_as (Some f) v)))) names
+    pub rewritten : Rewritten mid new before after id of (with_object of id (Scope s.text s.parent (set s.values which (kept_as (Some f) v)))) names
 
   pub was-kept : (new : area.Heap) (after : Outside Space) (c : code.Value) (v : Value) → IsHeap new
       → ((a b : Space) → after.contents a → after.contents b → a ≡ b) → paired names (name_at mid at) id → IsInt c → IsForIn mid before names c v
@@ -383,10 +383,14 @@ module _ (old mid new : area.Heap) (start before after : Outside Space) (of : He
         r.f,
         has-name r.f r.place,
         r.of_row,
-        subst (λ (x : Heap). Rewritten old new start after of x names)
-            (sym (put-is of (scope_out of within up) s.id which s.there.text s.there.parent s.there.values r.f v (out.is ∙ s.within_is) s.there.means r.place))
-            (rewritten-then old mid new start before after of
-            (with_object of s.id (Scope s.there.text s.there.parent (set s.there.values which (kept_as (Some r.f) v)))) names out.stands r.rewritten),
+        (
+          s.id,
+          out.is ∙ s.within_is,
+          subst (λ (x : Heap). Rewritten old new start after s.id of x names)
+              (sym (put-is of (scope_out of within up) s.id which s.there.text s.there.parent s.there.values r.f v (out.is ∙ s.within_is) s.there.means r.place))
+              (rewritten-then old mid new start before after s.id of
+              (with_object of s.id (Scope s.there.text s.there.parent (set s.there.values which (kept_as (Some r.f) v)))) names out.stands r.rewritten),
+        ),
       )
   sets-kept c v (Err fault) int for g =
       let s = scope-there in

@@ -121,9 +121,10 @@ module _ (old new : area.Heap) (before after : Outside Space) where
   ReadsKept of names scope up name (Err fault) =
       (((f : Form) → HasName of scope up name f → ⊥) × IsDamage fault) ⊎ BreaksOff old new before after fault
 
-  -- It is written, as its form keeps it. It is damaged exactly where there is none of the value's row.
+  -- It is written, as its form keeps it, in the scope of this id. It is damaged exactly where there is none of the value's row.
   abbrev pub WritesKept : Heap → List reference.Reference → Option ℕ → ℕ → ℕ → code.Value → Value → Result (Unit {0}) SwizzleFault → Type 0
   WritesKept of names scope up name c v (Ok done) =
-      (f : Form) × HasName of scope up name f × IsOfRow f c × Rewritten old new before after of (with_kept_name of scope up name v) names
+      (f : Form) × HasName of scope up name f × IsOfRow f c
+      × ((id : ℕ) × (scope_out of scope up ≡ Some id) × Rewritten old new before after id of (with_kept_name of scope up name v) names)
   WritesKept of names scope up name c v (Err fault) =
       (((f : Form) → HasName of scope up name f → IsOfRow f c → ⊥) × IsDamage fault) ⊎ BreaksOff old new before after fault

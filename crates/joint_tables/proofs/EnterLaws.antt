@@ -1,6 +1,7 @@
 -- What entering a key into a table does, where area and vault stand for a heap.
 use Rattle.std.proofs.Common.{◌≡◌, ◌≢◌, ◌⊎◌, ℕ, ◌^◌, ◌<◌, List, [], ◌∷◌, length, get_or, slice_index, Option, Some, None, Result, Ok, Err, OnOk, OnErr, MatchResult, refl, sym, ap, ◌∙◌, subst, arith, inl, inr}
 use Rattle.std.proofs.Math.ListN.{length-set}
+use Rattle.ps_base.specs.declared.trap.Trap.{Trap}
 use Rattle.ps_base.specs.declared.trap.Trap.TheVariants as trap
 use Rattle.joint_ops.specs.ps_outside.Outside.{Outside}
 use Rattle.joint_ops.specs.obj_layout.Stored.{Space, Holds}
@@ -23,7 +24,8 @@ use Rattle.joint_ops.specs.ps_heap.Texts.{Attempt, Yields, Fails}
 use Rattle.joint_ops.specs.ps_heap.Tables as Tables
 use Rattle.joint_ops.specs.ps_heap.Tables.{Entry, Table, by_ints, by_strings, cardinality, entered, on_yield, with_under, without_keys}
 use Rattle.joint_ops.specs.ps_heap.Objects.{Heap, Keyed, id_of, object_at, with_object}
-use Rattle.joint_ops.specs.World.{IsWorld, DenotesIn, BreaksAsReading, Carries, Carried, seen}
+use Rattle.joint_ops.specs.World.{IsWorld, DenotesIn, BreaksAsReading, Carries, Carried, Stands, seen}
+use Rattle.joint_ops.proofs.GainLaws.{gains-stands}
 use Rattle.joint_ops.specs.proc_values.Loaded.{CodeStays}
 use Rattle.joint_ops.specs.heap_meaning.Paired.{paired}
 use Rattle.joint_ops.specs.heap_meaning.Standing.{IsKindOf, Pairing, Seen, StandsFor}
@@ -48,7 +50,7 @@ use Rattle.table_lib.specs.table_nodes.Entering.{IsEnterFault, IsNoRoom}
 use Rattle.table_lib.proofs.of_table_nodes.NodeLaws.{joint_one, single_kept}
 use Rattle.table_lib.proofs.of_table_nodes.SeenLaws as nodes_seen
 use Rattle.joint_tables.specs.Tables.{Changes, EntersKey, IsNotedTable, IsPntr, LacksNode}
-use Rattle.joint_tables.proofs.SeenLaws.{breaks-off, grown-stands, nodes-seen, seen-nodes, tree-within}
+use Rattle.joint_tables.proofs.SeenLaws.{breaks-off, grown-stands, nodes-seen, seen-nodes, stayed-gains, tree-within}
 use Rattle.joint_tables.proofs.OperandLaws.{IsTreeOf, TableOf, keyed, long-pairs, mine, through}
 use Rattle.joint_tables.proofs.PairLaws.{apart-names, enter-names, enter-pairs, without-names, without-pairs}
 use Rattle.joint_tables.proofs.ReadLaws.{key_of}
@@ -337,17 +339,18 @@ module _ (old new : area.Heap) (before after : Outside Space) (of : Heap) (names
   module _ (ks : Keys) (key : KeyOf ks) (operand : Option ℕ) (v : Value) (result : Result (Unit {0}) OpFault)
       (d : DenotesIn old before names operand v) (fails : BreaksAsReading before after result)
       (spares : (at : ℕ) → operand ≡ Some at → OnOk result (SparesBut at old new before after))
-      (still : OnErr result (nodes.Grows old new before after)) where
+      (still : OnErr result (nodes.Grows old new before after)) (stays : (t : Trap) → result ≡ Err (op.Trap t) → new ≡ old) where
     step : Option ℕ → Table → Attempt Heap
     step object t = on_yield (entered (key_of ks key) object t) (λ new. with_object of (id_of v) (Keyed new))
 
     So : Attempt Heap → Result (Unit {0}) OpFault → Type 0
     So attempt r = Changes old new before after of names operand attempt r
 
-    stood : (r : Result (Unit {0}) OpFault) (fault : OpFault) → r ≡ Err fault → OnErr r (nodes.Grows old new before after)
-        → Carried old new before after of names
-    stood r fault e g =
-        grown-stands old new before after of names (subst (λ (x : Result (Unit {0}) OpFault). OnErr x (nodes.Grows old new before after)) e g) w
+    -- it ended in a trap, and nothing was done
+    trapped : (t : Trap) → result ≡ Err (op.Trap t) → Stands old new before after of names
+    trapped t e =
+        let grows = subst (λ (x : Result (Unit {0}) OpFault). OnErr x (nodes.Grows old new before after)) e still in
+        gains-stands old new before after of names (stayed-gains old new before after h grows (stays t e)) w
 
     noted : (at : ℕ) → operand ≡ Some at → IsListed at new.assigned → IsNotedTable new operand
     noted at e l = subst (IsNotedTable new) (sym e) l
@@ -434,14 +437,14 @@ module _ (old new : area.Heap) (before after : Outside Space) (of : Heap) (names
     unfolding step So
     entered-key None Nil pntr dw enters =
         through old before of names h w ks _ _ operand v (step None) So result enters d
-        (λ t e. (refl, stood result (op.Trap t) e still))
+        (λ t e. (refl, trapped t e))
         (λ at t e f unused none x. rest-answers at t result e none (spares at e) (x at e here))
         (λ at t es x e f m. take-answers at t (items x.tree) es result e x.pairs x.nodes_are fails (spares at e) still (m here))
         (λ other es ne. wrong None other es ne)
     entered-key (Some a) (Pointer object) pntr dw enters =
         let s = subst (λ (n : Reference). StandsFor (seen old before) (paired names) n (Pointer object)) (sym dw.denotes.1) dw.stands in
         through old before of names h w ks _ _ operand v (step (Some object)) So result enters d
-        (λ t e. (refl, stood result (op.Trap t) e still))
+        (λ t e. (refl, trapped t e))
         (λ at t e f unused none x. put-answers at t without_keys [] [] (name_at old a) object result e tt none (stepped-first ks key object) s fails
         (spares at e) still (x at e here))
         (λ at t es x e f m. put-answers at t (keyed ks es) (items x.tree) es (name_at old a) object result e x.pairs x.nodes_are

@@ -1,5 +1,5 @@
 -- What is seen of area and vault is the same to tables' nodes as to the meaning; and what stands after touches.
-use Rattle.std.proofs.Common.{◌≡◌, ℕ, List, length, Option, Result, Ok, Err, OnOk, OnErr, IfErr, ◌+◌, ◌^◌, ◌≤◌, ◌<◌, arith, refl, inl, inr}
+use Rattle.std.proofs.Common.{◌≡◌, ℕ, List, length, Option, Result, Ok, Err, OnOk, OnErr, IfErr, ◌+◌, ◌^◌, ◌≤◌, ◌<◌, arith, refl, subst, inl, inr}
 use Rattle.joint_ops.specs.ps_outside.Outside.{Outside}
 use Rattle.ps_base.specs.declared.trap.Trap.{Trap}
 use Rattle.joint_ops.specs.heap_ops.Outcomes.{UnlessFault}
@@ -10,11 +10,13 @@ use Rattle.joint_ops.specs.obj_layout.declared.vault.VaultFault.TheVariants.{Dev
 use Rattle.joint_ops.specs.swizzle.declared.fault.SwizzleFault.{SwizzleFault}
 use Rattle.joint_ops.specs.swizzle.declared.fault.SwizzleFault.TheVariants.{AreaFull, Vault}
 use Rattle.joint_ops.specs.swizzle.Heap as area
+use Rattle.joint_ops.specs.swizzle.Heap.{IsHeap, IsHeld, header_at}
 use Rattle.joint_ops.specs.swizzle.Changes.{Within}
 use Rattle.joint_ops.specs.swizzle.Reading.{FailsReading, LeavesOutside}
 use Rattle.joint_ops.specs.heap_texts.declared.fault.OpFault.{OpFault}
 use Rattle.joint_ops.specs.heap_texts.declared.fault.OpFault.TheVariants as op
 use Rattle.joint_ops.specs.ps_heap.Objects.{Heap}
+use Rattle.joint_ops.specs.Seeing.{Gains}
 use Rattle.joint_ops.specs.World.{IsStored, IsWorld, Carried, BreaksOff, BreaksAsReading, seen}
 use Rattle.joint_ops.proofs.of_heap_meaning.PairedLaws.{row-within}
 use Rattle.joint_ops.proofs.SeenLaws.{grows-within, keeps-carries}
@@ -25,6 +27,7 @@ use Rattle.table_lib.specs.table_nodes.avl_trees.Standing.{Stands as TreeStands,
 use Rattle.table_lib.specs.table_nodes.node_rows.Keys.{Keys, Seen}
 use Rattle.table_lib.specs.table_nodes.node_rows.Nodes.{I, HasNode}
 use Rattle.table_lib.specs.table_nodes.Nodes as nodes
+use Rattle.table_lib.specs.table_nodes.Fetching.{Arrives}
 use Rattle.table_lib.specs.table_nodes.Faults.{IsNodeFault, IsChangeFault, unfetched, misfit}
 use Rattle.table_lib.proofs.of_table_nodes.NodeLaws.{rows_grow}
 
@@ -76,6 +79,34 @@ grown-stands old new before after of names g w = record {
   world = record { row = row-within (seen old before) (seen new after) of names (grown-within old new before after g) w.row };
   carries = keeps-carries old new before after names names g.keeps (grown-within old new before after g) (λ n id p. p);
 }
+
+-- What a reading gained, where all that is new in the area came from the vault.
+pub arrived-gains : (old new : area.Heap) (before after : Outside Space) → IsHeap old → nodes.Grows old new before after → Arrives old new before
+    → Gains old new before after
+arrived-gains old new before after h g came = record {
+  was_sound = h;
+  sound = g.heap;
+  keeps = g.keeps;
+  grows = grown-within old new before after g;
+  came = λ x held. elim (came x held) [
+    | inl was ↦ inl was
+    | inr k ↦
+        inr (inl (record {
+          stored = k.stored;
+          away = k.away;
+          words = k.words;
+          there = of_nodes before (header_at new x).pid k.words k.there;
+          shown = k.shown;
+        }))
+  ];
+  contents = g.leaves.contents;
+}
+
+-- and where the area stayed
+pub stayed-gains : (old new : area.Heap) (before after : Outside Space) → IsHeap old → nodes.Grows old new before after → new ≡ old
+    → Gains old new before after
+stayed-gains old new before after h g same =
+    arrived-gains old new before after h g (λ x held. inl (subst (λ (here : area.Heap). IsHeld here x) same held))
 
 -- an answer and a fault alike leave the area as touches do
 pub both : {T F : Type 0} (P : Type 0) (result : Result T F) → OnOk result P → OnErr result P → P

@@ -16,7 +16,7 @@ use Rattle.joint_ops.specs.ps_heap.Tables.{Key, string_key, int_key, cardinality
 use Rattle.joint_ops.specs.ps_heap.Objects.{Heap, Keyed, table_of, id_of, object_of_value, value_of_object, with_object}
 use Rattle.joint_ops.specs.ps_heap.Calls.{then_try}
 use Rattle.joint_ops.specs.ps_heap.Scans.{Found, next_key, shown_key}
-use Rattle.joint_ops.specs.World.{DenotesIn, BreaksOff, Carried}
+use Rattle.joint_ops.specs.World.{DenotesIn, Answers, BreaksOff, Carried, Stands}
 
 -- What the meaning's operators give of what a value denotes: what is under a key, how many entries there are, and the heap with an entry.
 
@@ -78,30 +78,24 @@ pub record NamesTable (here : area.Heap) (operand : Option ℕ) : Type 0 where
   pub kind : (header_at here at).kind ≡ kind.Table
 
 module _ (old new : area.Heap) (before after : Outside Space) where
-  -- A reading of a table: it gives what stands for what the meaning's yields, or ends in its trap, or broke off. Which objects came into the area isn't told.
-  abbrev pub Finds : {A T : Type 0} → (T → A → Type 0) → Heap → List Reference → Attempt A → Result T OpFault → Type 0
-  Finds is of names attempt (Ok given) = (a : _) × (attempt ≡ Yields a) × is given a × Carried old new before after of names
-  Finds is of names attempt (Err (op.Trap t)) = (attempt ≡ Fails t) × Carried old new before after of names
-  Finds is of names attempt (Err (op.Swizzle fault)) = BreaksOff old new before after fault
-
   -- The object under a key is answered, nil where there is none.
   abbrev pub LooksUp : Heap → List Reference → Value → Key → Result (Option ℕ) OpFault → Type 0
   LooksUp of names table key result =
-      Finds (λ to found. DenotesIn new after names to (value_of_object found)) of names (under_key of table key) result
+      Answers old new before after (λ to found. DenotesIn new after names to (value_of_object found)) of names (under_key of table key) result
 
   -- The least key above the last one is answered, or the least of all, with the object under it; or none.
   abbrev pub NextText : Heap → List Reference → Value → Option Key → Result (Option (ℕ × ℕ)) OpFault → Type 0
-  NextText of names table last result = Finds (AreFoundText new after names) of names (next_key true of table last) result
+  NextText of names table last result = Answers old new before after (AreFoundText new after names) of names (next_key true of table last) result
 
   abbrev pub NextInt : Heap → List Reference → Value → Option Key → Result (Option (ℤ × ℕ)) OpFault → Type 0
-  NextInt of names table last result = Finds (AreFoundInt new after names) of names (next_key false of table last) result
+  NextInt of names table last result = Answers old new before after (AreFoundInt new after names) of names (next_key false of table last) result
 
   -- An attempt to change a table: area and vault stand for the heap that it yields, and the table is noted as assigned; or it ends in its trap; or
   -- there was a fault, and nothing was written: an object couldn't be fetched, or there was no room for a node of what it yields.
   abbrev pub Changes : Heap → List Reference → Option ℕ → Attempt Heap → Result (Unit {0}) OpFault → Type 0
   Changes of names operand attempt (Ok done) =
       (later : Heap) × (attempt ≡ Yields later) × Carried old new before after later names × IsNotedTable new operand
-  Changes of names operand attempt (Err (op.Trap t)) = (attempt ≡ Fails t) × Carried old new before after of names
+  Changes of names operand attempt (Err (op.Trap t)) = (attempt ≡ Fails t) × Stands old new before after of names
   Changes of names operand attempt (Err (op.Swizzle fault)) =
       Carried old new before after of names × (BreaksOff old new before after fault ⊎ (LacksNode old fault × ((later : Heap) × (attempt ≡ Yields later))))
 

@@ -320,7 +320,7 @@ module _ (before after : Outside Space) (up name : ℕ) (m : Machine) where
             record c { store = store },
             row-formed to w.0 c w.2 w.1 (name_put up name v c),
             refl,
-            record { names = ns; held = held-more m.objects now before after ns ns (words_of m) c store w.3.carries h w.3.world refl refl },
+            record { names = ns; held = held-more m.objects now before after ns ns (words_of m) c store w.3.2.carries h w.3.2.world refl refl },
           );
     }
 

@@ -18,7 +18,7 @@ use Rattle.ps_stepping.specs.ps_meaning.Meaning.{Store}
 use Rattle.ps_stepping.specs.Config.{Config}
 use Rattle.ps_stepping.specs.Steps.{Step, Goes, Stuck}
 use Rattle.ps_stepping.specs.Objects.{having}
-use Rattle.joint_ops.specs.World.{IsWorld, Carries, Carried, Stands, BreaksOff}
+use Rattle.joint_ops.specs.World.{IsWorld, Carries, Stands, BreaksOff}
 use Rattle.joint_ops.specs.Made.{IsShort}
 use Rattle.machine_core.specs.declared.machine.Machine.{Machine}
 use Rattle.machine_core.specs.declared.stepped.Stepped.{Stepped}
@@ -65,17 +65,7 @@ module _ (here now : area.Heap) (before after : Outside Space) where
     world = world;
   }
 
-  -- after an operation that carries what was denoted, the words stand for the same configuration
-  pub carried-holds : (names : List Reference) (w : Words) (c : Config) → Held here before names w c → Carried here now before after c.store.held.objects names
-      → Held now after names w c
-  carried-holds names w c h s = held-more names names w c c.store s.carries h s.world refl refl
-
-  -- and where objects are touched then
-  pub touched-carried : (names : List Reference) (w : Words) (c : Config) (ids : List ℕ) → Held here before names w c
-      → Carried here now before after c.store.held.objects names → Held now after names w (having (touching ids) c)
-  touched-carried names w c ids h s = touched-held now after names w c ids (carried-holds names w c h s)
-
-  -- so after one that read
+  -- after an operation that read, the words stand for the same configuration
   pub read-holds : (names : List Reference) (w : Words) (c : Config) → Held here before names w c → Stands here now before after c.store.held.objects names
       → Held now after names w c
   read-holds names w c h s = held-more names names w c c.store s.carries h s.world refl refl

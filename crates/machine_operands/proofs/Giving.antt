@@ -30,7 +30,6 @@ use Rattle.machine_core.specs.ps_stepping.Config.{Config, frame_words, frame_in}
 use Rattle.machine_core.specs.ps_stepping.Steps.{Step, Goes, Stuck, on, attempted, push_num, push_ref}
 use Rattle.machine_core.specs.ps_stepping.Objects.{make_text, make, having, changed, when_number, when_reference}
 use Rattle.machine_core.specs.joint_ops.World.{Answers, Writes, IsForIn, IsOfForm, Stands}
-use Rattle.machine_core.specs.objects.joint_tables.Tables.{Finds}
 use Rattle.machine_core.specs.joint_ops.Made.{IsShort, Makes, MakesText}
 use Rattle.machine_core.specs.objects.Classes.{MakesLater}
 use Rattle.machine_core.specs.declared.machine.Machine.{Machine}
@@ -41,17 +40,10 @@ use Rattle.machine_core.specs.Full.{BreaksBy}
 use Rattle.machine_core.specs.Holding.{HeldBy, HeldIn, IsSound, words_of}
 use Rattle.machine_core.specs.Stepped.{Does, Takes}
 use Rattle.machine_core.specs.inside.Taking.{TakesRef}
-use Rattle.machine_core.proofs.Carrying.{held-more, read-holds, touched-carried, touched-holds, short-full, does-behind, size-behind}
+use Rattle.machine_core.proofs.Carrying.{held-more, read-holds, touched-holds, short-full, does-behind, size-behind}
 use Rattle.machine_core.proofs.Popping.{refs_taken}
 use Rattle.machine_operands.specs.Giving.{failed_of, failed_in, broken_of, broken_in, IsNaming, structures, vectors, EndsSoundly, GivesText, GivesObject, GivesStructure, GivesNumber, GivesReference, GivesBound, GivesFlag, Changes}
 use Rattle.machine_operands.proofs.Breaking.{does-same, damaged-goes, failed-making, failed-soundly, broken-soundly, trap-does, off-does, failed-code, broken-code}
-
--- What answers as a reading of objects answers as a reading of tables, of which less is told.
-pub answers-find : {A T : Type 0} (is : T → A → Type 0) (old new : area.Heap) (before after : Outside Space) (of : Heap) (names : List Reference) (attempt : Attempt A)
-    (got : Result T OpFault) → Answers old new before after is of names attempt got → Finds old new before after is of names attempt got
-answers-find is old new before after of names attempt (Ok given) (a, yields, gives, s) = (a, yields, gives, record { world = s.world; carries = s.carries })
-answers-find is old new before after of names attempt (Err (op.Trap t)) (fails, s) = (fails, record { world = s.world; carries = s.carries })
-answers-find is old new before after of names attempt (Err (op.Swizzle fault)) off = off
 
 -- Where the stack of references is full, nothing is pushed.
 pub full-stuck : (m : Machine) (outside : Outside Space) (c : Config) (names : List Reference) (v : Value) (store : Store) → HeldBy outside names m c
@@ -312,7 +304,7 @@ module _ (before after : Outside Space) (m new : Machine) (r : Stepped) where
         breaks = goes;
       };
       does = λ here names c f attempt left h got.
-          let now = touched-carried here m.objects before after names (words_of m) c (denoted got.0) h got.3 in
+          let now = touched-holds here m.objects before after names (words_of m) c (denoted got.0) h got.3 in
           does-behind before after after here.size m.objects.size (attempted line attempt (λ w. when_reference (Some f) (push_ref w (having (reading w) c)))) r new left got.3.carries.size
           (subst (λ (s : Step). Does after after m.objects.size s r new)
           (sym (ap (λ (a : Attempt Value). attempted line a (λ w. when_reference (Some f) (push_ref w (having (reading w) c)))) got.1 ∙ referred f to got.2.0 (push_ref got.0 (having (reading got.0) c))))
@@ -348,12 +340,12 @@ module _ (before after : Outside Space) (m new : Machine) (r : Stepped) where
         → Changes before after m new r line (Err fault)
     change-failed (op.Trap t) sound answer left = record {
       ends = failed-soundly m new r (λ unit. Unit {0}) line (op.Trap t) sound answer left;
-      does = λ here names c place attempt h did. trap-does m new r before after line here.size t attempt (λ heap. changed place heap c) answer left did.0;
+      does = λ here names c place operand attempt same h did. trap-does m new r before after line here.size t attempt (λ heap. changed place heap c) answer left did.0;
       damaged = λ here at s stuck by. absurd by;
     }
     change-failed (op.Swizzle fault) sound answer left = record {
       ends = failed-soundly m new r (λ unit. Unit {0}) line (op.Swizzle fault) sound answer left;
-      does = λ here names c place attempt h did. off-does m new r before after here (attempted line attempt (λ heap. changed place heap c)) fault answer left did;
+      does = λ here names c place operand attempt same h did. off-does m new r before after here (attempted line attempt (λ heap. changed place heap c)) fault answer left did;
       damaged = failed-code m new r before after (Unit {0}) line (op.Swizzle fault) answer left;
     }
 
@@ -395,7 +387,7 @@ module _ (before after : Outside Space) (m : Machine) (line : Line) (sound : IsS
   pub change-done : (unit : Unit {0}) → Changes before after m m Quiet line (Ok unit)
   change-done unit = record {
     ends = record { sound = sound; names = λ n held. n; size = λ k is. is; breaks = quiet-goes };
-    does = λ here names c place attempt h did.
+    does = λ here names c place operand attempt same h did.
         let stands = did.2 in
         let store = on_held (assigning place did.0 c.store.held) c.store in
         let now = held-more here m.objects before after names names (words_of m) c store stands.carries h stands.world refl refl in

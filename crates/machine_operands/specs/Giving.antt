@@ -18,13 +18,12 @@ use Rattle.machine_core.specs.proc_values.Reading.{IsDamaged}
 use Rattle.ps_base.specs.declared.line.Line.{Line}
 use Rattle.machine_core.specs.ps_heap.Values.{Value, Pointer, Vector, word_of, number_of}
 use Rattle.machine_core.specs.ps_heap.Texts.{Attempt, Yields}
-use Rattle.machine_core.specs.ps_heap.Held.{Place, reading}
-use Rattle.machine_core.specs.ps_heap.Objects.{Heap, Object}
+use Rattle.machine_core.specs.ps_heap.Held.{Place, object_of, reading}
+use Rattle.machine_core.specs.ps_heap.Objects.{Heap, Object, id_of}
 use Rattle.machine_core.specs.ps_stepping.Config.{Config}
 use Rattle.machine_core.specs.ps_stepping.Steps.{Step, Stuck, attempted, push_num, push_ref}
 use Rattle.machine_core.specs.ps_stepping.Objects.{make, make_text, having, changed, when_number, when_reference}
 use Rattle.machine_core.specs.joint_ops.World.{Answers, Writes, BreaksOff, IsForIn, IsOfForm}
-use Rattle.machine_core.specs.objects.joint_tables.Tables.{Finds}
 use Rattle.machine_core.specs.joint_ops.Made.{Makes, MakesText}
 use Rattle.machine_core.specs.objects.Classes.{BreaksByCode, MakesLater}
 use Rattle.machine_core.specs.declared.machine.Machine.{Machine}
@@ -142,14 +141,15 @@ module _ (before after : Outside Space) (old new : Machine) (answer : Stepped) w
       pub ends : EndsSoundly got (IsNear old.objects) old new answer
       pub does : (here : area.Heap) (names : List Reference) (c : Config) (form : Form) (attempt : Attempt Value) → LeavesOutside before after
           → HeldIn here before names old c
-          → Finds here old.objects before after (λ k v. IsOfForm form k × IsForIn old.objects after names k v) c.store.held.objects names attempt got
+          → Answers here old.objects before after (λ k v. IsOfForm form k × IsForIn old.objects after names k v) c.store.held.objects names attempt got
           → Does before after here.size (attempted line attempt (λ w. when_reference (Some form) (push_ref w (having (reading w) c)))) answer new
       pub damaged : DoesByCode got
 
     pub record Changes (done : Result (Unit {0}) OpFault) : Type 0 where
       pub ends : EndsSoundly done (λ unit. Unit {0}) old new answer
-      pub does : (here : area.Heap) (names : List Reference) (c : Config) (place : Place) (attempt : Attempt Heap) → HeldIn here before names old c
-          → Writes here old.objects before after c.store.held.objects names attempt done
+      pub does : (here : area.Heap) (names : List Reference) (c : Config) (place : Place) (operand : Value) (attempt : Attempt Heap)
+          → object_of place ≡ id_of operand → HeldIn here before names old c
+          → Writes here old.objects before after operand c.store.held.objects names attempt done
           → Does before after here.size (attempted line attempt (λ heap. changed place heap c)) answer new
       pub damaged : DoesByCode done
 

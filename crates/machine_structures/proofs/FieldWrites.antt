@@ -76,7 +76,7 @@ module _ (field : Field) (to : code.Value) (line : Line) where
     Set set = (of : Heap) (names : List Reference) (class : List ℕ) (l : Located) (o v : Value) → IsWorld mid.objects before of names
         → NamesClass mid.objects before field.code field.constant class → located_in (forms_of class) field.number ≡ Some l → IsOfRow l.place.form to
         → DenotesIn mid.objects before names object o → IsForIn mid.objects before names to v
-        → Writes mid.objects now before after of names (with_field of o class field.number (kept_as (Some l.place.form) v)) set
+        → Writes mid.objects now before after o of names (with_field of o class field.number (kept_as (Some l.place.form) v)) set
 
     abbrev pub Lacked : Result (Unit {0}) OpFault → Type 0
     Lacked set = LacksPlace mid.objects before field.code field.constant field.number to → BreaksByCode mid.objects now before after field.code set
@@ -101,7 +101,7 @@ module _ (field : Field) (to : code.Value) (line : Line) where
       step = pop_object c (puts class w)
 
       written : (set : Result (Unit {0}) OpFault) → Set set
-          → Writes mid.objects now before after (pops.gives names c h).0.store.held.objects names
+          → Writes mid.objects now before after (pops.gives names c h).1 (pops.gives names c h).0.store.held.objects names
           (with_field (pops.gives names c h).0.store.held.objects (pops.gives names c h).1 class field.number w) set
       written set clause =
           let p = pops.gives names c h in

@@ -27,7 +27,7 @@ use Rattle.machine_core.specs.ps_stepping.Config.{Config}
 use Rattle.machine_core.specs.ps_stepping.Steps.{Goes, attempted, push_num, push_ref}
 use Rattle.machine_core.specs.ps_stepping.Objects.{having, when_reference}
 use Rattle.machine_core.specs.ps_stepping.Library.{gives_nothing, gives_num}
-use Rattle.machine_core.specs.joint_ops.World.{BreaksOff, DenotesIn, IsForIn, IsOfForm, IsWorld}
+use Rattle.machine_core.specs.joint_ops.World.{BreaksOff, DenotesIn, IsForIn, IsOfForm, IsWorld, Answers}
 use Rattle.machine_core.specs.declared.machine.Machine.{Machine}
 use Rattle.machine_core.specs.declared.stepped.Stepped.{Stepped}
 use Rattle.machine_core.specs.declared.stepped.Stepped.TheVariants.{Quiet, Breaks}
@@ -37,7 +37,7 @@ use Rattle.machine_core.specs.Stepped.{Does, Takes, UnlessBroken}
 use Rattle.machine_core.proofs.Carrying.{held-more, node-full, unless-broken}
 use Rattle.machine_operands.specs.Giving.{EndsSoundly, GivesReference, failed_in, failed_of}
 use Rattle.machine_operands.proofs.Breaking.{failed-soundly, off-does, trap-does}
-use Rattle.joint_tables.specs.Tables.{Finds, LacksNode, with_entry}
+use Rattle.joint_tables.specs.Tables.{LacksNode, with_entry}
 use Rattle.machine_tables.specs.inside.Ends.{EndsEnter, GivesCount, GivesFound, as_reference, count_pushed, found_given, pair_entered}
 use Rattle.machine_tables.proofs.Calls.{alike-fails, alike-yields, enters-alike}
 use Rattle.machine_tables.proofs.Parts.{does-as}
@@ -55,8 +55,8 @@ on-found line c (Fails trap) = refl
 
 module _ (before after : Outside Space) (m new : Machine) (r : Stepped) (line : Line) where
   as-read : (got : Result (Option ℕ) OpFault) (here : area.Heap) (of : Heap) (names : List Reference) (attempt : Attempt (Option ℕ))
-      → Finds here m.objects before after (λ to found. DenotesIn m.objects after names to (value_of_object found)) of names attempt got
-      → Finds here m.objects before after (λ k v. IsOfForm form.Reference k × IsForIn m.objects after names k v) of names (on_yield attempt value_of_object)
+      → Answers here m.objects before after (λ to found. DenotesIn m.objects after names to (value_of_object found)) of names attempt got
+      → Answers here m.objects before after (λ k v. IsOfForm form.Reference k × IsForIn m.objects after names k v) of names (on_yield attempt value_of_object)
       (as_reference got)
   as-read (Ok to) here of names attempt (found, is, denotes, stands) =
       (value_of_object found, ap (λ (a : Attempt (Option ℕ)). on_yield a value_of_object) is, (tt, denotes), stands)

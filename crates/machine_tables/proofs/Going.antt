@@ -28,7 +28,7 @@ use Rattle.machine_core.specs.ps_stepping.Steps.{Step, Stops, Stuck, attempted, 
 use Rattle.machine_core.specs.ps_stepping.Objects.{having}
 use Rattle.machine_core.specs.ps_stepping.Jumps.{back, forward}
 use Rattle.machine_core.specs.ps_stepping.Scans.{last_of, one_more, scan_on, touched_now}
-use Rattle.machine_core.specs.joint_ops.World.{Carried, DenotesIn, IsWorld}
+use Rattle.machine_core.specs.joint_ops.World.{DenotesIn, IsWorld, Stands, Answers}
 use Rattle.machine_core.specs.declared.machine.Machine.{Machine}
 use Rattle.machine_core.specs.declared.run_end.RunEnd.TheVariants as in_code
 use Rattle.machine_core.specs.declared.stepped.Stepped.{Stepped}
@@ -38,11 +38,11 @@ use Rattle.machine_core.specs.Naming.{NamesObjects}
 use Rattle.machine_core.specs.Stepped.{Does, Takes, UnlessBroken, end_of, ended}
 use Rattle.machine_core.specs.inside.Taking.{Becomes, Leaves}
 use Rattle.machine_core.proofs.Popping.{num_slot}
-use Rattle.machine_core.proofs.Carrying.{does-behind, carried-holds, touched-held}
+use Rattle.machine_core.proofs.Carrying.{does-behind, read-holds, touched-held}
 use Rattle.machine_operands.specs.Giving.{BreaksWith}
 use Rattle.machine_operands.proofs.Breaking.{trap-does}
 use Rattle.machine_operands.proofs.Reading.{names-kept}
-use Rattle.joint_tables.specs.Tables.{AreFoundInt, AreFoundText, Finds, IsLastText, last_int_key}
+use Rattle.joint_tables.specs.Tables.{AreFoundInt, AreFoundText, IsLastText, last_int_key}
 use Rattle.machine_tables.specs.declared.scan.Scan.{Scan}
 use Rattle.machine_tables.specs.inside.Operands.{Follows, IsTable}
 use Rattle.machine_tables.specs.inside.Scanning.{AreTableAndInt, AreTableAndText, ReadsTable, IsFoundInt, IsFoundText, after_empty, call_counted, goes_after, goes_after_key, goes_on_with, hands_over}
@@ -65,7 +65,7 @@ module _ (strings : Bool) (scan : Scan) (before after : Outside Space) (m new : 
 
   abbrev pub Next : Result T OpFault → Type 0
   Next got = (heap : Heap) (names : List Reference) (a : A) → IsWorld m.objects before heap names → denotes names a
-      → Finds m.objects now before after (are names) heap names (next_key strings heap (table a) (key a)) got
+      → Answers m.objects now before after (are names) heap names (next_key strings heap (table a) (key a)) got
 
   same-size : (P : ℕ → Type 0) → P now.size → P m.objects.size
   same-size P p = subst P keeps.size p
@@ -81,7 +81,7 @@ module _ (strings : Bool) (scan : Scan) (before after : Outside Space) (m new : 
         does-behind before after after m.objects.size now.size (of a c) r new left keeps.size
         (does-as after after now.size (of a c) (goes_on_with strings scan got.0 c) r new
         (ap (λ (x : Attempt (Option Found)). attempted scan.line x (λ f. goes_on_with strings scan f c)) got.1)
-        (f.does names c got.0 (carried-holds m.objects now before after names (words_of m) c h got.3) got.2));
+        (f.does names c got.0 (read-holds m.objects now before after names (words_of m) c h got.3) got.2));
   }
 
   pub scan-trapped : (t : Trap) → Next (Err (op.Trap t)) → IsSound new → r ≡ Halts → new ≡ ended (in_code.Trapped t scan.line) over
@@ -241,7 +241,7 @@ module _ (scan : Scan) (out : Outside Space) (m new : Machine) (r : Stepped) whe
 -- What is above the empty string, by what is the least of all.
 module _ (before after : Outside Space) (m : Machine) (now : area.Heap) (heap : Heap) (names : List Reference) (v : Value) where
   abbrev Said : Option Key → Result (Option (ℕ × ℕ)) OpFault → Type 0
-  Said key got = Finds m.objects now before after (AreFoundText now after names) heap names (next_key true heap v key) got
+  Said key got = Answers m.objects now before after (AreFoundText now after names) heap names (next_key true heap v key) got
 
   -- there is no string
   pub above-none : Said None (Ok None) → Said (Some (string_key [])) (Ok None)
@@ -268,13 +268,13 @@ module _ (before after : Outside Space) (m : Machine) (now : area.Heap) (heap : 
 
 abbrev IsTold : area.Heap → area.Heap → Outside Space → Outside Space → ℕ → ℕ → List Reference → Config → Value → Type 0
 IsTold here now before mid key object names c v =
-    Finds here now before mid (AreFoundText now mid names) c.store.held.objects names (next_key true c.store.held.objects v None) (Ok (Some (key, object)))
+    Answers here now before mid (AreFoundText now mid names) c.store.held.objects names (next_key true c.store.held.objects v None) (Ok (Some (key, object)))
 
 -- The least string is the empty one: what is above it is looked for.
 pub empty-follows : (scan : Scan) (before mid after : Outside Space) (m new : Machine) (now : area.Heap) (r : Stepped) (table : Option ℕ) (key object : ℕ)
     → LeavesOutside before mid → Keeps m.objects now
     → ((heap : Heap) (names : List Reference) (v : Value) → IsWorld m.objects before heap names → DenotesIn m.objects before names table v
-    → Finds m.objects now before mid (AreFoundText now mid names) heap names (next_key true heap v None) (Ok (Some (key, object))))
+    → Answers m.objects now before mid (AreFoundText now mid names) heap names (next_key true heap v None) (Ok (Some (key, object))))
     → ((names : List Reference) (bytes : List ℕ) → DenotesIn now mid names (Some key) (Text bytes) → bytes ≡ [])
     → Follows mid after (AreTableAndText now mid table (Some key)) (goes_after_key true scan) (record m { objects = now }) new r
     → Follows before after (IsTable m.objects before table) (after_empty scan) m new r
@@ -286,11 +286,11 @@ empty-follows scan before mid after m new now r table key object left keeps told
       let t = told c.store.held.objects names v h.world d.table_is in
       does-behind before mid after m.objects.size now.size (after_empty scan v c) r new left keeps.size
       (f.does names c (record { table = v; key = Some (string_key []) })
-      (carried-holds m.objects now before mid names (words_of m) c h (stands names c v t))
+      (read-holds m.objects now before mid names (words_of m) c h (stands names c v t))
       (record { table_is = (stands names c v t).carries.values table v d.table_is; key_is = key-is names c v t }));
 }
   where
-    stands : (names : List Reference) (c : Config) (v : Value) → IsTold m.objects now before mid key object names c v → Carried m.objects now before mid c.store.held.objects names
+    stands : (names : List Reference) (c : Config) (v : Value) → IsTold m.objects now before mid key object names c v → Stands m.objects now before mid c.store.held.objects names
     stands names c v (found, is, are, s) = s
 
     key-is : (names : List Reference) (c : Config) (v : Value) → IsTold m.objects now before mid key object names c v → DenotesIn now mid names (Some key) (Text [])

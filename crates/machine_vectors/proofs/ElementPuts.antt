@@ -99,7 +99,7 @@ module _ (before after : Outside Space) (m new : Machine) (now : area.Heap) (r :
       → ((of : Heap) (names : List Reference) (id : ℕ) (v : Value) (stored : code.Value) → IsWorld m.objects before of names
       → DenotesIn m.objects before names (Some vector) (Vector id) → is_int z ≡ true → fitted (form_in of id) (held.Num z) ≡ Some stored
       → IsForIn m.objects before names (held.Num z) v
-      → Writes m.objects now before after of names (with_element of (Vector id) at (kept_as (Some (form_in of id)) v)) set)
+      → Writes m.objects now before after (Vector id) of names (with_element of (Vector id) at (kept_as (Some (form_in of id)) v)) set)
       → TakesVector before after OfNumbers (number_put line at z) vector m new r
   number-written z int kept = record {
     sound = g.ends.sound;
@@ -114,15 +114,15 @@ module _ (before after : Outside Space) (m new : Machine) (now : area.Heap) (r :
         does-as before after m.objects.size (number_put line at z ty (Vector id) c) (attempted line attempt (λ heap. changed (element_place c.store.held.objects (Vector id) at) heap c)) r new
         (attempted-then line attempt (λ heap. when_number (Some (element_of ty)) (changed (element_place c.store.held.objects (Vector id) at) heap c)) (λ heap. changed (element_place c.store.held.objects (Vector id) at) heap c)
         (λ later. number-row (element_of ty) row (changed (element_place c.store.held.objects (Vector id) at) later c)))
-        (g.does m.objects names c (element_place c.store.held.objects (Vector id) at) attempt h
-        (subst (λ (f : Form). Writes m.objects now before after heap names (with_element heap (Vector id) at (kept_as (Some f) (Num z))) set) same wrote));
+        (g.does m.objects names c (element_place c.store.held.objects (Vector id) at) (Vector id) attempt refl h
+        (subst (λ (f : Form). Writes m.objects now before after (Vector id) heap names (with_element heap (Vector id) at (kept_as (Some f) (Num z))) set) same wrote));
   }
 
   pub reference-written : (to : Option ℕ)
       → ((of : Heap) (names : List Reference) (id : ℕ) (v : Value) → IsWorld m.objects before of names
       → DenotesIn m.objects before names (Some vector) (Vector id) → IsOfForm (form_in of id) (held.Ref to)
       → IsForIn m.objects before names (held.Ref to) v
-      → Writes m.objects now before after of names (with_element of (Vector id) at v) set)
+      → Writes m.objects now before after (Vector id) of names (with_element of (Vector id) at v) set)
       → PutsReference before after OfReferences line at to vector m new r
   reference-written to put = record {
     sound = g.ends.sound;
@@ -135,7 +135,7 @@ module _ (before after : Outside Space) (m new : Machine) (now : area.Heap) (r :
         does-as before after m.objects.size (reference_put line at w ty (Vector id) c) (attempted line attempt (λ heap. changed (element_place c.store.held.objects (Vector id) at) heap c)) r new
         (attempted-then line attempt (λ heap. when_reference (Some (element_of ty)) (changed (element_place c.store.held.objects (Vector id) at) heap c)) (λ heap. changed (element_place c.store.held.objects (Vector id) at) heap c)
         (λ later. reference-row (element_of ty) row (changed (element_place c.store.held.objects (Vector id) at) later c)))
-        (g.does m.objects names c (element_place c.store.held.objects (Vector id) at) attempt h
+        (g.does m.objects names c (element_place c.store.held.objects (Vector id) at) (Vector id) attempt refl h
         (put heap names id w h.world d (reference-fits (form_in heap id) to (ap is_number_form same ∙ row)) denotes));
   }
 

@@ -36,7 +36,6 @@ use Rattle.machine_core.specs.inside.Taking.{Leaves}
 use Rattle.machine_core.proofs.Carrying.{touched-held}
 use Rattle.machine_operands.specs.Popping.{PopsVector, anything}
 use Rattle.machine_operands.specs.Giving.{GivesBound, GivesNumber, GivesReference}
-use Rattle.machine_operands.proofs.Giving.{answers-find}
 use Rattle.machine_vectors.specs.inside.Elements.{TakesVector, number_read, reference_read}
 use Rattle.machine_vectors.proofs.Parts.{parts-taken, parts-stuck, does-as, whatever, names-after, size-after}
 
@@ -151,8 +150,7 @@ module _ (before after : Outside Space) (m new : Machine) (now : area.Heap) (r :
     size = g.ends.size m.objects.size (size-after m now got keeps);
     does = λ names c id ty h d typed such.
         g.does m.objects names c (element_of ty) (element_at c.store.held.objects (Vector id) at) left h
-        (answers-find (λ k v. IsOfForm (element_of ty) k × IsForIn now after names k v) m.objects now before after c.store.held.objects names
-        (element_at c.store.held.objects (Vector id) at) got (typed-got found names c id ty h d typed));
+        (typed-got found names c id ty h d typed);
   }
 
 -- A bound that was read.

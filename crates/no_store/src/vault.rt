@@ -1,6 +1,6 @@
 ghost use Rattle.std.specs.Prelude.{◌≡◌, true, false};
 ghost use Rattle.obj_layout.specs.declared.vault.VaultFault.TheVariants.{Damaged};
-ghost use Rattle.no_store.specs.NoObjects.{outside_of, HoldsNothing};
+ghost use Rattle.no_store.specs.NoObjects.{outside_of, word_0, HoldsNothing};
 
 use obj_layout::vault::{Vault, VaultFault};
 use ps_port::Host;
@@ -41,6 +41,11 @@ impl<H: Host> NoStore<H> {
         ensures { HoldsNothing (outside_of (H.outside self.now.host)) }
     {}
 
+    /// A law: what a read gives is word 0 alone.
+    pub fn holds_word_0(&self)
+        ensures { (outside_of (H.outside self.now.host)).contents word_0 }
+    {}
+
     // A PID at which there is no object: there is but word 0.
     fn refuse(&mut self, pid: u64) -> VaultFault
         ensures host { self.new.host ≡ self.old.host }
@@ -57,8 +62,9 @@ impl<H: Host> NoStore<H> {
 }
 
 impl<H: Host> Vault for NoStore<H> {
-    ghost use Rattle.std.proofs.Common.{arith};
+    ghost use Rattle.std.proofs.Common.{◌∙◌, arith, refl, sym, subst};
     ghost use Rattle.no_store.specs.NoObjects.{outside_of};
+    ghost use Rattle.obj_layout.specs.Stored.{IsSpace};
     ghost use Rattle.obj_layout.specs.Storing.{unshared};
 
     ghost outside = { λ vault. outside_of (H.outside vault.host) };
@@ -131,9 +137,17 @@ impl<H: Host> Vault for NoStore<H> {
         self.alive
     }
 
-    ghost space = { λ vault space is. absurd is };
+    ghost space = { λ vault space is. subst (IsSpace 1 0) (sym is) (record {
+      wide = (omega arith, tt);
+      long = refl;
+      some = omega arith;
+      small = omega arith;
+      named = refl;
+      below = omega arith;
+      unfiled = refl;
+    }) };
 
-    ghost one = { λ vault a b is other. absurd is };
+    ghost one = { λ vault a b is other. is ∙ sym other };
 
     ghost bounds = { λ vault. (omega arith, omega arith, omega arith) };
 }

@@ -36,6 +36,7 @@ fn fetch(vault: &mut NoStore<MemoryHost>, pid: u64, into: &mut [u64]) -> Result<
 #[test]
 fn begins_with_no_object(rt: HostRuntime) -> Result<(), Fail> {
     let vault = store(rt.alloc())?;
+    vault.holds_word_0();
     assert_eq!(rt; vault.used(), 1);
     assert_eq!(rt; vault.capacity(), 0);
     assert_eq!(rt; vault.directory(), 0);

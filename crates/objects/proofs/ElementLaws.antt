@@ -231,7 +231,7 @@ abbrev pub Sets : Heap → Heap → Outside Space → Outside Space → ℕ → 
 Sets old new before after vector z to result =
     (of : meaning.Heap) (names : List Reference) (id : ℕ) (v : meant.Value) → IsWorld old before of names
     → DenotesIn old before names (Some vector) (meant.Vector id) → IsOfForm (form_in of id) to → IsForIn old before names to v
-    → Writes old new before after of names (meaning.with_element of (meant.Vector id) z v) result
+    → Writes old new before after (meant.Vector id) of names (meaning.with_element of (meant.Vector id) z v) result
 
 pub element-set : (here new : Heap) (outside : Outside Space) (vector : ℕ) (z y : ℤ) (to : Value) → IsHeap here → IsHeap new
     → ((a b : Space) → outside.contents a → outside.contents b → a ≡ b) → y ≡ z → SetsElement here new outside outside vector y to (Ok tt)

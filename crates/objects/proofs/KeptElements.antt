@@ -152,7 +152,7 @@ module _ (old new : area.Heap) (before after : Outside Space) (of : Heap) (names
   pub writes-kept : (at id : ℕ) (z y : ℤ) (c s : code.Value) (e : Value) (r : Result (Unit {0}) OpFault) → y ≡ z
       → VectorAt old before of names at id → IsInt c → fitted (form_in of id) c ≡ Some s → IsForIn old before names c e
       → SetsElement old new before after at y c r
-      → Writes old new before after of names (with_element of (Vector id) z (kept_as (Some (form_in of id)) e)) r
+      → Writes old new before after (Vector id) of names (with_element of (Vector id) z (kept_as (Some (form_in of id)) e)) r
   writes-kept at id z y c s e r q v int fits for g =
       writes-element old new before after of names h now w was_one is_one at id z y s (kept_as (Some (form_in of id)) e) r q v
       (kept-form (form_in of id) c s int fits) (kept-for old before names (form_in of id) c s e fits for) (sets-kept at id y c s r v fits g)
@@ -162,7 +162,7 @@ abbrev pub SetsKept : area.Heap → area.Heap → Outside Space → Outside Spac
 SetsKept old new before after vector z to result =
     (of : Heap) (names : List Reference) (id : ℕ) (v : Value) (stored : code.Value) → IsWorld old before of names
     → DenotesIn old before names (Some vector) (Vector id) → IsInt to → fitted (form_in of id) to ≡ Some stored → IsForIn old before names to v
-    → Writes old new before after of names (with_element of (Vector id) z (kept_as (Some (form_in of id)) v)) result
+    → Writes old new before after (Vector id) of names (with_element of (Vector id) z (kept_as (Some (form_in of id)) v)) result
 
 pub set-kept : (old new : area.Heap) (before after : Outside Space) (vector : ℕ) (z y : ℤ) (to : code.Value) (r : Result (Unit {0}) OpFault) → IsHeap old
     → IsHeap new → ((a b : Space) → before.contents a → before.contents b → a ≡ b) → ((a b : Space) → after.contents a → after.contents b → a ≡ b)

@@ -24,7 +24,7 @@ use Rattle.joint_ops.specs.heap_ops.Outcomes.{UnlessFault}
 use Rattle.joint_ops.specs.proc_values.Loaded.{constant_numbered}
 use Rattle.joint_ops.specs.ps_heap.Texts.{Attempt}
 use Rattle.joint_ops.specs.heap_places.declared.value.Value as held
-use Rattle.joint_ops.specs.ps_heap.Objects.{Heap, field_of, with_field, kept_as}
+use Rattle.joint_ops.specs.ps_heap.Objects.{Heap, field_of, id_of, with_field, kept_as}
 use Rattle.joint_ops.specs.ps_heap.Values.{Value, Text}
 use Rattle.joint_ops.specs.World.{IsWorld, DenotesIn, IsForIn, IsOfForm, IsUnitIn, Stands, Answers, Writes, BreaksOff, BreaksAsReading}
 use Rattle.joint_ops.specs.Code.{StandsBy}
@@ -45,11 +45,11 @@ module _ (old mid new : area.Heap) (start before after : Outside Space) (of : He
   answers-later is attempt (Err (op.Trap t)) a = (a.0, stands-then old mid new start before after of of names s (a.1))
   answers-later is attempt (Err (op.Swizzle fault)) a = breaks-earlier old mid new start before after fault h keeps leaves a
 
-  pub writes-later : (attempt : Attempt Heap) (result : Result (Unit {0}) OpFault) → Writes mid new before after of names attempt result
-      → Writes old new start after of names attempt result
-  writes-later attempt (Ok done) a = (a.0, a.1, rewritten-then old mid new start before after of (a.0) names s (a.2))
-  writes-later attempt (Err (op.Trap t)) a = (a.0, stands-then old mid new start before after of of names s (a.1))
-  writes-later attempt (Err (op.Swizzle fault)) a = breaks-earlier old mid new start before after fault h keeps leaves a
+  pub writes-later : (operand : Value) (attempt : Attempt Heap) (result : Result (Unit {0}) OpFault) → Writes mid new before after operand of names attempt result
+      → Writes old new start after operand of names attempt result
+  writes-later operand attempt (Ok done) a = (a.0, a.1, rewritten-then old mid new start before after (id_of operand) of (a.0) names s (a.2))
+  writes-later operand attempt (Err (op.Trap t)) a = (a.0, stands-then old mid new start before after of of names s (a.1))
+  writes-later operand attempt (Err (op.Swizzle fault)) a = breaks-earlier old mid new start before after fault h keeps leaves a
 
 -- The same whatever the vault.
 
@@ -81,7 +81,7 @@ SetsAll old new before after code constant field object to result =
     (of : Heap) (names : List Reference) (class : List ℕ) (l : Located) (o v : Value) → IsWorld old before of names
     → NamesClass old before code constant class → located_in (forms_of class) field ≡ Some l → IsOfRow l.place.form to
     → DenotesIn old before names object o → IsForIn old before names to v
-    → Writes old new before after of names (with_field of o class field (kept_as (Some l.place.form) v)) result
+    → Writes old new before after o of names (with_field of o class field (kept_as (Some l.place.form) v)) result
 
 pub held-later : (old new : area.Heap) (object : Option ℕ) → Keeps old new → IfSome object (IsHeld old) → IfSome object (IsHeld new)
 held-later old new None keeps is = tt
@@ -164,7 +164,7 @@ module _ (old mid new : area.Heap) (start before after : Outside Space) (code co
   pub field-written : (to value : held.Value) (result : Result (Unit {0}) OpFault) → IsOfRow found.place.form to → value ≡ kept_in found.place.form to
       → ((of : Heap) (names : List Reference) (text : List ℕ) (n : ℕ) (o v : Value) → IsWorld mid before of names → DenotesIn mid before names (Some at) (Text text)
       → DenotesIn mid before names object o → located_in (forms_of text) n ≡ Some found → IsForIn mid before names value v
-      → Writes mid new before after of names (with_field of o text n v) result)
+      → Writes mid new before after o of names (with_field of o text n v) result)
       → SetsAll old new start after code constant field object to result
   field-written to value result row is_kept set of names class l o v w n is of_row d for =
       let s = world (unit n.bytes n.row n.frame) n.unit_is of names w in
@@ -172,8 +172,8 @@ module _ (old mid new : area.Heap) (start before after : Outside Space) (code co
       let there : IsForIn mid before names value (kept_as (Some f) v) =
       subst (λ (x : held.Value). IsForIn mid before names x (kept_as (Some f) v)) (sym is_kept)
       (kept-for mid before names f to v row (for-carried old mid start before names names to v s.carries for)) in
-      subst (λ (k : Located). Writes old new start after of names (with_field of o class field (kept_as (Some k.place.form) v)) result) (found-one class l n is)
-      (writes-later old mid new start before after of names h keeps leaves s (with_field of o class field (kept_as (Some f) v)) result
+      subst (λ (k : Located). Writes old new start after o of names (with_field of o class field (kept_as (Some k.place.form) v)) result) (found-one class l n is)
+      (writes-later old mid new start before after of names h keeps leaves s o (with_field of o class field (kept_as (Some f) v)) result
       (set of names class field o (kept_as (Some f) v) s.world ((class-of class n).denotes names) (s.carries.values object o d) (found-is class n) there))
 
   pub found-lacks-place : (to : held.Value) → IsOfRow found.place.form to → LacksPlace old start code constant field to → ⊥

@@ -1,3 +1,4 @@
+pub mod EnterRuns
 pub mod LastingLaws
 pub mod FieldEntries
 pub mod VectorEntries

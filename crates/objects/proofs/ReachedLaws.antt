@@ -26,7 +26,7 @@ use Rattle.joint_ops.specs.heap_meaning.Paired.{paired}
 use Rattle.joint_ops.proofs.of_heap_meaning.PlaceLaws.{text-one}
 use Rattle.joint_ops.proofs.of_heap_meaning.FieldLaws.{field-is, field-put}
 use Rattle.joint_ops.proofs.of_heap_meaning.GivenLaws.{field-read, field-written, shown_with}
-use Rattle.joint_ops.specs.World.{IsWorld, DenotesIn, IsForIn, IsOfForm, IsUnitIn, Answers, Writes, seen}
+use Rattle.joint_ops.specs.World.{IsWorld, DenotesIn, IsForIn, IsOfForm, IsUnitIn, Answers, Rewritten, Writes, seen}
 use Rattle.joint_ops.proofs.SeenLaws.{seen-held, seen-one, shown-bytes, StructureAt, structure-pointed}
 use Rattle.joint_ops.proofs.GainLaws.{nothing-done}
 use Rattle.joint_ops.proofs.FormLaws.{holds-form, holds-near, form-stored}
@@ -141,7 +141,7 @@ module _ (here : area.Heap) (outside : Outside Space) (code constant field at : 
 
     pub reached-put : (new : area.Heap) (c : held.Value) (v : Value) → IsHeap new → IsOfForm l.place.form c → IsForIn here outside names c v
         → new ≡ assigned_value here at (known.located.place.index + 1) c
-        → Writes here new outside outside of names (meaning.with_field of o class field v) (Ok tt)
+        → Writes here new outside outside o of names (meaning.with_field of o class field v) (Ok tt)
     reached-put new c v now form for written =
         let f = field-at here here outside outside of names h h w one one at s.id class s.at_is same in
         let index = suc l.place.index in
@@ -151,14 +151,15 @@ module _ (here : area.Heap) (outside : Outside Space) (code constant field at : 
         let object = Structure class (set s.at_is.fields field v) in (
           with_object of s.id object,
           ap (λ (x : Value). meaning.with_field of x class field v) s.value_is ∙ field-put of s.id class s.at_is.fields field v f.means,
-          write-stands here here new outside outside of names at s.id (shown_with here it index c) object h now one (nothing-done here outside of names h w)
+          subst (λ (id : ℕ). Rewritten here new outside outside id of (with_object of s.id object) names) (sym (ap meaning.id_of s.value_is))
+              (write-stands here here new outside outside of names at s.id (shown_with here it index c) object h now one (nothing-done here outside of names h w)
               s.at_is.held s.at_is.pair (no-bytes (header_at here at).kind kind.Structure r.refers.kind (λ e. cc) (λ e. cc))
               (kind-with here it index c)
               (field-written here (seen here outside) (paired names) it class s.at_is.fields field l c v f.is is
               (form-stored outside here names l.place.form c v form for))
               tt
               (was-written here new at index c kind.Structure h s.at_is.held r.refers.kind tt (omega arith) at_index)
-              (rewritten here new at index c h s.at_is.held at_index),
+              (rewritten here new at index c h s.at_is.held at_index)),
         )
 
 -- What is known of a field of structures that refer to a text leads to the field of each.

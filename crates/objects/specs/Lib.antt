@@ -7,6 +7,7 @@ pub mod Known
 pub mod Inside
 pub mod Classes
 pub mod Putting
+pub mod Entering
 pub use Rattle.joint_ops.specs.text_forms as text_forms
 pub use Rattle.joint_ops.specs.ps_outside as ps_outside
 pub use Rattle.joint_ops.specs.ps_heap as ps_heap
@@ -19,3 +20,4 @@ pub use Rattle.joint_ops.specs.proc_values as proc_values
 pub use Rattle.structure_rows.specs as structure_rows
 pub use Rattle.joint_ops.specs as joint_ops
 pub use Rattle.joint_tables.specs as joint_tables
+pub use Rattle.joint_held.specs as joint_held

@@ -1,5 +1,5 @@
 -- A unit of code as objects: those of its constants one after the other, and after them the code object, which refers to them.
-use Rattle.std.specs.Prelude.{◌≡◌, ℕ, ◌+◌, ◌*◌, ◌<◌, ◌^◌, List, [], ◌∷◌, ◌++◌, length, Result, Ok, Err}
+use Rattle.std.specs.Prelude.{◌≡◌, ℕ, ◌+◌, ◌*◌, ◌<◌, ◌≤◌, ◌^◌, List, [], ◌∷◌, ◌++◌, length, Result, Ok, Err}
 use Rattle.ps_base.specs.CodeUnit.{UnitView, unit, ConstantView, text, literal, ConstantsView, no_constants, constant_then}
 use Rattle.ps_base.specs.declared.code_unit.Frame.{Frame}
 use Rattle.heap_texts.specs.obj_area.Area.{words_spanned}
@@ -71,6 +71,16 @@ unfoldable mutual
   pub constant_words : ConstantView → ℕ
   constant_words (text bytes) = 4 + text_nums (length bytes)
   constant_words (literal code) = unit_words code
+
+unfoldable mutual
+  -- each of its units has a constant: the text of its type comes first
+  pub HasConstants : UnitView → Type 0
+  HasConstants (unit code constants frame) = (1 ≤ count_of constants) × AllHaveConstants constants
+
+  pub AllHaveConstants : ConstantsView → Type 0
+  AllHaveConstants no_constants = Unit {0}
+  AllHaveConstants (constant_then (text bytes) rest) = AllHaveConstants rest
+  AllHaveConstants (constant_then (literal u) rest) = HasConstants u × AllHaveConstants rest
 
 -- the heap with these objects after its own
 abbrev pub with_all : Heap → List Object → Heap

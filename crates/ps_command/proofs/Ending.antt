@@ -60,7 +60,7 @@ use Rattle.machine_run.specs.Ran.{Ran, ended, broke, cut, report_cut}
 use Rattle.machine_run.proofs.Counting.{next_counted}
 use Rattle.machine_run.proofs.Between.{goes_plainly}
 use Rattle.no_store.specs.NoObjects.{outside_of}
-use Rattle.no_store.proofs.HoldingLaws.{device-left}
+use Rattle.no_store.proofs.HoldingLaws.{holds-nothing, device-left}
 use Rattle.ps_causes.specs.ps_words.Words.{RunOf}
 use Rattle.ps_causes.specs.ps_reports.declared.status.Status.{Status}
 use Rattle.ps_causes.specs.ps_reports.declared.status.Status.TheVariants as statuses
@@ -370,7 +370,7 @@ module _ (old mid new : Outside (List ℕ)) where
         only_made : MakesOne s wanted ⊎ (EntersOne s wanted ⊎ StoresOne (outside_of old) wanted) → MakesOne s wanted ⊎ EntersOne s wanted
         only_made (inl made) = inl made
         only_made (inr (inl enters)) = inr enters
-        only_made (inr (inr stored)) = absurd stored.stored.there.is
+        only_made (inr (inr stored)) = absurd (holds-nothing old stored.pid stored.words stored.stored.there)
 
         next_of : MakesOne s wanted ⊎ EntersOne s wanted → Config
         next_of (inl made) = made.next

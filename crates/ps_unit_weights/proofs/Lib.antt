@@ -1,2 +1,3 @@
 pub mod Weighing
 pub mod UnitWords
+pub mod Constants

@@ -4,7 +4,7 @@ ghost use Rattle.proc_values.specs.ps_heap.Weights.{code_weight, unit_weight, ro
 ghost use Rattle.proc_values.specs.ps_heap.Values.{Routine};
 ghost use Rattle.proc_values.specs.ps_base.CodeUnit.{UnitView};
 ghost use Rattle.ps_gen.specs.Units.{unit_of};
-ghost use Rattle.proc_values.specs.Units.{unit_words};
+ghost use Rattle.proc_values.specs.Units.{unit_words, HasConstants};
 ghost use Rattle.ps_unit_weights.specs.Weights.{weight_as_unit};
 
 /// The words of the objects that the unit of a body takes, and word 0 of the area, have at most as many bytes as are counted for its code.
@@ -16,4 +16,9 @@ pub fn units_weigh_as_counted()
 pub fn units_weigh_their_words()
     ensures words { (u : UnitView) → unit_weight u ≡ 8 * unit_words u }
     ensures lighter { (does : Routine) → weight_as_unit does ≤ routine_weight does }
+{}
+
+/// The unit of a body has a constant, as each unit among its constants does: the text of the type comes first.
+pub fn generated_units_have_constants()
+    ensures { (of : BodyNode) → HasConstants (unit_of of) }
 {}

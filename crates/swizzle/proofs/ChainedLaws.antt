@@ -1,6 +1,6 @@
 -- The map of PIDs, as objects are replaced and come.
 use Rattle.std.proofs.Common.{inl, inr, ◌≡◌, ◌≢◌, ℕ, zero, suc, ◌+◌, ◌%◌, ◌^◌, ◌<◌, ◌≤◌, List, [], ◌∷◌, ◌++◌, length, replicate, get_or, set, refl, sym, ap, ◌∙◌, subst, arith, Option, Some, None}
-use Rattle.std.specs.Prelude.{unwrap_or}
+use Rattle.std.specs.Prelude.{unwrap_or, max}
 use Rattle.std.proofs.lemmas.Bool.{cases_eq}
 use Rattle.std.proofs.lemmas.List.{length-replicate}
 use Rattle.pid_map.specs.Chains.{Belongs, IsInMap, IsFind, Relinked}
@@ -11,7 +11,8 @@ use Rattle.swizzle.specs.Objects.{Object, size_of, size_of_all, find_from, repla
 use Rattle.swizzle.specs.Heap.{local_from, nothing}
 use Rattle.swizzle.specs.Mapped.{pid_at, link_at, IsLinked, AreChained}
 use Rattle.swizzle.specs.Kept.{Beside, IsMapped, with_room}
-use Rattle.swizzle.proofs.HeapLaws.{find-replaced, find-replaced_other, find-append, find-append_cases, find-new, local-is}
+use Rattle.swizzle.proofs.GreatestLaws.{greatest-none, greatest-replaced, greatest-new, greatest-laid}
+use Rattle.swizzle.proofs.HeapLaws.{find-replaced, find-replaced_other, find-append, find-append_cases, find-new, local-is, same_object}
 
 -- what stands at an object that is found
 pub pid_is : (os : List Object) (at : ℕ) (o : Object) → find_from 1 os at ≡ Some o → pid_at os at ≡ o.header.pid
@@ -29,9 +30,6 @@ pid_same os new at is = ap (λ (x : Option Object). (unwrap_or x nothing).header
 pub link_same : (os new : List Object) (at : ℕ) → find_from 1 new at ≡ find_from 1 os at → link_at new at ≡ link_at os at
 unfolding link_at
 link_same os new at is = ap (λ (x : Option Object). (unwrap_or x nothing).header.chain) is
-
-pub same_object : (found : Option Object) (o p : Object) → found ≡ Some o → found ≡ Some p → o ≡ p
-same_object found o p one two = let e : Some o ≡ Some p = sym one ∙ two in cc
 
 pub set_long : (xs : List ℕ) (i v : ℕ) → length (set xs i v) ≡ length xs
 set_long [] i v = refl
@@ -106,7 +104,7 @@ chained-replaced os heads at o new c is long pid link =
 pub mapped-replaced : (os : List Object) (size : ℕ) (b : Beside) (places stops at : ℕ) (o new : Object) → IsMapped os size b → find_from 1 os at ≡ Some o → size_of new ≡ size_of o → new.header.pid ≡ o.header.pid → new.header.chain ≡ o.header.chain
     → IsMapped (replace_from 1 os at new) size (with_room b places stops)
 mapped-replaced os size b places stops at o new m is long pid link =
-    record { some = m.some; chained = chained-replaced os b.heads at o new m.chained is long pid link; for_fetch = m.for_fetch }
+    record { some = m.some; chained = chained-replaced os b.heads at o new m.chained is long pid link; greatest = greatest-replaced os at o new b.greatest m.greatest is long pid; for_fetch = m.for_fetch }
 
 -- an object that comes changes no other one
 linked-more : (os : List Object) (o : Object) (x : ℕ) → IsLinked os x → IsLinked (os ++ o ∷ []) x
@@ -139,7 +137,7 @@ chained-new os heads o c none =
     }
 
 pub mapped-new : (os : List Object) (size : ℕ) (b : Beside) (o : Object) → IsMapped os size b → o.header.pid ≡ 0 → IsMapped (os ++ o ∷ []) size b
-mapped-new os size b o m none = record { some = m.some; chained = chained-new os b.heads o m.chained none; for_fetch = m.for_fetch }
+mapped-new os size b o m none = record { some = m.some; chained = chained-new os b.heads o m.chained none; greatest = greatest-new os o b.greatest m.greatest none; for_fetch = m.for_fetch }
 
 -- An object comes with its PID: it is laid with the head of its bucket as its link, and is the head from then on.
 chained-laid : (os : List Object) (heads : List ℕ) (o : Object) (top : ℕ) → ((at : ℕ) (p : Object) → find_from 1 os at ≡ Some p → 1 ≤ p.header.pid → local_from 1 os p.header.pid ≡ Some at) → AreChained os heads → 1 ≤ o.header.pid → local_from 1 os o.header.pid ≡ None
@@ -184,23 +182,25 @@ chained-laid os heads o top one c some away lt link small place =
       ];
     }
 
-pub mapped-laid : (os : List Object) (size : ℕ) (b : Beside) (o : Object) (top room : ℕ) (heads : List ℕ) → ((at : ℕ) (p : Object) → find_from 1 os at ≡ Some p → 1 ≤ p.header.pid → local_from 1 os p.header.pid ≡ Some at) → IsMapped os size b → 1 ≤ o.header.pid
+pub mapped-laid : (os : List Object) (size : ℕ) (b : Beside) (o : Object) (top room greatest : ℕ) (heads : List ℕ) → ((at : ℕ) (p : Object) → find_from 1 os at ≡ Some p → 1 ≤ p.header.pid → local_from 1 os p.header.pid ≡ Some at) → IsMapped os size b → 1 ≤ o.header.pid
     → local_from 1 os o.header.pid ≡ None → o.header.pid % length b.heads < length b.heads → o.header.chain ≡ get_or b.heads (o.header.pid % length b.heads) 0 → o.header.chain < 2 ^ 32 → top ≡ 1 + size_of_all os
-    → heads ≡ set b.heads (o.header.pid % length b.heads) top → size ≤ room + 1 → IsMapped (os ++ o ∷ []) size (record b { heads = heads; room = room })
-mapped-laid os size b o top room heads one m some away lt link small place is fits = record {
+    → heads ≡ set b.heads (o.header.pid % length b.heads) top → greatest ≡ max b.greatest o.header.pid → size ≤ room + 1 → IsMapped (os ++ o ∷ []) size (record b { heads = heads; greatest = greatest; room = room })
+mapped-laid os size b o top room greatest heads one m some away lt link small place is most fits = record {
   some = let long = ap length is ∙ set_long b.heads (o.header.pid % length b.heads) top in let had = m.some in omega (arith, long, had);
   chained = subst (AreChained (os ++ o ∷ [])) (sym is) (chained-laid os b.heads o top one m.chained some away lt link small place);
+  greatest = greatest-laid os o b.greatest greatest m.greatest most;
   for_fetch = fits;
 }
 
 -- an area without objects has an empty map
-pub mapped-none : (n size : ℕ) (b : Beside) → 1 ≤ n → b.heads ≡ replicate n 0 → size ≤ b.room + 1 → IsMapped [] size b
-mapped-none n size b some is fits = record {
+pub mapped-none : (n size : ℕ) (b : Beside) → 1 ≤ n → b.heads ≡ replicate n 0 → b.greatest ≡ 0 → size ≤ b.room + 1 → IsMapped [] size b
+mapped-none n size b some is none fits = record {
   some = let long = ap length is ∙ length-replicate {A = ℕ} n 0 in omega (arith, long, some);
   chained = subst (AreChained []) (sym is) (record {
     belongs = empty_belongs n (pid_at []) (link_at []) (IsLinked []);
     all = λ at object found some. absurd (let e : None ≡ Some object = found in cc);
     only = λ at i. absurd (empty_has_none n (pid_at []) (link_at []) (IsLinked []) at i);
   });
+  greatest = greatest-none b.greatest none;
   for_fetch = fits;
 }

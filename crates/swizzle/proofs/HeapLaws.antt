@@ -19,6 +19,10 @@ find-replaced at (p ∷ os) i o new e =
           ∙ find-replaced (at + size_of p) os i o new (sym (elsewhere i at (Some p) (find_from (at + size_of p) os i) apart) ∙ e)
     ]
 
+-- one object begins at a place
+pub same_object : (found : Option Object) (o p : Object) → found ≡ Some o → found ≡ Some p → o ≡ p
+same_object found o p one two = let e : Some o ≡ Some p = sym one ∙ two in cc
+
 -- the first object is the one that was looked for
 pub first_is : (at : ℕ) (p : Object) (os : List Object) (i : ℕ) (o : Object) → find_from at (p ∷ os) i ≡ Some o → i ≡ at → p ≡ o
 first_is at p os i o e same =

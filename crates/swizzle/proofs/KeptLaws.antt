@@ -334,10 +334,10 @@ none_noted = record { assigned = []; reached = [] }
 pub none-noted : {a b : List ℕ} → a ≡ [] → b ≡ [] → record { assigned = a; reached = b } ≡ none_noted
 none-noted ea eb = cc
 
-pub fresh_again : (words : ℕ) (area : AreaView) (noted : Noted) (b : Beside) (buckets : ℕ) → area ≡ fresh_area (words + 1) → noted ≡ none_noted → 1 ≤ buckets → b.heads ≡ replicate buckets 0 → words ≤ 2 ^ 25
+pub fresh_again : (words : ℕ) (area : AreaView) (noted : Noted) (b : Beside) (buckets : ℕ) → area ≡ fresh_area (words + 1) → noted ≡ none_noted → 1 ≤ buckets → b.heads ≡ replicate buckets 0 → b.greatest ≡ 0 → words ≤ 2 ^ 25
     → words + 1 ≤ 5 * b.places + 5 → words + 1 ≤ 5 * b.stops + 5 → words ≤ b.room → Again area.words area.size noted b (fresh_heap (words + 1))
-fresh_again words area noted b buckets e a some none h room stop buffer =
-    let pids : IsMapped [] (words + 1) b = mapped-none buckets (words + 1) b some none (omega arith) in
+fresh_again words area noted b buckets e a some none least h room stop buffer =
+    let pids : IsMapped [] (words + 1) b = mapped-none buckets (words + 1) b some none least (omega arith) in
     let it : Again [] (words + 1) none_noted b (fresh_heap (words + 1)) = again [] [] (words + 1) none_noted b refl
     (record { fit = tt; within = omega arith; small = omega arith; one = λ at o is some. absurd (cc); inside = λ at o is slot to r. absurd (cc); noted = noted-none is_assigned; walked = noted-none is_reached }) room stop pids in
     subst (λ (x : AreaView). Again x.words x.size noted b (fresh_heap (words + 1))) (sym e)

@@ -1,6 +1,7 @@
 pub mod ObjectLaws
 pub mod HeapLaws
 pub mod NotedLaws
+pub mod GreatestLaws
 pub mod ChainedLaws
 pub mod KeptLaws
 pub mod HeaderLaws

@@ -1,5 +1,5 @@
 -- An object of the area gets a PID.
-use Rattle.std.proofs.Common.{inl, inr, ◌≡◌, ◌≢◌, ℕ, ◌+◌, ◌-◌, ◌%◌, ◌^◌, ◌<◌, ◌≤◌, List, [], ◌∷◌, ◌++◌, length, map, take, drop, get_or, set, refl, sym, ap, ◌∙◌, subst, arith, append_assoc, length-append, Option, Some, None, if◌then◌else◌, ◌==◌}
+use Rattle.std.proofs.Common.{inl, inr, ◌≡◌, ◌≢◌, ℕ, ◌+◌, ◌-◌, ◌%◌, ◌^◌, ◌<◌, ◌≤◌, List, [], ◌∷◌, ◌++◌, length, map, take, drop, get_or, set, refl, sym, ap, ◌∙◌, subst, arith, append_assoc, length-append, Option, Some, None, if◌then◌else◌, ◌==◌, max}
 use Rattle.std.proofs.lemmas.Bool.{cases_eq}
 use Rattle.std.proofs.lemmas.List.{take_at, drop_at, drop-drop}
 use Rattle.obj_area.specs.Words.{overwritten}
@@ -13,14 +13,15 @@ use Rattle.pid_map.proofs.ChainLaws.{added}
 use Rattle.swizzle.specs.Objects.{Object, IsFit, words_of_all, objects_of, size_of, size_of_all, find_from, replace_from}
 use Rattle.swizzle.specs.Heap.{Heap, IsHeap, IsInside, AreNoted, is_assigned, is_reached, found, object_at, local_from, local_of, with_object}
 use Rattle.swizzle.specs.Mapped.{pid_at, link_at, IsLinked, AreChained}
-use Rattle.swizzle.specs.Kept.{IsMapped, Noted, with_heads}
+use Rattle.swizzle.specs.Kept.{IsMapped, Noted, with_map}
 use Rattle.swizzle.specs.View.{heap_of, beside_of, noted_of, IsKeptIn}
 use Rattle.swizzle.specs.Numbered.{numbered}
 use Rattle.swizzle.specs.declared.swizzle.Swizzle.TheInside.{Inside}
 use Rattle.swizzle.proofs.ObjectLaws.{here, elsewhere, Split, split, length-words_of_all, words_of_all-append, fit_replaced}
-use Rattle.swizzle.proofs.HeapLaws.{first_is, behind_is, find-replaced, find-replaced_other, held-replaced, size-replaced}
+use Rattle.swizzle.proofs.HeapLaws.{first_is, behind_is, find-replaced, find-replaced_other, held-replaced, size-replaced, same_object}
 use Rattle.swizzle.proofs.NotedLaws.{both-replaced}
-use Rattle.swizzle.proofs.ChainedLaws.{carried, pid_is, link_is, pid_same, link_same, same_object, linked_in, set_long}
+use Rattle.swizzle.proofs.GreatestLaws.{greatest-raised}
+use Rattle.swizzle.proofs.ChainedLaws.{carried, pid_is, link_is, pid_same, link_same, linked_in, set_long}
 use Rattle.swizzle.proofs.KeptLaws.{Again, again, Lies, lists_of, inside_kept}
 
 pub local-numbered : (at : ℕ) (os : List Object) (i pid p : ℕ) (o new : Object) → find_from at os i ≡ Some o → size_of new ≡ size_of o → o.header.pid ≡ 0 → new.header.pid ≡ pid → local_from at os pid ≡ None → 1 ≤ p → local_from at (replace_from at os i new) p ≡ (if p == pid then Some i else local_from at os p)
@@ -170,17 +171,17 @@ IsFit-numbered o pid link fit low linked = record {
 }
 
 -- the header with the PID was written, and the object put before the others of its bucket
-pub given : (a : Inside) (new : AreaView) (heads : List ℕ) (heap : Heap) (at pid link : ℕ) → heap_of a ≡ heap → IsKeptIn a → Lies a.area.words heap at → new ≡ with_words a.area at (header_words (numbered (object_at heap at) pid link).header)
+pub given : (a : Inside) (new : AreaView) (heads : List ℕ) (heap : Heap) (at pid link greatest : ℕ) → heap_of a ≡ heap → IsKeptIn a → Lies a.area.words heap at → new ≡ with_words a.area at (header_words (numbered (object_at heap at) pid link).header)
     → (object_at heap at).header.pid ≡ 0 → 1 ≤ pid → pid < 2 ^ 63 → local_of heap pid ≡ None → link ≡ get_or a.map.heads.items (pid % length a.map.heads.items) 0 → link < 2 ^ 32 → pid % length a.map.heads.items < length a.map.heads.items
-    → heads ≡ set a.map.heads.items (pid % length a.map.heads.items) at → Again new.words new.size (noted_of a) (with_heads (beside_of a) heads) (with_object heap at (numbered (object_at heap at) pid link))
-given a new heads heap at pid link e kept l written none low high away link_is_head small below put =
+    → heads ≡ set a.map.heads.items (pid % length a.map.heads.items) at → greatest ≡ max a.greatest pid → Again new.words new.size (noted_of a) (with_map (beside_of a) heads greatest) (with_object heap at (numbered (object_at heap at) pid link))
+given a new heads heap at pid link greatest e kept l written none low high away link_is_head small below put most =
     let o = object_at heap at in
     let it = numbered o pid link in
     let was : a.area.size ≡ heap.size = ap (λ (x : Heap). x.size) e in
     let size : new.size ≡ heap.size = ap (λ (x : AreaView). x.size) written ∙ was in
     let objects : objects_of a.area.words ≡ heap.objects = ap (λ (x : Heap). x.objects) e in
     let lists : noted_of a ≡ lists_of heap = ap lists_of e in
-    let b = with_heads (beside_of a) heads in
+    let b = with_map (beside_of a) heads greatest in
     let words : new.words ≡ words_of_all (replace_from 1 heap.objects at it) =
     ap (λ (x : AreaView). x.words) written
     ∙ ap (λ (ws : List ℕ). overwritten ws (at - 1) (header_words it.header)) (sym l.cut)
@@ -191,6 +192,7 @@ given a new heads heap at pid link e kept l written none low high away link_is_h
     let pids : IsMapped (replace_from 1 heap.objects at it) heap.size b = record {
       some = let long = ap length put ∙ set_long a.map.heads.items (pid % length a.map.heads.items) at in let had = m.some in omega (arith, long, had);
       chained = subst (AreChained (replace_from 1 heap.objects at it)) (sym put) chained;
+      greatest = greatest-raised heap.objects at o it a.greatest greatest m.greatest l.is refl (omega (arith, none)) most;
       for_fetch = m.for_fetch;
     } in
     let both = both-replaced heap at o it l.heap_is.noted l.heap_is.walked l.is refl refl in

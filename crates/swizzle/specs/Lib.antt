@@ -1,6 +1,7 @@
 pub mod Objects
 pub mod Heap
 pub mod Mapped
+pub mod Greatest
 pub mod Kept
 pub mod View
 pub mod Joint

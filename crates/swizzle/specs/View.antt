@@ -11,7 +11,7 @@ abbrev pub heap_of : Inside → Heap
 heap_of a = heap_from a.area.words a.area.size (noted_of a)
 
 abbrev pub beside_of : Inside → Beside
-beside_of a = record { places = vec_capacity a.assigned; stops = vec_capacity a.reached; heads = a.map.heads.items; room = vec_capacity a.buffer }
+beside_of a = record { places = vec_capacity a.assigned; stops = vec_capacity a.reached; heads = a.map.heads.items; greatest = a.greatest; room = vec_capacity a.buffer }
 
 abbrev pub IsKeptIn : Inside → Type 0
 IsKeptIn a = IsKept a.area.words a.area.size (noted_of a) (beside_of a)

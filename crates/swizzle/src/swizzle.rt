@@ -1,4 +1,4 @@
-ghost use Rattle.std.specs.Prelude.{◌≡◌, ◌≢◌, nat_eq, ◌+◌, ◌/◌, ◌%◌, ◌^◌, ◌<◌, ◌≤◌, true, false, ℕ, Option, None, IfOk, IfErr, IfSome, OnOk, OnErr, MatchResult, ◌++◌, Some, length, take, drop, vec_capacity};
+ghost use Rattle.std.specs.Prelude.{◌≡◌, ◌≢◌, ◌⊎◌, nat_eq, ◌+◌, ◌/◌, ◌%◌, ◌^◌, ◌<◌, ◌≤◌, true, false, ℕ, Option, None, IfOk, IfErr, IfSome, OnOk, OnErr, MatchResult, ◌++◌, Some, length, take, drop, vec_capacity};
 ghost use Rattle.obj_layout.specs.Header.{HasFitLengths, object_length};
 ghost use Rattle.obj_layout.specs.Kind.{kind_number};
 ghost use Rattle.obj_layout.specs.Reference.{IsReference, reference_word};
@@ -38,6 +38,8 @@ pub struct Swizzle {
     reached: Vec<u32>,
     // The PIDs of the objects that have one. Its chains lead through the objects.
     map: PidMap,
+    // The greatest PID of the objects, 0 where none has one.
+    greatest: u64,
     // Where an object is fetched to before it is laid into the area. Its words are taken as they are needed.
     buffer: Vec<u64>,
 }
@@ -49,6 +51,7 @@ impl Drop for Swizzle {
             assigned: _,
             reached: _,
             map: _,
+            greatest: _,
             buffer: _,
         } = self;
     }
@@ -97,6 +100,7 @@ impl Swizzle {
             assigned,
             reached,
             map,
+            greatest: 0,
             buffer,
         })
     }
@@ -108,6 +112,7 @@ impl Swizzle {
         self.area.reset();
         self.assigned.clear();
         self.reached.clear();
+        self.greatest = 0;
         self.map.clear();
     }
 
@@ -416,6 +421,7 @@ impl Swizzle {
         let mut words = [0; 4];
         write_header(&header, &mut words);
         self.area.write_words(object, &words);
+        self.greatest = self.greatest.max(pid);
         self.map.put(pid, object);
     }
 
@@ -470,6 +476,14 @@ impl Swizzle {
         self.map.find(&Headers { area: &self.area }, pid)
     }
 
+    /// The greatest PID of an object of the area; 0 where none has one.
+    pub fn greatest_pid(&self) -> u64
+        ensures all { (x : ℕ) → IsHeld self.now x → (header_at self.now x).pid ≤ result }
+        ensures some { (result ≡ 0) ⊎ ((x : ℕ) × IsHeld self.now x × ((header_at self.now x).pid ≡ result)) }
+    {
+        self.greatest
+    }
+
     /// The one object of the area with this PID. It is fetched where it isn't there. Where the vault's tests refuse it, or its words may not come
     /// into the area, it is damaged, with the numbers of the first test that failed (`docs/formats.md`). Whether there is room is tested after
     /// the vault's tests of its header.
@@ -512,6 +526,7 @@ impl Swizzle {
             return Err(SwizzleFault::Vault(fault));
         }
         lay(&mut self.area, &self.buffer, count);
+        self.greatest = self.greatest.max(pid);
         self.map.put(pid, top);
         Ok(top)
     }

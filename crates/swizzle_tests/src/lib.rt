@@ -4,4 +4,6 @@
 #[cfg(test)]
 mod objects;
 #[cfg(test)]
+mod pids;
+#[cfg(test)]
 mod texts;

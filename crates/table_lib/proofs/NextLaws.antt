@@ -19,9 +19,12 @@ use Rattle.table_nodes.specs.node_rows.Nodes.{I, HasValue}
 use Rattle.table_nodes.specs.Steps.{Place, rows_of, Touches}
 use Rattle.table_nodes.specs.Searching.{IsTree}
 use Rattle.table_nodes.specs.Following.{item_name}
+use Rattle.table_nodes.specs.Fetching.{Arrives}
+use Rattle.table_nodes.proofs.FetchLaws.{arrives_then}
 use Rattle.table_nodes.proofs.KeyLaws.{total}
 use Rattle.table_nodes.proofs.SeenLaws.{fetch_back, grown_seen}
-use Rattle.table_lib.specs.Nexts.{after_key, IsNodeOf, FindsNode, FindsPair, IsPairOf, ReadsPair}
+use Rattle.table_lib.specs.Nexts.{after_key, IsNodeOf, FetchesPair, FindsNode, FindsPair, IsPairOf, ReadsPair}
+use Rattle.table_lib.specs.Operations.{FetchesUsed}
 use Rattle.table_lib.proofs.UseLaws.{err_same}
 
 -- what is so of each is so of the next
@@ -105,3 +108,17 @@ module _ {P : Type 0} (ks : Keys) (is : P → I ks → Type 0) (old m : Place) (
       go (Some a) h k =
           fetch_back old.heap m.heap old.outside m.outside fault grows
           (reads a h.0 h.1 h.2 (record { it = k.it; is = grown_seen old.heap m.heap old.outside m.outside grows a.entry.value k.it k.is }))
+
+-- The pair of the node that was found was fetched after it.
+pub pair_fetches : {P : Type 0} (ks : Keys) (old m new : Place) (table : Option ℕ) (probe : I ks → Ordering) (node : ℕ) (pair : P) → Touches old m → Touches m new → FindsNode ks old m table probe (Ok (Some node))
+    → FetchesUsed {T = Option ℕ} ks old m.heap table (Ok (Some node)) → FetchesPair ks m new.heap node (Ok pair) → FetchesUsed ks old new.heap table (Ok (Some pair))
+pair_fetches ks old m new table probe node pair first then o f reads = record {
+  unused = λ at e h. (let g = o.unused_is at e h in absurd (cc));
+  used = λ at t e h all.
+      arrives_then old.heap m.heap new.heap old.outside m.outside new.outside first then (f.used at t e h all)
+      (go (above probe (items t)) (o.used_is at t e h) (above_all (λ a. IsKnown (seen old.heap old.outside) a.entry.value) probe (items t) all));
+}
+  where
+    go : (item : Option (I ks)) → IsNodeOf ks m (Some node) item → IfSome item (λ a. IsKnown (seen old.heap old.outside) a.entry.value) → Arrives m.heap new.heap m.outside
+    go None h k = absurd h
+    go (Some a) h k = reads a h.0 h.1 (record { it = k.it; is = grown_seen old.heap m.heap old.outside m.outside first a.entry.value k.it k.is })

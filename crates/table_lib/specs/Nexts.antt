@@ -1,5 +1,5 @@
 -- What the search for a table's next key answers.
-use Rattle.std.specs.Prelude.{◌≡◌, ◌≢◌, ℕ, ℤ, List, Option, Some, None, Result, Ok, MatchResult}
+use Rattle.std.specs.Prelude.{◌≡◌, ◌≢◌, ℕ, ℤ, List, Option, Some, None, Result, Ok, MatchResult, OnOk}
 use Rattle.std.specs.declared.cmp.Ordering.{Ordering}
 use Rattle.std.specs.declared.cmp.Ordering.TheVariants.{Less}
 use Rattle.table_nodes.specs.heap_places.obj_layout.declared.reference.Reference.TheVariants.{Nil}
@@ -14,6 +14,7 @@ use Rattle.table_nodes.specs.avl_trees.Standing.{Has}
 use Rattle.table_nodes.specs.node_rows.Keys.{Keys, by_ints, by_texts, KeyOf, order_by}
 use Rattle.table_nodes.specs.heap_places.swizzle.Changes.{IsKnown}
 use Rattle.table_nodes.specs.Nodes.{IsNamed, IsFetchFault, seen}
+use Rattle.table_nodes.specs.Fetching.{Arrives}
 use Rattle.table_nodes.specs.Searching.{AreSeen}
 use Rattle.table_nodes.specs.Sought.{IsTextHeld}
 use Rattle.table_nodes.specs.node_rows.Nodes.{I}
@@ -46,6 +47,10 @@ IsIntPair heap pair a = (pair.0 ≡ a.entry.key) × IsHeld heap pair.1 × (name_
 -- what was read of a node's pair; its value isn't damaged where it is seen
 abbrev pub ReadsPair : {P : Type 0} → (ks : Keys) → (P → I ks → Type 0) → Place → ℕ → Result P SwizzleFault → Type 0
 ReadsPair ks is old node result = (a : I ks) → IsNamed old.heap node a.name → Has (rows_of ks old) a → a.entry.value ≢ Nil → MatchResult result (λ pair. is pair a) (λ fault. IsKnown (seen old.heap old.outside) a.entry.value → IsFetchFault old.heap old.outside fault)
+
+-- What the reading of a node's pair fetches, where it is answered and the value is seen: all of it came from the vault.
+abbrev pub FetchesPair : {P : Type 0} → (ks : Keys) → Place → Heap → ℕ → Result P SwizzleFault → Type 0
+FetchesPair ks old new node result = (a : I ks) → IsNamed old.heap node a.name → Has (rows_of ks old) a → IsKnown (seen old.heap old.outside) a.entry.value → OnOk result (Arrives old.heap new old.outside)
 
 -- the pair, or none
 abbrev pub IsPairOf : {P A : Type 0} → (P → A → Type 0) → Option P → Option A → Type 0

@@ -15,7 +15,7 @@ use Rattle.table_nodes.specs.node_rows.Keys.{Keys, KeyOf, order_by}
 use Rattle.table_nodes.specs.Nodes.{IsLinked, IsFetchFault}
 use Rattle.table_nodes.specs.node_rows.Nodes.{I}
 use Rattle.table_nodes.specs.Steps.{Place}
-use Rattle.table_nodes.specs.Fetching.{Fetches}
+use Rattle.table_nodes.specs.Fetching.{Arrives}
 use Rattle.table_nodes.specs.Searching.{AreSeen, IsObject, value_of}
 use Rattle.table_lib.specs.Tables.{IsTableAt, HasKeys, HasPairs, IsUnused, IsTable}
 use Rattle.table_lib.specs.declared.words.Opened.{Opened}
@@ -50,7 +50,13 @@ ReadsRoot old new at result = (ks : Keys) (t : Tree (I ks)) → HasPairs ks old 
 
 -- What the reading of a root fetches, where it is answered.
 abbrev pub FetchesRoot : {T : Type 0} → Place → Heap → ℕ → Result T SwizzleFault → Type 0
-FetchesRoot old new at result = (ks : Keys) (t : Tree (I ks)) → HasPairs ks old at t → OnOk result (Fetches ks old.heap new old.outside)
+FetchesRoot old new at result = (ks : Keys) (t : Tree (I ks)) → HasPairs ks old at t → OnOk result (Arrives old.heap new old.outside)
+
+-- What a reading of a table fetches, where it is answered: each object that is new in the area came from the vault, where the table never had a key, or where it
+-- has keys of this kind and the values of its pairs are seen.
+pub record FetchesUsed {T : Type 0} (ks : Keys) (old : Place) (new : Heap) (table : Option ℕ) (result : Result T OpFault) : Type 0 where
+  pub unused : (at : ℕ) → table ≡ Some at → IsUnused old.heap at → OnOk result (Arrives old.heap new old.outside)
+  pub used : (at : ℕ) (t : Tree (I ks)) → table ≡ Some at → IsTable ks old at t → AreSeen ks old.heap old.outside (items t) → OnOk result (Arrives old.heap new old.outside)
 
 -- The value of the key is answered, none where the table hasn't the key, or an object couldn't be fetched; where the values are seen, none is damaged.
 abbrev pub LooksUp : (ks : Keys) → Place → Heap → Option ℕ → KeyOf ks → Result (Option ℕ) OpFault → Type 0

@@ -13,7 +13,7 @@ ghost use Rattle.table_nodes.specs.Sought.{IsKeyHeld, IsTextHeld, kind_of, key_i
 ghost use Rattle.table_nodes.specs.Spans.{IsValueOf};
 ghost use Rattle.table_nodes.specs.Steps.{place};
 ghost use Rattle.table_nodes.specs.declared.keys.Key.TheVariants.{Int, Text};
-ghost use Rattle.table_lib.specs.Operations.{LooksUp};
+ghost use Rattle.table_lib.specs.Operations.{FetchesUsed, LooksUp};
 ghost use Rattle.table_nodes.specs.Faults.{IsNodeFault};
 ghost use Rattle.table_lib.specs.Faults.{IsOpFault};
 
@@ -47,6 +47,7 @@ pub fn lookup_key<V: Vault, L: Ledger>(
     ensures keeps { OnOk result (Keeps sw.old sw.new) }
     ensures still { OnErr result (Grows sw.old sw.new (V.outside vault.old) (V.outside vault.new)) }
     ensures brings { (at : ℕ) → table ≡ Some at → Brings sw.old sw.new (2 * digits (num_at sw.old at 2) + 2) }
+    ensures fetched { FetchesUsed (kind_of key) (place sw.old (V.outside vault.old)) sw.new table result }
     ensures fault { IfErr result (IsOpFault (IsNodeFault (V.outside vault.old) (V.outside vault.new) sw.new) sw.new table) }
     ensures numbers { SameNumbers V.used_words V.directory_at V.most_words V.access vault.old vault.new }
     ensures trapped { (trap : Trap) → result ≡ Err (Traps trap) → (sw.new ≡ sw.old) × (vault.new ≡ vault.old) }
@@ -90,6 +91,7 @@ pub fn lookup_text<V: Vault, L: Ledger>(
     ensures keeps { OnOk result (Keeps sw.old sw.new) }
     ensures still { OnErr result (Grows sw.old sw.new (V.outside vault.old) (V.outside vault.new)) }
     ensures brings { (at : ℕ) → table ≡ Some at → Brings sw.old sw.new (2 * digits (num_at sw.old at 2) + 2) }
+    ensures fetched { FetchesUsed by_texts (place sw.old (V.outside vault.old)) sw.new table result }
     ensures fault { IfErr result (IsOpFault (IsNodeFault (V.outside vault.old) (V.outside vault.new) sw.new) sw.new table) }
     ensures numbers { SameNumbers V.used_words V.directory_at V.most_words V.access vault.old vault.new }
     ensures trapped { (trap : Trap) → result ≡ Err (Traps trap) → (sw.new ≡ sw.old) × (vault.new ≡ vault.old) }
@@ -116,6 +118,7 @@ pub fn lookup_int<V: Vault, L: Ledger>(
     ensures keeps { OnOk result (Keeps sw.old sw.new) }
     ensures still { OnErr result (Grows sw.old sw.new (V.outside vault.old) (V.outside vault.new)) }
     ensures brings { (at : ℕ) → table ≡ Some at → Brings sw.old sw.new (2 * digits (num_at sw.old at 2) + 2) }
+    ensures fetched { FetchesUsed by_ints (place sw.old (V.outside vault.old)) sw.new table result }
     ensures fault { IfErr result (IsOpFault (IsNodeFault (V.outside vault.old) (V.outside vault.new) sw.new) sw.new table) }
     ensures numbers { SameNumbers V.used_words V.directory_at V.most_words V.access vault.old vault.new }
     ensures trapped { (trap : Trap) → result ≡ Err (Traps trap) → (sw.new ≡ sw.old) × (vault.new ≡ vault.old) }

@@ -1,5 +1,5 @@
 -- A key is taken out of the tree of a node.
-use Rattle.std.proofs.Common.{true, false, ◌≢◌, ◌≡◌, ℕ, ◌<◌, ◌≤◌, ◌+◌, ◌∷◌, ◌++◌, Option, Some, None, Result, Ok, Err, refl, sym, ap, ◌∙◌, subst, arith}
+use Rattle.std.proofs.Common.{true, false, ◌≢◌, ◌≡◌, ℕ, ◌<◌, ◌≤◌, ◌+◌, ◌∷◌, Option, Some, None, Result, Ok, Err, refl, sym, ap, ◌∙◌, subst, arith}
 use Rattle.std.specs.declared.cmp.Ordering.TheVariants.{Less, Equal, Greater}
 use Rattle.heap_places.specs.ps_outside.Outside.{SameContents}
 use Rattle.heap_places.specs.obj_layout.declared.reference.Reference.{Reference}

@@ -117,6 +117,12 @@ module _ (ks : Keys) (key : KeyOf ks) where
   height_read first p n span bound before now t s h f = f n s.b.name (row_of s.x s.b s.y) refl s.name s.stands.0
 
   module _ (first p m : Place) (n : ℕ) (span : Span) (bound before now : ℕ) (t : Tree (I ks)) (s : AtNode first p n span bound before now t) (grows : Touches p m) where
+    -- the node's value is seen, where those of the tree are
+    pub value_seen : Touches first p → AreSeen ks first.heap first.outside (items t) → IsKnown (seen m.heap m.outside) s.b.entry.value
+    value_seen from k =
+        let value = (all_back (λ a. IsKnown (seen first.heap first.outside) a.entry.value) (items s.x) (s.b ∷ items s.y) (s.known k)).0 in
+        record { it = value.it; is = grown_seen first.heap m.heap first.outside m.outside (touches_then first p m from grows) s.b.entry.value value.it value.is }
+
     -- the key was found, and its value read
     pub sought_found : Touches first p → (new : Place) → IsStep ks m.heap key s.x s.b s.y Found → (result : Result ℕ SwizzleFault) → ReadsValue m.heap new.heap m.outside n result
         → MatchResult result (λ value. IsHeld new.heap value → IsObject new.heap (Some value) (value_of (sought_in t))) (λ fault. AreSeen ks first.heap first.outside (items t) → IsFetchFault first.heap first.outside fault)
@@ -130,9 +136,7 @@ module _ (ks : Keys) (key : KeyOf ks) where
         go : (result : Result ℕ SwizzleFault) → MatchResult result (λ value. name_at new.heap value ≡ s.b.entry.value) (λ fault. IsKnown (seen m.heap m.outside) s.b.entry.value → IsFetchFault m.heap m.outside fault)
             → MatchResult result (λ value. IsHeld new.heap value → IsObject new.heap (Some value) (value_of (sought_in t))) (λ fault. AreSeen ks first.heap first.outside (items t) → IsFetchFault first.heap first.outside fault)
         go (Ok value) e = λ held. subst (λ o. IsObject new.heap (Some value) (value_of o)) (sym (lookup_here s.x s.b s.y found) ∙ s.same) (held, e)
-        go (Err fault) w = λ k.
-            let value = (all_back (λ a. IsKnown (seen first.heap first.outside) a.entry.value) (items s.x) (s.b ∷ items s.y) (s.known k)).0 in
-            fetch_back first.heap m.heap first.outside m.outside fault all (w (record { it = value.it; is = grown_seen first.heap m.heap first.outside m.outside all s.b.entry.value value.it value.is }))
+        go (Err fault) w = λ k. fetch_back first.heap m.heap first.outside m.outside fault all (w (value_seen from k))
 
     pub looked_found : (later : ℕ) → later ≡ now + 1 → IsStep ks m.heap key s.x s.b s.y Found → later ≡ before + looks_in t
     looked_found later e found =

@@ -119,7 +119,7 @@ touch_failed_seen old new a b reference fault h k t call =
     touch_missed old a reference fault h k t (λ e. call.other (ap Err e)) (λ used wanted capacity e. call.full used wanted capacity (ap Err e)) (λ held wanted pages e. call.pages held wanted pages (ap Err e))
 
 -- a PID that no object of the area has now, none had before others came
-still_away : (old mid : Heap) (pid : ℕ) → IsHeap mid → Keeps old mid → 1 ≤ pid → local_of mid pid ≡ None → local_of old pid ≡ None
+pub still_away : (old mid : Heap) (pid : ℕ) → IsHeap mid → Keeps old mid → 1 ≤ pid → local_of mid pid ≡ None → local_of old pid ≡ None
 still_away old mid pid h keeps low away = cases (local_of old pid) refl
   where
     cases : (o : Option ℕ) → local_of old pid ≡ o → local_of old pid ≡ None

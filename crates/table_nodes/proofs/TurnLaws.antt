@@ -1,5 +1,5 @@
 -- A turn of two nodes, and one of three.
-use Rattle.std.proofs.Common.{ℕ, ◌+◌, ◌≤◌, ◌<◌, ◌∷◌, sym, ◌∙◌, Option, Some, arith}
+use Rattle.std.proofs.Common.{ℕ, ◌+◌, ◌≤◌, ◌<◌, sym, ◌∙◌, Option, Some, arith}
 use Rattle.std.proofs.lemmas.Bool.{lt-ltb, le-ltb}
 use Rattle.avl_trees.specs.Trees.{Tree, node, items, height, lean_left, lean_right, lean_inner, lean_outer, balance}
 use Rattle.avl_trees.specs.Standing.{root_of}

@@ -5,7 +5,7 @@ ghost use Rattle.heap_places.specs.swizzle.Heap.{IsHeld, IsListed, num_at};
 ghost use Rattle.heap_places.specs.swizzle.Joint.{name_at, shown_at};
 ghost use Rattle.heap_places.specs.swizzle.Touch.{Keeps};
 ghost use Rattle.heap_places.specs.Shapes.{slot_of};
-ghost use Rattle.table_nodes.specs.Fetching.{FetchesSide};
+ghost use Rattle.table_nodes.specs.Fetching.{FetchesSide, FetchesValue};
 ghost use Rattle.table_nodes.specs.Steps.{place};
 ghost use Rattle.table_nodes.specs.Bringing.{Brings, NoneCome};
 ghost use Rattle.node_rows.specs.Nodes.{Seat};
@@ -101,6 +101,7 @@ pub fn value<V: Vault>(sw: &mut Swizzle, vault: &mut V, at: u32) -> Result<u32, 
     ensures keeps { OnOk result (Keeps sw.old sw.new) }
     ensures still { OnErr result (Grows sw.old sw.new (V.outside vault.old) (V.outside vault.new)) }
     ensures brings { Brings sw.old sw.new 1 }
+    ensures fetched { FetchesValue (place sw.old (V.outside vault.old)) sw.new at result }
     ensures fault { IfErr result (IsNodeFault (V.outside vault.old) (V.outside vault.new) sw.new) }
     ensures numbers { SameNumbers V.used_words V.directory_at V.most_words V.access vault.old vault.new }
     ensures alive { OnOk result (V.alive vault.new) }

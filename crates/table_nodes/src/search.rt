@@ -4,6 +4,7 @@ ghost use Rattle.heap_places.specs.swizzle.Heap.{IsHeld};
 ghost use Rattle.heap_places.specs.swizzle.Touch.{Keeps};
 ghost use Rattle.table_nodes.specs.Nodes.{IsNode, Grows};
 ghost use Rattle.table_nodes.specs.Bringing.{Brings};
+ghost use Rattle.table_nodes.specs.Fetching.{FetchesFound, FetchesStep};
 ghost use Rattle.table_nodes.specs.Searching.{Charges, Finds, IsDown, StepsAt, came_by};
 ghost use Rattle.table_nodes.specs.Sought.{IsKeyHeld, kind_of, key_in};
 ghost use Rattle.table_nodes.specs.Spans.{IsSpan, IsValueOf};
@@ -48,6 +49,7 @@ fn look<V: Vault>(
     ensures keeps { OnOk result (Keeps sw.old sw.new) }
     ensures still { OnErr result (Grows sw.old sw.new (V.outside vault.old) (V.outside vault.new)) }
     ensures brings { MatchResult result (λ step. Brings sw.old sw.new (came_by step)) (λ fault. Brings sw.old sw.new 1) }
+    ensures fetched { FetchesStep (kind_of key) (place sw.old (V.outside vault.old)) sw.new at result }
     ensures fault { IfErr result (IsNodeFault (V.outside vault.old) (V.outside vault.new) sw.new) }
     ensures numbers { SameNumbers V.used_words V.directory_at V.most_words V.access vault.old vault.new }
     ensures alive { OnOk result (V.alive vault.new) }
@@ -98,6 +100,7 @@ pub fn lookup<V: Vault, L: Ledger>(
     ensures keeps { OnOk result (Keeps sw.old sw.new) }
     ensures still { OnErr result (Grows sw.old sw.new (V.outside vault.old) (V.outside vault.new)) }
     ensures brings { Brings sw.old sw.new (steps.new - steps.old) }
+    ensures fetched { FetchesFound (kind_of key) (place sw.old (V.outside vault.old)) sw.new root bound result }
     ensures fault { IfErr result (IsNodeFault (V.outside vault.old) (V.outside vault.new) sw.new) }
     ensures numbers { SameNumbers V.used_words V.directory_at V.most_words V.access vault.old vault.new }
     ensures alive { OnOk result (V.alive vault.new) }

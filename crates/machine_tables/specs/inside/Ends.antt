@@ -26,7 +26,7 @@ use Rattle.machine_core.specs.declared.stepped.Stepped.{Stepped}
 use Rattle.machine_core.specs.Holding.{HeldBy, HeldIn}
 use Rattle.machine_core.specs.Stepped.{Does}
 use Rattle.machine_operands.specs.Giving.{EndsSoundly}
-use Rattle.joint_tables.specs.Tables.{EntersKey, Finds, IsPntr}
+use Rattle.joint_tables.specs.Tables.{EntersKey, IsPntr}
 
 -- the object that was found is read and pushed, or nil is
 abbrev pub found_given : Option ℕ → Config → Step
@@ -50,7 +50,7 @@ module _ (before after : Outside Space) (old new : Machine) (answer : Stepped) (
     pub ends : EndsSoundly got (λ to. IfSome to (IsHeld old.objects)) old new answer
     pub does : (here : area.Heap) (names : List Reference) (c : Config) (attempt : Attempt (Option ℕ)) → LeavesOutside before after
         → HeldIn here before names old c
-        → Finds here old.objects before after (λ to found. DenotesIn old.objects after names to (value_of_object found)) c.store.held.objects names attempt got
+        → Answers here old.objects before after (λ to found. DenotesIn old.objects after names to (value_of_object found)) c.store.held.objects names attempt got
         → Does before after here.size (attempted line attempt (λ found. found_given found c)) answer new
 
   pub record EndsEnter (done : Result (Unit {0}) OpFault) : Type 0 where

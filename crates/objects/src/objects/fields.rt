@@ -94,7 +94,7 @@ impl Objects {
             → IsWorld self.old (V.outside vault.old) of names → NamesClass self.old (V.outside vault.old) code constant class
             → located_in (forms_of class) field ≡ Some located → IsOfRow located.place.form to
             → DenotesIn self.old (V.outside vault.old) names object o → IsForIn self.old (V.outside vault.old) names to v
-            → Writes self.old self.new (V.outside vault.old) (V.outside vault.new) of names (meaning.with_field of o class field (kept_as (Some located.place.form) v)) result }
+            → Writes self.old self.new (V.outside vault.old) (V.outside vault.new) o of names (meaning.with_field of o class field (kept_as (Some located.place.form) v)) result }
         ensures damaged { LacksPlace self.old (V.outside vault.old) code constant field to
             → BreaksByCode self.old self.new (V.outside vault.old) (V.outside vault.new) code result }
         ensures notes { NotesWritten self.old self.new object result }
@@ -339,7 +339,7 @@ fn write_field<V: Vault>(
         → IsWorld sw.old (V.outside vault.old) of names → NamesClass sw.old (V.outside vault.old) code constant class
         → located_in (forms_of class) field ≡ Some located → IsOfRow located.place.form to
         → DenotesIn sw.old (V.outside vault.old) names object o → IsForIn sw.old (V.outside vault.old) names to v
-        → Writes sw.old sw.new (V.outside vault.old) (V.outside vault.new) of names (meaning.with_field of o class field (kept_as (Some located.place.form) v)) result }
+        → Writes sw.old sw.new (V.outside vault.old) (V.outside vault.new) o of names (meaning.with_field of o class field (kept_as (Some located.place.form) v)) result }
     ensures damaged { LacksPlace sw.old (V.outside vault.old) code constant field to
         → BreaksByCode sw.old sw.new (V.outside vault.old) (V.outside vault.new) code result }
     ensures notes { NotesWritten sw.old sw.new object result }

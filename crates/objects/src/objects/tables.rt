@@ -10,11 +10,15 @@ ghost use Rattle.joint_ops.specs.ps_heap.Objects as meaning;
 ghost use Rattle.joint_ops.specs.ps_heap.Operators.{is_int};
 ghost use Rattle.joint_ops.specs.ps_heap.Tables.{Key as MeantKey, string_key, int_key, without_keys};
 ghost use Rattle.joint_ops.specs.ps_heap.Texts.{Yields};
+ghost use Rattle.joint_ops.specs.ps_heap.Held.{Held};
 ghost use Rattle.joint_ops.specs.ps_heap.Values as meant;
 ghost use Rattle.joint_ops.specs.World.{IsWorld, DenotesIn, Answers, BreaksAsReading};
 ghost use Rattle.joint_ops.specs.Made.{Makes, BreaksAsMaking};
 ghost use Rattle.joint_tables.specs.Tables.{EntersKey, IsLastText, IsPntr, LooksUp, NextInt, NextText, entries_of, last_int_key};
 ghost use Rattle.joint_tables.specs.table_lib.table_nodes.Sought.{IsTextHeld};
+ghost use Rattle.joint_held.specs.reach_commit.commit_walk.declared.homes.Source.{Source};
+ghost use Rattle.joint_held.specs.Held.{HoldsRun};
+ghost use Rattle.objects.specs.Entering.{EntersRun};
 
 use super::Objects;
 use joint_ops::OpFault;
@@ -170,6 +174,10 @@ impl Objects {
             → DenotesIn self.old (V.outside vault.old) names (Some key) (meant.Text bytes)
             → DenotesIn self.old (V.outside vault.old) names table v → DenotesIn self.old (V.outside vault.old) names to w → IsPntr w
             → EntersKey self.old self.new (V.outside vault.old) (V.outside vault.new) of names table v (string_key bytes) w result }
+        ensures run { (names : List Reference) (writing : List Source) (directory : Option ℕ) (h : Held) (bytes : List ℕ) (v w : meant.Value) → HoldsRun self.old (V.outside vault.old) names writing directory h
+            → DenotesIn self.old (V.outside vault.old) names (Some key) (meant.Text bytes)
+            → DenotesIn self.old (V.outside vault.old) names table v → DenotesIn self.old (V.outside vault.old) names to w → IsPntr w
+            → EntersRun self.old self.new (V.outside vault.old) (V.outside vault.new) names writing directory h v (string_key bytes) w result }
         ensures fails { BreaksAsReading (V.outside vault.old) (V.outside vault.new) result }
         ensures leaves { LeavesOutside (V.outside vault.old) (V.outside vault.new) }
         ensures numbers { SameNumbers V.used_words V.directory_at V.most_words V.access vault.old vault.new }
@@ -177,7 +185,9 @@ impl Objects {
         ensures stands { UnlessFault result (AllStand self.old self.new) }
         ensures size { UnlessFault result (self.new.size ≡ self.old.size) }
     {
+        self.sw.sound();
         let done = tables::enter_text(&mut self.sw, vault, key, table, to);
+        self.sw.sound();
         match done {
             Ok(()) => Ok(()),
             Err(fault) => Err(self.known.keep(fault)),
@@ -200,6 +210,9 @@ impl Objects {
         ensures entered { (of : meaning.Heap) (names : List Reference) (v w : meant.Value) → IsWorld self.old (V.outside vault.old) of names
             → DenotesIn self.old (V.outside vault.old) names table v → DenotesIn self.old (V.outside vault.old) names to w → IsPntr w
             → EntersKey self.old self.new (V.outside vault.old) (V.outside vault.new) of names table v (int_key key) w result }
+        ensures run { (names : List Reference) (writing : List Source) (directory : Option ℕ) (h : Held) (v w : meant.Value) → HoldsRun self.old (V.outside vault.old) names writing directory h
+            → DenotesIn self.old (V.outside vault.old) names table v → DenotesIn self.old (V.outside vault.old) names to w → IsPntr w
+            → EntersRun self.old self.new (V.outside vault.old) (V.outside vault.new) names writing directory h v (int_key key) w result }
         ensures fails { BreaksAsReading (V.outside vault.old) (V.outside vault.new) result }
         ensures leaves { LeavesOutside (V.outside vault.old) (V.outside vault.new) }
         ensures numbers { SameNumbers V.used_words V.directory_at V.most_words V.access vault.old vault.new }
@@ -207,7 +220,9 @@ impl Objects {
         ensures stands { UnlessFault result (AllStand self.old self.new) }
         ensures size { UnlessFault result (self.new.size ≡ self.old.size) }
     {
+        self.sw.sound();
         let done = tables::enter_int(&mut self.sw, vault, key, table, to);
+        self.sw.sound();
         match done {
             Ok(()) => Ok(()),
             Err(fault) => Err(self.known.keep(fault)),

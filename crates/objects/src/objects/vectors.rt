@@ -109,12 +109,11 @@ impl Objects {
         ensures set { (of : meaning.Heap) (names : List Reference) (id : ℕ) (v : meant.Value) → IsWorld self.old (V.outside vault.old) of names
             → DenotesIn self.old (V.outside vault.old) names (Some vector) (meant.Vector id) → IsOfForm (form_in of id) to
             → IsForIn self.old (V.outside vault.old) names to v
-            → Writes self.old self.new (V.outside vault.old) (V.outside vault.new) of names (meaning.with_element of (meant.Vector id) at v) result }
+            → Writes self.old self.new (V.outside vault.old) (V.outside vault.new) (meant.Vector id) of names (meaning.with_element of (meant.Vector id) at v) result }
         ensures kept { (of : meaning.Heap) (names : List Reference) (id : ℕ) (v : meant.Value) (stored : declared.Value) → IsWorld self.old (V.outside vault.old) of names
             → DenotesIn self.old (V.outside vault.old) names (Some vector) (meant.Vector id) → IsInt to → fitted (form_in of id) to ≡ Some stored
             → IsForIn self.old (V.outside vault.old) names to v
-            → Writes self.old self.new (V.outside vault.old) (V.outside vault.new) of names
-            (meaning.with_element of (meant.Vector id) at (meaning.kept_as (Some (form_in of id)) v)) result }
+            → Writes self.old self.new (V.outside vault.old) (V.outside vault.new) (meant.Vector id) of names (meaning.with_element of (meant.Vector id) at (meaning.kept_as (Some (form_in of id)) v)) result }
         ensures does { SetsElement self.old self.new (V.outside vault.old) (V.outside vault.new) vector at to result }
         ensures fails { BreaksAsReading (V.outside vault.old) (V.outside vault.new) result }
         ensures leaves { LeavesOutside (V.outside vault.old) (V.outside vault.new) }
@@ -408,12 +407,11 @@ fn write_element<V: Vault>(
     ensures set { (of : meaning.Heap) (names : List Reference) (id : ℕ) (v : meant.Value) → IsWorld sw.old (V.outside vault.old) of names
         → DenotesIn sw.old (V.outside vault.old) names (Some vector) (meant.Vector id) → IsOfForm (form_in of id) to
         → IsForIn sw.old (V.outside vault.old) names to v
-        → Writes sw.old sw.new (V.outside vault.old) (V.outside vault.new) of names (meaning.with_element of (meant.Vector id) at v) result }
+        → Writes sw.old sw.new (V.outside vault.old) (V.outside vault.new) (meant.Vector id) of names (meaning.with_element of (meant.Vector id) at v) result }
     ensures kept { (of : meaning.Heap) (names : List Reference) (id : ℕ) (v : meant.Value) (stored : declared.Value) → IsWorld sw.old (V.outside vault.old) of names
         → DenotesIn sw.old (V.outside vault.old) names (Some vector) (meant.Vector id) → IsInt to → fitted (form_in of id) to ≡ Some stored
         → IsForIn sw.old (V.outside vault.old) names to v
-        → Writes sw.old sw.new (V.outside vault.old) (V.outside vault.new) of names
-        (meaning.with_element of (meant.Vector id) at (meaning.kept_as (Some (form_in of id)) v)) result }
+        → Writes sw.old sw.new (V.outside vault.old) (V.outside vault.new) (meant.Vector id) of names (meaning.with_element of (meant.Vector id) at (meaning.kept_as (Some (form_in of id)) v)) result }
     ensures right { IsRight sw.new known.new }
     ensures does { SetsElement sw.old sw.new (V.outside vault.old) (V.outside vault.new) vector at to result }
     ensures fails { BreaksAsReading (V.outside vault.old) (V.outside vault.new) result }

@@ -1,5 +1,6 @@
 use Rattle.joint_ops.specs.swizzle.Text.{text_at}
 use Rattle.db_dir.proofs.EntryLaws.{reads-after, fails-after}
+use Rattle.db_dir.proofs.GainLaws.{by-after}
 use Rattle.db_dir.proofs.AdmitLaws.{found-finds, found-opens}
 use Rattle.db_dir.proofs.admit.admit_in.Goals as goal
 
@@ -24,3 +25,8 @@ pub returns-in-Some-clause-fails : goal.returns-in-Some-clause-fails
 returns-in-Some-clause-fails g c =
     fails-after c.args.sw.now c.find.new.sw (g.V.Vault.outside c.args.vault.now) (g.V.Vault.outside c.find.new.vault) (g.V.Vault.outside c.open_at.new.vault)
     c.open_at.result c.in_ok-found.ensures.reads c.open_at.ensures.fails
+
+pub returns-in-Some-clause-gains : goal.returns-in-Some-clause-gains
+returns-in-Some-clause-gains g c =
+    by-after c.args.sw.now c.find.new.sw c.open_at.new.sw (g.V.Vault.outside c.args.vault.now) (g.V.Vault.outside c.find.new.vault)
+    (g.V.Vault.outside c.open_at.new.vault) c.args.directory c.open_at.result c.requires.directory.held c.in_ok-found.ensures.reads c.in_ok-found.ensures.gains c.open_at.ensures.gains

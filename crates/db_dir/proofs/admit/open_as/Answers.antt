@@ -1,5 +1,6 @@
 use Rattle.std.proofs.Common.{arith, inr}
 use Rattle.db_dir.proofs.EntryLaws.{some-none}
+use Rattle.db_dir.proofs.GainLaws.{by-none}
 use Rattle.db_dir.proofs.ShapeLaws.{refs-few}
 use Rattle.db_dir.proofs.admit.open_as.Goals as goal
 
@@ -17,3 +18,6 @@ returns-in-Err-clause-opens g c = record { place = c.args.place; below = omega a
 
 pub returns-in_default-clause-reads : goal.returns-in_default-clause-reads
 returns-in_default-clause-reads g c = some-none c.args.sw.now (g.V.Vault.outside c.args.vault.now)
+
+pub returns-in_default-clause-gains : goal.returns-in_default-clause-gains
+returns-in_default-clause-gains g c = by-none c.args.sw.now (g.V.Vault.outside c.args.vault.now) _ c.sound.ensures

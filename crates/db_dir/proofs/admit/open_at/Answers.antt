@@ -1,6 +1,7 @@
 use Rattle.std.proofs.Common.{arith, inl, inr, ◌-◌}
 use Rattle.joint_ops.specs.swizzle.Text.{text_at}
 use Rattle.db_dir.proofs.EntryLaws.{reads-after, fails-after}
+use Rattle.db_dir.proofs.GainLaws.{by-after}
 use Rattle.db_dir.proofs.ShapeLaws.{refs-few}
 use Rattle.db_dir.proofs.AdmitLaws.{takes-opens}
 use Rattle.db_dir.proofs.admit.open_at.Goals as goal
@@ -30,3 +31,8 @@ returns-then-same-clause-fails g c =
 
 pub returns-in-Err-clause-opens : goal.returns-in-Err-clause-opens
 returns-in-Err-clause-opens g c = record { place = c.args.number - 1; below = omega arith; why = inr (inl c.in-Err.ensures.compared) }
+
+pub returns-then-same-clause-gains : goal.returns-then-same-clause-gains
+returns-then-same-clause-gains g c =
+    by-after c.args.sw.now c.has_text-same.new.sw c.open_as.new.sw (g.V.Vault.outside c.args.vault.now) (g.V.Vault.outside c.has_text-same.new.vault)
+    (g.V.Vault.outside c.open_as.new.vault) c.args.directory c.open_as.result c.requires.held c.in-Ok.ensures.reads c.in-Ok.ensures.gains c.open_as.ensures.gains

@@ -4,6 +4,8 @@ use Rattle.joint_ops.specs.obj_layout.declared.header.Header.{Header}
 use Rattle.joint_ops.proofs.of_swizzle.ReadingLaws.{leaves-touch, fails-touch}
 use Rattle.joint_ops.proofs.of_heap_places.PlaceLaws.{fails-damage}
 use Rattle.db_dir.proofs.EntryLaws.{entry-there, entry-reads, entry-other, entry-nil, entry-unfetched}
+use Rattle.joint_ops.proofs.of_heap_places.PlaceLaws.{reads-slot}
+use Rattle.db_dir.proofs.GainLaws.{slot-gains}
 use Rattle.db_dir.proofs.entry.touch_entry.Goals as goal
 
 pub returns-then-is_kind-clause-touched : goal.returns-then-is_kind-clause-touched
@@ -53,3 +55,13 @@ returns-in-Err-clause-touched g c =
 pub returns-in-Err-clause-fails : goal.returns-in-Err-clause-fails
 returns-in-Err-clause-fails g c =
     fails-touch c.args.sw.now c.touch_slot.new.self (g.V.Vault.outside c.args.vault.now) (g.V.Vault.outside c.touch_slot.new.vault) c.in-Err.fault c.in-Err.ensures.call
+
+pub returns-then-is_kind-clause-gains : goal.returns-then-is_kind-clause-gains
+returns-then-is_kind-clause-gains g c =
+    let e = c.in-Ok-Some.ensures in
+    let old = c.args.sw.now in
+    let new = c.touch_slot.new.self in
+    let a = g.V.Vault.outside c.args.vault.now in
+    let b = g.V.Vault.outside c.touch_slot.new.vault in
+    slot-gains old new a b c.args.object c.args.slot c.sound.ensures c.sound-in-Ok-Some.ensures
+    (reads-slot old new a b c.args.object c.args.slot c.in-Ok-Some.field-0 e.keeps e.joint (λ near. (e.near near).0) e.only e.call)

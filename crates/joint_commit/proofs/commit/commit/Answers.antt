@@ -1,4 +1,5 @@
 use Rattle.ps_code_laws.specs.Compiled.{compiled_held}
+use Rattle.joint_held.proofs.StoreLaws.{one-store}
 use Rattle.joint_commit.proofs.SaveLaws.{commits-run, keeps-run}
 use Rattle.joint_commit.proofs.commit.commit.Goals as goal
 
@@ -8,6 +9,7 @@ returns-clause-run g c names h holds owed =
     let before = c.args.vault.now in
     let after = c.commit-answer.new.vault in
     commits-run c.args.sw.now c.commit-answer.new.sw (outside before) (outside after) names c.args.writing.now c.args.directory h (g.V.Vault.used_words before) (g.V.Vault.used_words after)
-    (g.V.Vault.most_words before) (g.V.Vault.directory_at after) c.sound.ensures c.sound-2.ensures (g.met.V.Vault.one before) (g.met.V.Vault.one after) c.requires.directory holds owed
+    (g.V.Vault.most_words before) (g.V.Vault.directory_at after) c.sound.ensures c.sound-2.ensures
+    (one-store (outside after) (g.V.Vault.used_words after) (g.V.Vault.directory_at after) (g.met.V.Vault.one after) (g.met.V.Vault.space after)) c.requires.directory holds owed
     c.commit-answer.result c.commit-answer.ensures.decides c.commit-answer.ensures.stores
     (keeps-run outside c.args.sw.now c.commit-answer.new.sw before after names c.args.writing.now c.args.directory (compiled_held h) c.commit-answer.result holds c.commit-answer.ensures.still)

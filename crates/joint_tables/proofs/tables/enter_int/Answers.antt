@@ -23,7 +23,7 @@ returns-clause-entered g c of names v w world d dw pntr =
     (λ pid words there. pid-low before (g.V.Vault.used_words c.args.vault.now) (g.V.Vault.directory_at c.args.vault.now) pid words
     (g.met.V.Vault.space c.args.vault.now) (g.met.V.Vault.bounds c.args.vault.now).1 there)
     by_ints c.args.key c.args.table v c.enter_int-done.result d
-    (changes-fail before after new c.args.table c.enter_int-done.result leaves c.enter_int-done.ensures.fault) c.enter_int-done.ensures.spares c.enter_int-done.ensures.still c.args.to w pntr dw
+    (changes-fail before after new c.args.table c.enter_int-done.result leaves c.enter_int-done.ensures.fault) c.enter_int-done.ensures.spares c.enter_int-done.ensures.still (λ t e. (c.enter_int-done.ensures.trapped t e).0) c.args.to w pntr dw
     (subst (λ (z : ℤ). Enters by_ints (place old before) (place new after) c.args.table z c.args.to c.enter_int-done.result)
     (int_same c.args.key (fits-int c.args.key c.ranges.key)) c.enter_int-done.ensures.entered)
 

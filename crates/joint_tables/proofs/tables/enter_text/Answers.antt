@@ -20,7 +20,7 @@ returns-clause-entered g c of names bytes v w world dk d dw pntr =
     (λ pid words there. pid-low before (g.V.Vault.used_words c.args.vault.now) (g.V.Vault.directory_at c.args.vault.now) pid words
     (g.met.V.Vault.space c.args.vault.now) (g.met.V.Vault.bounds c.args.vault.now).1 there)
     by_texts bytes c.args.table v c.enter_text-done.result d
-    (changes-fail before after new c.args.table c.enter_text-done.result leaves c.enter_text-done.ensures.fault) c.enter_text-done.ensures.spares c.enter_text-done.ensures.still c.args.to w pntr dw
+    (changes-fail before after new c.args.table c.enter_text-done.result leaves c.enter_text-done.ensures.fault) c.enter_text-done.ensures.spares c.enter_text-done.ensures.still (λ t e. (c.enter_text-done.ensures.trapped t e).0) c.args.to w pntr dw
     (subst (λ (b : List ℕ). Enters by_texts (place old before)
     (place new after) c.args.table b c.args.to c.enter_text-done.result) same c.enter_text-done.ensures.entered)
 

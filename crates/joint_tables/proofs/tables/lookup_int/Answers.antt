@@ -4,7 +4,7 @@ use Rattle.table_lib.specs.table_nodes.Steps.{place}
 use Rattle.table_lib.specs.table_nodes.node_rows.Keys.{by_ints}
 use Rattle.table_lib.specs.Operations.{LooksUp}
 use Rattle.joint_tables.proofs.SeenLaws.{alive-unless, both, reads-fail}
-use Rattle.joint_tables.proofs.ReadLaws.{looked-up}
+use Rattle.joint_tables.proofs.ReadLaws.{looked-up, read-gains}
 use Rattle.std.proofs.Common.{ℤ, subst}
 use Rattle.table_lib.specs.Operations.{LooksUp}
 use Rattle.table_lib.specs.table_nodes.Steps.{place}
@@ -20,7 +20,9 @@ returns-clause-looked g c of names v world d =
     let new = c.lookup_int-found.new.sw in
     let grows = both (Grows old new before after) c.lookup_int-found.result c.lookup_int-found.ensures.grows c.lookup_int-found.ensures.still in
     let fails = reads-fail before after new c.args.table c.lookup_int-found.result grows.leaves c.lookup_int-found.ensures.fault in
-    looked-up old new before after of names c.sound.ensures world grows by_ints c.args.key c.args.table v c.lookup_int-found.result fails
+    let gains = read-gains old new before after of names c.sound.ensures world grows by_ints _ _ c.args.table v c.lookup_int-found.result
+    c.lookup_int-found.ensures.looked c.lookup_int-found.ensures.fetched (λ t e. (c.lookup_int-found.ensures.trapped t e).0) d in
+    looked-up old new before after of names c.sound.ensures world grows by_ints c.args.key c.args.table v c.lookup_int-found.result fails gains
     (subst (λ (z : ℤ). LooksUp by_ints (place old before) new c.args.table z c.lookup_int-found.result)
     (int_same c.args.key (fits-int c.args.key c.ranges.key)) c.lookup_int-found.ensures.looked) d
 

@@ -5,7 +5,7 @@ use Rattle.table_lib.specs.table_nodes.Steps.{place}
 use Rattle.table_lib.specs.table_nodes.node_rows.Keys.{by_texts}
 use Rattle.table_lib.specs.Operations.{LooksUp}
 use Rattle.joint_tables.proofs.SeenLaws.{alive-unless, both, reads-fail}
-use Rattle.joint_tables.proofs.ReadLaws.{looked-up}
+use Rattle.joint_tables.proofs.ReadLaws.{looked-up, read-gains}
 use Rattle.joint_tables.proofs.tables.lookup_text.Goals as goal
 
 pub returns-clause-looked : goal.returns-clause-looked
@@ -16,8 +16,10 @@ returns-clause-looked g c of names bytes v world dk d =
     let new = c.lookup_text-found.new.sw in
     let grows = both (Grows old new before after) c.lookup_text-found.result c.lookup_text-found.ensures.grows c.lookup_text-found.ensures.still in
     let fails = reads-fail before after new c.args.table c.lookup_text-found.result grows.leaves c.lookup_text-found.ensures.fault in
+    let gains = read-gains old new before after of names c.sound.ensures world grows by_texts _ _ c.args.table v c.lookup_text-found.result
+    c.lookup_text-found.ensures.looked c.lookup_text-found.ensures.fetched (λ t e. (c.lookup_text-found.ensures.trapped t e).0) d in
     let same = (text-denoted old before names c.args.key bytes c.sound.ensures dk).bytes_are in
-    looked-up old new before after of names c.sound.ensures world grows by_texts bytes c.args.table v c.lookup_text-found.result fails
+    looked-up old new before after of names c.sound.ensures world grows by_texts bytes c.args.table v c.lookup_text-found.result fails gains
     (subst (λ (b : List ℕ). LooksUp by_texts
     (place old before) new c.args.table b c.lookup_text-found.result) same c.lookup_text-found.ensures.looked) d
 

@@ -1,7 +1,8 @@
 use Rattle.std.proofs.Common.{sym, subst}
 use Rattle.table_lib.specs.table_nodes.Nodes.{Grows}
+use Rattle.table_lib.specs.table_nodes.node_rows.Keys.{by_ints}
 use Rattle.joint_tables.proofs.SeenLaws.{alive-unless, both, reads-fail}
-use Rattle.joint_tables.proofs.ReadLaws.{next-ints}
+use Rattle.joint_tables.proofs.ReadLaws.{next-ints, read-gains}
 use Rattle.joint_tables.proofs.tables.next_int.Goals as goal
 
 pub returns-clause-next : goal.returns-clause-next
@@ -12,7 +13,9 @@ returns-clause-next g c of names v world d =
     let new = c.next_int-found.new.sw in
     let grows = both (Grows old new before after) c.next_int-found.result c.next_int-found.ensures.grows c.next_int-found.ensures.still in
     let fails = reads-fail before after new c.args.table c.next_int-found.result grows.leaves c.next_int-found.ensures.fault in
-    next-ints old new before after of names c.sound.ensures world grows c.args.after c.args.table v c.next_int-found.result fails c.next_int-found.ensures.next d
+    let gains = read-gains old new before after of names c.sound.ensures world grows by_ints _ _ c.args.table v c.next_int-found.result
+    c.next_int-found.ensures.next c.next_int-found.ensures.fetched (λ t e. (c.next_int-found.ensures.trapped t e).0) d in
+    next-ints old new before after of names c.sound.ensures world grows c.args.after c.args.table v c.next_int-found.result fails gains c.next_int-found.ensures.next d
 
 pub returns-clause-keeps : goal.returns-clause-keeps
 returns-clause-keeps g c =

@@ -1,7 +1,8 @@
 use Rattle.std.proofs.Common.{sym, subst}
 use Rattle.table_lib.specs.table_nodes.Nodes.{Grows}
+use Rattle.table_lib.specs.table_nodes.node_rows.Keys.{by_texts}
 use Rattle.joint_tables.proofs.SeenLaws.{alive-unless, both, reads-fail}
-use Rattle.joint_tables.proofs.ReadLaws.{last-text, next-texts}
+use Rattle.joint_tables.proofs.ReadLaws.{last-text, next-texts, read-gains}
 use Rattle.joint_tables.proofs.tables.next_text.Goals as goal
 
 pub returns-clause-next : goal.returns-clause-next
@@ -12,7 +13,9 @@ returns-clause-next g c of names last v world l d =
     let new = c.next_text-found.new.sw in
     let grows = both (Grows old new before after) c.next_text-found.result c.next_text-found.ensures.grows c.next_text-found.ensures.still in
     let fails = reads-fail before after new c.args.table c.next_text-found.result grows.leaves c.next_text-found.ensures.fault in
-    next-texts old new before after of names c.sound.ensures world grows last _ c.args.table v c.next_text-found.result fails
+    let gains = read-gains old new before after of names c.sound.ensures world grows by_texts _ _ c.args.table v c.next_text-found.result
+    c.next_text-found.ensures.next c.next_text-found.ensures.fetched (λ t e. (c.next_text-found.ensures.trapped t e).0) d in
+    next-texts old new before after of names c.sound.ensures world grows last _ c.args.table v c.next_text-found.result fails gains
     (last-text old new before after of names c.sound.ensures world grows c.args.after last l) c.next_text-found.ensures.next d
 
 pub returns-clause-keeps : goal.returns-clause-keeps

@@ -8,7 +8,6 @@ use Rattle.machine_core.specs.ps_stepping.Steps.{push_ref}
 use Rattle.machine_core.specs.ps_stepping.Objects.{having}
 use Rattle.machine_core.proofs.Failing.{failing-behind, whole-failing}
 use Rattle.machine_core.specs.joint_ops.World.{IsForIn, IsOfForm}
-use Rattle.machine_operands.proofs.Giving.{answers-find}
 use Rattle.machine_operands.proofs.Parts.{after-trap}
 use Rattle.machine_operands.proofs.Reading.{names-kept}
 use Rattle.machine_structures.specs.declared.traps.Row.TheVariants.{References}
@@ -32,9 +31,7 @@ returns-in-Ok-clause-takes g c =
     value-takes References (λ w d. push_ref w (having (reading w) d)) c.args.k c.args.n c.args.line (g.V.Vault.outside v) (g.V.Vault.outside w) c.args.m.now c.pop_any.new.m
     c.get_field-got.new.self p.leaves c.in-Some.object (p.pops v) c.in-Ok.value (IsNear c.get_field-got.new.self) c.give_reference.new.m
     c.give_reference.result got.got got.damaged got.keeps got.near
-    give.ends (λ names d f attempt held got. give.does c.pop_any.new.m.objects names d f attempt c.in-Ok.ensures.leaves held
-    (answers-find (λ k u. IsOfForm f k × IsForIn c.get_field-got.new.self (g.V.Vault.outside w) names k u) c.pop_any.new.m.objects c.get_field-got.new.self
-    (g.V.Vault.outside v) (g.V.Vault.outside w) d.store.held.objects names attempt (Ok c.in-Ok.value) got))
+    give.ends (λ names d f attempt held got. give.does c.pop_any.new.m.objects names d f attempt c.in-Ok.ensures.leaves held got)
 
 pub returns-in-Ok-clause-fails : goal.returns-in-Ok-clause-fails
 returns-in-Ok-clause-fails g c =

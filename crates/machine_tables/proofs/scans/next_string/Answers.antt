@@ -1,8 +1,9 @@
 use Rattle.std.proofs.Common.{◌≡◌, true, rules, subst}
 use Rattle.std.specs.Prelude.{Err}
+use Rattle.machine_core.specs.joint_ops.World.{Answers}
 use Rattle.machine_core.specs.heap_texts.declared.fault.OpFault.TheVariants as op
 use Rattle.machine_core.specs.ps_heap.Scans.{next_key}
-use Rattle.joint_tables.specs.Tables.{AreFoundText, Finds}
+use Rattle.joint_tables.specs.Tables.{AreFoundText}
 use Rattle.machine_tables.specs.inside.Scanning.{AreTableAndText}
 use Rattle.machine_tables.proofs.Going.{scan-broken, scan-found, scan-trapped}
 use Rattle.machine_tables.proofs.scans.next_string.Goals as goal
@@ -35,7 +36,7 @@ returns-in-Err-Trap-clause-follows g c =
     let did = c.trapped in
     scan-trapped true c.args.scan out after m did.new.m now did.result c.requires.names next.ensures.leaves next.ensures.keeps (λ names found f. AreFoundText now after names found f)
     (AreTableAndText m.objects out c.args.table c.args.after) (λ a. a.table) (λ a. a.key) c.in-Err-Trap.trap
-    (λ heap names a world d. subst (Finds m.objects now out after (AreFoundText now after names) heap names (next_key true heap a.table a.key)) is (next.ensures.next heap names a.key a.table world d.key_is d.table_is))
+    (λ heap names a world d. subst (Answers m.objects now out after (AreFoundText now after names) heap names (next_key true heap a.table a.key)) is (next.ensures.next heap names a.key a.table world d.key_is d.table_is))
     (did.ensures.takes v).sound did.ensures.answer did.ensures.left
 
 pub returns-in-Err-Swizzle-clause-follows : goal.returns-in-Err-Swizzle-clause-follows
@@ -51,5 +52,5 @@ returns-in-Err-Swizzle-clause-follows g c =
     let did = c.broke in
     scan-broken true c.args.scan out after m did.new.m now did.result c.requires.names next.ensures.leaves next.ensures.keeps (λ names found f. AreFoundText now after names found f)
     (AreTableAndText m.objects out c.args.table c.args.after) (λ a. a.table) (λ a. a.key) c.in-Err-Swizzle.fault
-    (λ heap names a world d. subst (Finds m.objects now out after (AreFoundText now after names) heap names (next_key true heap a.table a.key)) is (next.ensures.next heap names a.key a.table world d.key_is d.table_is))
+    (λ heap names a world d. subst (Answers m.objects now out after (AreFoundText now after names) heap names (next_key true heap a.table a.key)) is (next.ensures.next heap names a.key a.table world d.key_is d.table_is))
     did.ensures.answer (did.ensures.breaks v w)

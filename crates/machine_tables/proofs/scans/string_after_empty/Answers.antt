@@ -1,11 +1,12 @@
 use Rattle.std.proofs.Common.{◌≡◌, ℕ, true, List, [], ◌∷◌, length, refl, Some, None, ap, arith, rules, subst}
 use Rattle.std.specs.Prelude.{Ok, Err}
+use Rattle.machine_core.specs.joint_ops.World.{Answers}
 use Rattle.machine_core.specs.heap_texts.declared.fault.OpFault.TheVariants as op
 use Rattle.machine_core.specs.ps_heap.Scans.{next_key}
 use Rattle.machine_core.specs.ps_heap.Tables.{string_key}
 use Rattle.machine_core.proofs.Failing.{failing-behind}
 use Rattle.machine_operands.proofs.Reading.{names-kept}
-use Rattle.joint_tables.specs.Tables.{AreFoundText, Finds}
+use Rattle.joint_tables.specs.Tables.{AreFoundText}
 use Rattle.machine_tables.specs.inside.Operands.{IsTable}
 use Rattle.machine_tables.proofs.Going.{above-none, above-some, above-trap, empty-follows, scan-broken, scan-found, scan-trapped}
 use Rattle.machine_tables.proofs.scans.string_after_empty.Goals as goal
@@ -34,7 +35,7 @@ returns-in-Ok-None-clause-follows g c =
     scan-found true c.args.scan out after m did.new.m now did.result c.requires.names least.ensures.leaves least.ensures.keeps (λ names found f. AreFoundText now after names found f)
     (IsTable m.objects out c.args.table) (λ a. a) (λ a. Some (string_key [])) None
     (λ heap names a world d. above-none out after m now heap names a
-    (subst (Finds m.objects now out after (AreFoundText now after names) heap names (next_key true heap a None)) is (least.ensures.next heap names None a world tt d.table_is)))
+    (subst (Answers m.objects now out after (AreFoundText now after names) heap names (next_key true heap a None)) is (least.ensures.next heap names None a world tt d.table_is)))
     (did.ensures.goes_on w)
 
 pub returns-else-text_length-eq0-clause-follows : goal.returns-else-text_length-eq0-clause-follows
@@ -54,7 +55,7 @@ returns-else-text_length-eq0-clause-follows g c =
     (IsTable m.objects out c.args.table) (λ a. a) (λ a. Some (string_key [])) (Some (key, object))
     (λ heap names a world d. above-some out after m now heap names a key object
     (λ bytes denotes empty. let long = c.if-text_length-eq0.false in let count = c.text_length.ensures.value w names bytes denotes in let none = ap length empty in omega (arith, long, count, none))
-    (subst (Finds m.objects now out after (AreFoundText now after names) heap names (next_key true heap a None)) is (least.ensures.next heap names None a world tt d.table_is)))
+    (subst (Answers m.objects now out after (AreFoundText now after names) heap names (next_key true heap a None)) is (least.ensures.next heap names None a world tt d.table_is)))
     (did.ensures.goes_on w)
 
 pub returns-then-text_length-eq0-clause-follows : goal.returns-then-text_length-eq0-clause-follows
@@ -72,7 +73,7 @@ returns-then-text_length-eq0-clause-follows g c =
     let did = c.next_string in
     empty-follows c.args.scan out mid (g.V.Vault.outside did.new.vault) m did.new.m now did.result c.args.table key object least.ensures.leaves least.ensures.keeps
     (λ heap names a world d.
-    subst (Finds m.objects now out mid (AreFoundText now mid names) heap names (next_key true heap a None)) is (least.ensures.next heap names None a world tt d))
+    subst (Answers m.objects now out mid (AreFoundText now mid names) heap names (next_key true heap a None)) is (least.ensures.next heap names None a world tt d))
     (λ names bytes denotes. no-bytes bytes (let none = c.if-text_length-eq0.true in let count = c.text_length.ensures.value w names bytes denotes in omega (arith, none, count)))
     did.ensures.follows
 
@@ -98,7 +99,7 @@ returns-in-Err-Trap-clause-follows g c =
     scan-trapped true c.args.scan out after m did.new.m now did.result c.requires.names least.ensures.leaves least.ensures.keeps (λ names found f. AreFoundText now after names found f)
     (IsTable m.objects out c.args.table) (λ a. a) (λ a. Some (string_key [])) trap
     (λ heap names a world d. above-trap out after m now heap names a trap
-    (subst (Finds m.objects now out after (AreFoundText now after names) heap names (next_key true heap a None)) is (least.ensures.next heap names None a world tt d.table_is)))
+    (subst (Answers m.objects now out after (AreFoundText now after names) heap names (next_key true heap a None)) is (least.ensures.next heap names None a world tt d.table_is)))
     (did.ensures.takes v).sound did.ensures.answer did.ensures.left
 
 pub returns-in-Err-Swizzle-clause-follows : goal.returns-in-Err-Swizzle-clause-follows
@@ -116,5 +117,5 @@ returns-in-Err-Swizzle-clause-follows g c =
     scan-broken true c.args.scan out after m did.new.m now did.result c.requires.names least.ensures.leaves least.ensures.keeps (λ names found f. AreFoundText now after names found f)
     (IsTable m.objects out c.args.table) (λ a. a) (λ a. Some (string_key [])) fault
     (λ heap names a world d.
-    subst (Finds m.objects now out after (AreFoundText now after names) heap names (next_key true heap a None)) is (least.ensures.next heap names None a world tt d.table_is))
+    subst (Answers m.objects now out after (AreFoundText now after names) heap names (next_key true heap a None)) is (least.ensures.next heap names None a world tt d.table_is))
     did.ensures.answer (did.ensures.breaks v w)

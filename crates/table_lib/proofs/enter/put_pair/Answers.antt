@@ -1,5 +1,6 @@
 use Rattle.std.proofs.Common.{arith, ◌+◌, ◌*◌, ◌≡◌, Some, None, Ok, refl, ap, subst, inr}
 use Rattle.table_nodes.specs.heap_places.swizzle.Joint.{name_at}
+use Rattle.table_nodes.proofs.FetchLaws.{arrives_fetches}
 use Rattle.table_nodes.proofs.of_heap_places.of_swizzle.NameLaws.{name-not_nil}
 use Rattle.table_nodes.specs.avl_trees.Trees.{items, lookup}
 use Rattle.table_nodes.specs.avl_trees.Standing.{seek}
@@ -57,7 +58,7 @@ returns-clause-put g c t p h low =
     let is_made : c.in-Ok-enter.entered.made ≡ is_missing (lookup (seek (order_by ks) key) t) =
     subst (λ k. c.in-Ok-enter.entered.made ≡ is_missing (lookup (seek (order_by ks) k) t)) same_key (c.in-Ok-enter.ensures.counted t tree (within_all ks m.heap (items t)) lower) in
     let wrote = subst (λ k. WritesTable k m1.heap m2.heap m1.outside c.args.at (Some c.in-Ok-enter.entered.root) c.count_with-count.result) c.kind_of_key.ensures c.write_table.ensures.written in
-    pair_entered ks old m m1 m2 c.args.at (Some c.in-Ok-enter.entered.root) c.count_with-count.result c.requires.table c.in-Ok.ensures.keeps c.in-Ok.ensures.grows c.in-Ok-enter.ensures.spares wrote refl p (c.in-Ok.ensures.fetched ks t h) c.write_table.ensures.spares c.write_table.ensures.none
+    pair_entered ks old m m1 m2 c.args.at (Some c.in-Ok-enter.entered.root) c.count_with-count.result c.requires.table c.in-Ok.ensures.keeps c.in-Ok.ensures.grows c.in-Ok-enter.ensures.spares wrote refl p (arrives_fetches ks old.heap m.heap old.outside c.in-Ok.ensures.grows.heap (c.in-Ok.ensures.fetched ks t h)) c.write_table.ensures.spares c.write_table.ensures.none
     key t h value (name-not_nil old.heap c.args.value) c.num-count.result c.in-Ok-enter.entered.made c.in-Ok-enter.entered refl w is_made c.num-count.ensures low c.count_with-count.ensures.more c.count_with-count.ensures.same
 
 pub returns-clause-spares : goal.returns-clause-spares

@@ -5,6 +5,7 @@ use Rattle.table_nodes.specs.node_rows.Keys.{order_by}
 use Rattle.table_nodes.specs.Sought.{kind_of, key_in}
 use Rattle.table_nodes.specs.Steps.{place}
 use Rattle.table_nodes.specs.Entering.{is_missing}
+use Rattle.table_nodes.proofs.FetchLaws.{arrives_fetches}
 use Rattle.table_nodes.proofs.SeenLaws.{fetch_back}
 use Rattle.table_nodes.proofs.Removal.{removed_as}
 use Rattle.table_nodes.proofs.SoughtLaws.{key_in_kept}
@@ -48,7 +49,7 @@ returns-clause-taken g c t p h =
     let is_gone : c.in-Ok-remove.removed.gone ≢ is_missing (lookup (seek (order_by ks) key) t) =
     subst (λ k. c.in-Ok-remove.removed.gone ≢ is_missing (lookup (seek (order_by ks) k) t)) same_key (c.in-Ok-remove.ensures.counted t tree (within_all ks m.heap (items t)) lower) in
     let wrote = subst (λ k. WritesTable k m1.heap m2.heap m1.outside c.args.at c.in-Ok-remove.removed.root c.count_without-count.result) c.kind_of_key.ensures c.write_table.ensures.written in
-    key_taken ks old m m1 m2 c.args.at c.in-Ok-remove.removed.root c.count_without-count.result c.requires.table c.in-Ok.ensures.keeps c.in-Ok.ensures.grows c.in-Ok-remove.ensures.spares wrote refl p (c.in-Ok.ensures.fetched ks t h) c.write_table.ensures.spares c.write_table.ensures.none
+    key_taken ks old m m1 m2 c.args.at c.in-Ok-remove.removed.root c.count_without-count.result c.requires.table c.in-Ok.ensures.keeps c.in-Ok.ensures.grows c.in-Ok-remove.ensures.spares wrote refl p (arrives_fetches ks old.heap m.heap old.outside c.in-Ok.ensures.grows.heap (c.in-Ok.ensures.fetched ks t h)) c.write_table.ensures.spares c.write_table.ensures.none
     key t h c.num-count.result c.in-Ok-remove.removed.gone w is_gone c.num-count.ensures c.count_without-count.ensures.fewer c.count_without-count.ensures.same
 
 pub returns-clause-spares : goal.returns-clause-spares

@@ -10,6 +10,8 @@ use Rattle.table_nodes.proofs.SeenLaws.{fetch_back}
 use Rattle.table_nodes.proofs.SoughtLaws.{key_in_kept}
 use Rattle.table_nodes.proofs.StepLaws.{touches_then}
 use Rattle.table_lib.specs.Operations.{Opens}
+use Rattle.table_nodes.proofs.FetchLaws.{arrives_then}
+use Rattle.table_lib.proofs.FetchLaws.{fetches_failed, fetches_none, fetches_used}
 use Rattle.table_lib.proofs.RootLaws.{pairs_of, tree_of, tree_low, found_items, values_grown}
 use Rattle.table_lib.proofs.UseLaws.{uses_refused, uses_unused, uses_used}
 use Rattle.table_nodes.specs.heap_places.swizzle.Heap.{num_at}
@@ -101,3 +103,28 @@ returns-in-Err-lookup-clause-fault g c = inr (node_fault_back (g.V.Vault.outside
 
 pub returns-in-Ok-lookup-clause-keeps : goal.returns-in-Ok-lookup-clause-keeps
 returns-in-Ok-lookup-clause-keeps g c = keeps-trans _ _ _ c.in-Ok-counted_root.ensures.keeps c.in-Ok-lookup.ensures.keeps
+
+pub returns-in-Err-clause-fetched : goal.returns-in-Err-clause-fetched
+returns-in-Err-clause-fetched g c = fetches_failed (kind_of c.args.key) (place c.args.sw.now (g.V.Vault.outside c.args.vault.now)) c.args.table c.args.sw.now c.in-Err.fault
+
+pub returns-then-not-opened-clause-fetched : goal.returns-then-not-opened-clause-fetched
+returns-then-not-opened-clause-fetched g c = fetches_none (kind_of c.args.key) (place c.args.sw.now (g.V.Vault.outside c.args.vault.now)) c.args.table _
+
+pub returns-in-Err-counted_root-clause-fetched : goal.returns-in-Err-counted_root-clause-fetched
+returns-in-Err-counted_root-clause-fetched g c = fetches_failed (kind_of c.args.key) (place c.args.sw.now (g.V.Vault.outside c.args.vault.now)) c.args.table c.counted_root.new.sw (Swizzle c.in-Err-counted_root.fault)
+
+pub returns-in-Err-lookup-clause-fetched : goal.returns-in-Err-lookup-clause-fetched
+returns-in-Err-lookup-clause-fetched g c = fetches_failed (kind_of c.args.key) (place c.args.sw.now (g.V.Vault.outside c.args.vault.now)) c.args.table c.lookup.new.sw (Swizzle c.in-Err-lookup.fault)
+
+pub returns-in-Ok-lookup-clause-fetched : goal.returns-in-Ok-lookup-clause-fetched
+returns-in-Ok-lookup-clause-fetched g c =
+    let ks = kind_of c.args.key in
+    let old = place c.args.sw.now (g.V.Vault.outside c.args.vault.now) in
+    let m = place c.counted_root.new.sw (g.V.Vault.outside c.counted_root.new.vault) in
+    let new = place c.lookup.new.sw (g.V.Vault.outside c.lookup.new.vault) in
+    let has : c.in-Ok.opened.used ≡ true = grind (arith, c.if-not-opened.false) in
+    fetches_used ks old c.args.table new.heap _ c.in-Ok.opened has c.in-Ok.ensures.opens c.in-Ok-lookup.found (λ t h all.
+    let tree = tree_of ks old m c.in-Ok.opened.at t c.in-Ok-counted_root.root c.in-Ok-counted_root.ensures.grows h (c.in-Ok-counted_root.ensures.root ks t (pairs_of ks old c.in-Ok.opened.at t h)) in
+    let low = tree_low ks old c.in-Ok.opened.at t c.num.result (2 * c.bits.result + 1) h c.num.ensures c.num.type_inv (ap (λ b. 2 * b + 1) c.bits.ensures.value) in
+    arrives_then old.heap m.heap new.heap old.outside m.outside new.outside c.in-Ok-counted_root.ensures.grows c.in-Ok-lookup.ensures.grows (c.in-Ok-counted_root.ensures.fetched ks t (pairs_of ks old c.in-Ok.opened.at t h))
+    (c.in-Ok-lookup.ensures.fetched t tree low (values_grown ks old m (items t) c.in-Ok-counted_root.ensures.grows all)))

@@ -28,3 +28,9 @@ returns-in-Err-clause-brings g c = brings_none c.args.sw.now 1
 
 pub returns-in-Err-clause-still : goal.returns-in-Err-clause-still
 returns-in-Err-clause-still g c = grows_none c.args.sw.now (g.V.Vault.outside c.args.vault.now) c.sound.ensures
+
+pub returns-in-Ok-value-clause-fetched : goal.returns-in-Ok-value-clause-fetched
+returns-in-Ok-value-clause-fetched g c a named has known =
+    let same = ap (λ (e : _). e.value) (sym has.entry) in
+    c.in-Ok-value.ensures.fetched by_ints a.name has.row named has.there
+    (record { it = known.it; is = subst (λ (n : Reference). seen c.args.sw.now (g.V.Vault.outside c.args.vault.now) n known.it) same known.is })

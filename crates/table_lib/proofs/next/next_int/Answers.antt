@@ -1,9 +1,11 @@
-use Rattle.std.proofs.Common.{◌*◌, ◌+◌, arith, Option, Ok, subst, inr}
+use Rattle.std.proofs.Common.{◌*◌, ◌+◌, arith, Option, Ok, subst, inr, Some}
 use Rattle.std.specs.Prelude.{ℕ}
 use Rattle.table_nodes.specs.node_rows.Keys.{by_ints}
 use Rattle.table_nodes.specs.Steps.{place}
 use Rattle.table_lib.specs.Nexts.{IsIntPair, FindsNode, after_key}
-use Rattle.table_lib.proofs.NextLaws.{pairs_refused, pairs_none, pairs_some, pairs_fault}
+use Rattle.table_lib.proofs.NextLaws.{pairs_refused, pair_fetches, pairs_none, pairs_some, pairs_fault}
+use Rattle.table_lib.proofs.FetchLaws.{fetches_as, fetches_failed}
+use Rattle.table_nodes.specs.heap_places.heap_texts.declared.fault.OpFault.TheVariants.{Swizzle}
 use Rattle.table_nodes.proofs.StepLaws.{touches_then}
 use Rattle.table_nodes.proofs.of_heap_places.of_swizzle.TouchLaws.{keeps-trans}
 use Rattle.table_nodes.specs.heap_places.swizzle.Heap.{num_at}
@@ -64,3 +66,21 @@ returns-in-Err-int_pair-clause-still g c = grows_then _ _ _ _ _ _ c.in-Ok.ensure
 
 pub returns-in-Err-int_pair-clause-fault : goal.returns-in-Err-int_pair-clause-fault
 returns-in-Err-int_pair-clause-fault g c = inr (node_fault_back (g.V.Vault.outside c.args.vault.now) (g.V.Vault.outside c.int_node.new.vault) _ _ c.in-Err-int_pair.fault c.in-Ok.ensures.grows.leaves c.in-Err-int_pair.ensures.fault)
+
+pub returns-in-Err-clause-fetched : goal.returns-in-Err-clause-fetched
+returns-in-Err-clause-fetched g c = fetches_failed by_ints (place c.args.sw.now (g.V.Vault.outside c.args.vault.now)) c.args.table c.int_node.new.sw c.in-Err.fault
+
+pub returns-in_default-clause-fetched : goal.returns-in_default-clause-fetched
+returns-in_default-clause-fetched g c = fetches_as by_ints (place c.args.sw.now (g.V.Vault.outside c.args.vault.now)) c.int_node.new.sw c.args.table c.in-Ok.found _ c.in-Ok.ensures.fetched
+
+pub returns-in-Err-int_pair-clause-fetched : goal.returns-in-Err-int_pair-clause-fetched
+returns-in-Err-int_pair-clause-fetched g c = fetches_failed by_ints (place c.args.sw.now (g.V.Vault.outside c.args.vault.now)) c.args.table c.int_pair.new.sw (Swizzle c.in-Err-int_pair.fault)
+
+pub returns-in-Ok-int_pair-clause-fetched : goal.returns-in-Ok-int_pair-clause-fetched
+returns-in-Ok-int_pair-clause-fetched g c =
+    let old = place c.args.sw.now (g.V.Vault.outside c.args.vault.now) in
+    let m = place c.int_node.new.sw (g.V.Vault.outside c.int_node.new.vault) in
+    let new = place c.int_pair.new.sw (g.V.Vault.outside c.int_pair.new.vault) in
+    pair_fetches by_ints old m new c.args.table (after_key by_ints c.args.after) c.in-Some.node c.in-Ok-int_pair.pair c.in-Ok.ensures.grows c.in-Ok-int_pair.ensures.grows
+    (subst (λ (f : Option ℕ). FindsNode by_ints old m c.args.table (after_key by_ints c.args.after) (Ok f)) c.in-Some.is c.in-Ok.ensures.found)
+    (fetches_as by_ints old m.heap c.args.table c.in-Ok.found (Some c.in-Some.node) c.in-Ok.ensures.fetched) c.in-Ok-int_pair.ensures.fetched

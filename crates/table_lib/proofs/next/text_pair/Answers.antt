@@ -9,6 +9,7 @@ use Rattle.table_nodes.proofs.SoughtLaws.{key_held_kept, key_in_kept}
 use Rattle.table_nodes.proofs.StepLaws.{touches_then}
 use Rattle.table_nodes.proofs.of_heap_places.of_swizzle.TouchLaws.{keeps-trans}
 use Rattle.table_nodes.proofs.BringLaws.{brings_touched}
+use Rattle.table_nodes.proofs.FetchLaws.{arrives_then}
 use Rattle.table_nodes.proofs.FaultLaws.{node_fault_back}
 use Rattle.table_nodes.proofs.NodeLaws.{grows_then}
 use Rattle.table_lib.proofs.next.text_pair.Goals as goal
@@ -58,3 +59,14 @@ returns-in-Err-value-clause-fault g c = node_fault_back (g.V.Vault.outside c.arg
 
 pub returns-in-Ok-value-clause-keeps : goal.returns-in-Ok-value-clause-keeps
 returns-in-Ok-value-clause-keeps g c = keeps-trans _ _ _ c.in-Ok.ensures.keeps c.in-Ok-value.ensures.keeps
+
+pub returns-in-Ok-value-clause-fetched : goal.returns-in-Ok-value-clause-fetched
+returns-in-Ok-value-clause-fetched g c a named has known =
+    let old = place c.args.sw.now (g.V.Vault.outside c.args.vault.now) in
+    let m = place c.text_key.new.sw (g.V.Vault.outside c.text_key.new.vault) in
+    let new = place c.value.new.sw (g.V.Vault.outside c.value.new.vault) in
+    let there = grown_seen old.heap m.heap old.outside m.outside c.in-Ok.ensures.grows a.entry.value known.it known.is in
+    let same = ap (λ (e : _). e.value) (sym has.entry) in
+    arrives_then old.heap m.heap new.heap old.outside m.outside new.outside c.in-Ok.ensures.grows c.in-Ok-value.ensures.grows (c.in-Ok.ensures.fetched a.name has.row named has.there)
+    (c.in-Ok-value.ensures.fetched by_texts a.name has.row (c.in-Ok.ensures.grows.named c.args.node a.name named) (c.in-Ok.ensures.grows.rows by_texts a.name has.row has.there)
+    (record { it = known.it; is = subst (λ (n : Reference). seen m.heap m.outside n known.it) same there }))

@@ -6,7 +6,7 @@ use Rattle.table_nodes.specs.Steps.{place}
 use Rattle.table_nodes.proofs.NodeLaws.{grows_touch, side_kind, side_known, side_row, grows_refused}
 use Rattle.table_nodes.proofs.SeenLaws.{touch_failed_seen}
 use Rattle.table_nodes.proofs.StepLaws.{is_side}
-use Rattle.table_nodes.proofs.FetchLaws.{touch_fetches}
+use Rattle.table_nodes.proofs.FetchLaws.{touch_arrives}
 use Rattle.table_nodes.proofs.BringLaws.{brings_only, brings_same}
 use Rattle.table_nodes.specs.heap_places.swizzle.Touch.{Denotes}
 use Rattle.table_nodes.specs.Faults.{misfit, no_node}
@@ -62,11 +62,11 @@ returns-in-Err-clause-root g c ks t h =
 pub returns-then-is_node-clause-fetched : goal.returns-then-is_node-clause-fetched
 returns-then-is_node-clause-fetched g c ks t h =
     let a = g.V.Vault.outside c.args.vault.now in
-    touch_fetches ks c.args.sw.now c.touch_slot.new.self a (g.V.Vault.outside c.touch_slot.new.vault) (ref_at c.args.sw.now c.args.at 0) c.sound-in-Ok-Some.ensures c.in-Ok-Some.ensures.keeps c.in-Ok-Some.ensures.joint.grows c.in-Ok-Some.ensures.only (λ to e. (c.touch_slot.ensures.still to e).0)
+    touch_arrives c.args.sw.now c.touch_slot.new.self a (g.V.Vault.outside c.touch_slot.new.vault) (ref_at c.args.sw.now c.args.at 0) c.sound-in-Ok-Some.ensures c.in-Ok-Some.ensures.keeps c.in-Ok-Some.ensures.joint.grows c.in-Ok-Some.ensures.only (λ to e. (c.touch_slot.ensures.still to e).0)
     (side_known ks c.args.sw.now a (name_of c.args.sw.now (ref_at c.args.sw.now c.args.at 0)) (root_of t) h.root (is_side ks (place c.args.sw.now a) t h.stands))
 
 pub returns-in-Ok-None-clause-fetched : goal.returns-in-Ok-None-clause-fetched
 returns-in-Ok-None-clause-fetched g c ks t h =
     let a = g.V.Vault.outside c.args.vault.now in
-    touch_fetches ks c.args.sw.now c.touch_slot.new.self a (g.V.Vault.outside c.touch_slot.new.vault) (ref_at c.args.sw.now c.args.at 0) c.sound-in-Ok-None.ensures c.in-Ok-None.ensures.keeps c.in-Ok-None.ensures.joint.grows c.in-Ok-None.ensures.only (λ to e. (c.touch_slot.ensures.still to e).0)
+    touch_arrives c.args.sw.now c.touch_slot.new.self a (g.V.Vault.outside c.touch_slot.new.vault) (ref_at c.args.sw.now c.args.at 0) c.sound-in-Ok-None.ensures c.in-Ok-None.ensures.keeps c.in-Ok-None.ensures.joint.grows c.in-Ok-None.ensures.only (λ to e. (c.touch_slot.ensures.still to e).0)
     (side_known ks c.args.sw.now a (name_of c.args.sw.now (ref_at c.args.sw.now c.args.at 0)) (root_of t) h.root (is_side ks (place c.args.sw.now a) t h.stands))

@@ -5,6 +5,7 @@ use Rattle.heap_places.specs.obj_layout.Storing.{SameNumbers}
 use Rattle.heap_places.specs.swizzle.Touch.{Keeps}
 use Rattle.avl_trees.specs.Trees.{Tree, height}
 use Rattle.table_nodes.specs.Bringing.{Brings}
+use Rattle.table_nodes.specs.Fetching.{Arrives}
 use Rattle.table_nodes.specs.Nodes.{IsNode, Grows}
 use Rattle.table_nodes.specs.Searching.{IsTree}
 use Rattle.table_nodes.specs.Sought.{keys_of}
@@ -30,6 +31,7 @@ invariant-loop-at g l =
       brings : Brings l.initial.sw l.sw (l.initial.bound - l.bound);
       alive : g.V.Vault.alive l.vault;
       numbers : SameNumbers g.V.Vault.used_words g.V.Vault.directory_at g.V.Vault.most_words g.V.Vault.access l.initial.vault l.vault;
+      fetched : (t : Tree (I ks)) → IsTree ks old l.fn.root t → height t < l.initial.bound → Arrives l.initial.sw l.sw (g.V.Vault.outside l.initial.vault);
       begins : (t : Tree (I ks)) → IsTree ks old l.fn.root t → height t < l.initial.bound → Following ks (λ a. Less) now l.at l.last l.span l.bound t;
     }
 

@@ -6,6 +6,7 @@ use Rattle.heap_places.proofs.of_swizzle.TouchLaws.{keeps-trans}
 use Rattle.table_nodes.specs.Sought.{keys_of}
 use Rattle.table_nodes.specs.Steps.{place, rows_of}
 use Rattle.table_nodes.proofs.BringLaws.{brings_touched}
+use Rattle.table_nodes.proofs.FetchLaws.{arrives_then}
 use Rattle.table_nodes.proofs.FaultLaws.{node_fault_back}
 use Rattle.table_nodes.proofs.SeenLaws.{fetch_back}
 use Rattle.table_nodes.proofs.SpanLaws.{span_kept, within_kept}
@@ -53,3 +54,12 @@ returns-in-Err-side-clause-brings g c = brings_touched _ _ _ 0 1 1 c.in-Err-side
 
 pub returns-in-Err-side-clause-fault : goal.returns-in-Err-side-clause-fault
 returns-in-Err-side-clause-fault g c = node_fault_back (g.V.Vault.outside c.args.vault.now) (g.V.Vault.outside c.narrow_left.new.vault) _ _ c.in-Err-side.fault c.in-Ok.ensures.grows.leaves c.in-Err-side.ensures.fault
+
+pub returns-in-Ok-side-clause-fetched : goal.returns-in-Ok-side-clause-fetched
+returns-in-Ok-side-clause-fetched g c x b y s named =
+    let ks = keys_of c.args.keys in
+    let p = place c.args.sw.now (g.V.Vault.outside c.args.vault.now) in
+    let m = place c.narrow_left.new.sw (g.V.Vault.outside c.narrow_left.new.vault) in
+    let t = stands_grown (rows_of ks p) (rows_of ks m) (c.in-Ok.ensures.grows.rows ks) (node x b y) s in
+    arrives_then p.heap m.heap c.side.new.sw p.outside m.outside (g.V.Vault.outside c.side.new.vault) c.in-Ok.ensures.grows c.in-Ok-side.ensures.grows (c.in-Ok.ensures.fetched b.name (row_of x b y) named s.0)
+    (c.in-Ok-side.ensures.fetched ks b.name (row_of x b y) (c.in-Ok.ensures.grows.named c.args.at b.name named) t.0 (is_side ks m x t.1))

@@ -7,6 +7,7 @@ use Rattle.table_nodes.specs.Steps.{place}
 use Rattle.table_nodes.specs.Following.{IsTurn}
 use Rattle.table_nodes.proofs.BringLaws.{brings_more, brings_none, brings_touched}
 use Rattle.table_nodes.proofs.SeenLaws.{fetch_back}
+use Rattle.table_nodes.proofs.FetchLaws.{arrives_none, arrives_then}
 use Rattle.table_nodes.proofs.SoughtLaws.{key_held_kept, key_in_kept}
 use Rattle.table_nodes.proofs.StepLaws.{touches_none, touches_then}
 use Rattle.table_nodes.proofs.FollowLaws.{Following, following_whole, at_turn, following_none, height_at, following_on}
@@ -42,6 +43,9 @@ loop-at-preserved g c =
       brings = brings_touched old.heap now.heap m.heap (c.args.bound - c.loop-at.bound) 1 _ c.in-Ok.ensures.keeps (omega (arith, c.if-height-bound.false, c.loop-at.invariant.within)) c.loop-at.invariant.brings c.go_on.ensures.brings;
       alive = c.in-Ok.ensures.alive;
       numbers = (c.in-Ok.ensures.numbers.0 ∙ c.loop-at.invariant.numbers.0, c.in-Ok.ensures.numbers.1 ∙ c.loop-at.invariant.numbers.1, c.in-Ok.ensures.numbers.2 ∙ c.loop-at.invariant.numbers.2, c.in-Ok.ensures.numbers.3 ∙ c.loop-at.invariant.numbers.3);
+      fetched = λ t h low.
+          let s = at_turn ks (seek (order_by ks) wanted) now c.in-Some.node c.loop-at.last c.loop-at.span c.loop-at.bound t (subst (λ (i : Option ℕ). Following ks (seek (order_by ks) wanted) now i c.loop-at.last c.loop-at.span c.loop-at.bound t) c.in-Some.is (c.loop-at.invariant.follows t h low)) in
+          arrives_then old.heap now.heap m.heap old.outside now.outside m.outside c.loop-at.invariant.grows c.in-Ok.ensures.grows (c.loop-at.invariant.fetched t h low) (c.in-Ok.ensures.fetched s.x s.b s.y s.stands s.name);
       follows = λ t h low.
           let s = at_turn ks (seek (order_by ks) wanted) now c.in-Some.node c.loop-at.last c.loop-at.span c.loop-at.bound t (subst (λ (i : Option ℕ). Following ks (seek (order_by ks) wanted) now i c.loop-at.last c.loop-at.span c.loop-at.bound t) c.in-Some.is (c.loop-at.invariant.follows t h low)) in
           let e = height_at ks (seek (order_by ks) wanted) now c.in-Some.node c.loop-at.last c.loop-at.span c.loop-at.bound t s c.height-height.result (c.height-height.ensures.some ks) in
@@ -101,5 +105,9 @@ loop-at-init g c =
       brings = brings_none c.args.sw.now _;
       alive = c.requires.alive;
       numbers = (refl, refl, refl, refl);
+      fetched = λ t h low. arrives_none c.args.sw.now old.outside;
       follows = λ t h low. following_whole (kind_of c.args.key) (seek (order_by (kind_of c.args.key)) (key_in c.args.sw.now c.args.key)) old c.args.root c.args.bound t h low;
     }
+
+pub returns-clause-fetched : goal.returns-clause-fetched
+returns-clause-fetched g c t h low = c.loop-at.invariant.fetched t h low

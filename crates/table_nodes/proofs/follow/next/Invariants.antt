@@ -6,6 +6,7 @@ use Rattle.avl_trees.specs.Trees.{Tree, height}
 use Rattle.avl_trees.specs.Standing.{seek}
 use Rattle.node_rows.specs.Keys.{order_by}
 use Rattle.table_nodes.specs.Bringing.{Brings}
+use Rattle.table_nodes.specs.Fetching.{Arrives}
 use Rattle.table_nodes.specs.Nodes.{IsNode, Grows}
 use Rattle.table_nodes.specs.Sought.{IsKeyHeld, kind_of, key_in}
 use Rattle.table_nodes.specs.Searching.{IsTree}
@@ -34,6 +35,7 @@ invariant-loop-at g l =
       brings : Brings l.initial.sw l.sw (l.initial.bound - l.bound);
       alive : g.V.Vault.alive l.vault;
       numbers : SameNumbers g.V.Vault.used_words g.V.Vault.directory_at g.V.Vault.most_words g.V.Vault.access l.initial.vault l.vault;
+      fetched : (t : Tree (I ks)) → IsTree ks old l.fn.root t → height t < l.initial.bound → Arrives l.initial.sw l.sw (g.V.Vault.outside l.initial.vault);
       follows : (t : Tree (I ks)) → IsTree ks old l.fn.root t → height t < l.initial.bound → Following ks (seek (order_by ks) wanted) now l.at l.last l.span l.bound t;
     }
 

@@ -15,7 +15,7 @@ use Rattle.table_nodes.proofs.BringLaws.{brings_only, brings_other, brings_same}
 use Rattle.table_nodes.specs.Faults.{misfit, no_key, no_text}
 use Rattle.table_nodes.proofs.FaultLaws.{touch_failed}
 use Rattle.table_nodes.proofs.SpanLaws.{slot_shown}
-use Rattle.table_nodes.proofs.FetchLaws.{touch_fetches}
+use Rattle.table_nodes.proofs.FetchLaws.{touch_arrives}
 use Rattle.table_nodes.proofs.keys.text_key.Goals as goal
 
 pub returns-then-eq-clause-read : goal.returns-then-eq-clause-read
@@ -87,5 +87,5 @@ pub returns-then-eq-clause-fetched : goal.returns-then-eq-clause-fetched
 returns-then-eq-clause-fetched g c n row named r =
     let a = g.V.Vault.outside c.args.vault.now in
     let k = (seat_at by_texts c.args.sw.now a c.args.at n row c.sound.ensures named r).key in
-    touch_fetches by_texts c.args.sw.now c.touch_slot.new.self a (g.V.Vault.outside c.touch_slot.new.vault) (ref_at c.args.sw.now c.args.at 2) c.sound-in-Ok-Some.ensures c.in-Ok-Some.ensures.keeps c.in-Ok-Some.ensures.joint.grows c.in-Ok-Some.ensures.only
+    touch_arrives c.args.sw.now c.touch_slot.new.self a (g.V.Vault.outside c.touch_slot.new.vault) (ref_at c.args.sw.now c.args.at 2) c.sound-in-Ok-Some.ensures c.in-Ok-Some.ensures.keeps c.in-Ok-Some.ensures.joint.grows c.in-Ok-Some.ensures.only
     (λ to e. (c.touch_slot.ensures.still to e).0) (λ pid f. record { it = k.it; is = subst (λ (m : Reference). seen c.args.sw.now a m k.it) (slot-name c.args.sw.now c.args.at 2) k.there })

@@ -7,7 +7,7 @@ use Rattle.table_nodes.proofs.BringLaws.{brings_only, brings_same}
 use Rattle.heap_places.specs.swizzle.Touch.{Denotes}
 use Rattle.table_nodes.specs.Faults.{misfit, no_node}
 use Rattle.table_nodes.proofs.FaultLaws.{touch_failed}
-use Rattle.table_nodes.proofs.FetchLaws.{touch_fetches}
+use Rattle.table_nodes.proofs.FetchLaws.{touch_arrives}
 use Rattle.table_nodes.proofs.nodes.side.Goals as goal
 
 pub returns-then-is_node-clause-side : goal.returns-then-is_node-clause-side
@@ -75,12 +75,12 @@ pub returns-then-is_node-clause-fetched : goal.returns-then-is_node-clause-fetch
 returns-then-is_node-clause-fetched g c ks n row named r known =
     let a = g.V.Vault.outside c.args.vault.now in
     let s = seat_at ks c.args.sw.now a c.args.at n row c.sound.ensures named r in
-    touch_fetches ks c.args.sw.now c.touch_slot.new.self a (g.V.Vault.outside c.touch_slot.new.vault) (ref_at c.args.sw.now c.args.at c.args.slot) c.sound-in-Ok-Some.ensures c.in-Ok-Some.ensures.keeps c.in-Ok-Some.ensures.joint.grows c.in-Ok-Some.ensures.only
+    touch_arrives c.args.sw.now c.touch_slot.new.self a (g.V.Vault.outside c.touch_slot.new.vault) (ref_at c.args.sw.now c.args.at c.args.slot) c.sound-in-Ok-Some.ensures c.in-Ok-Some.ensures.keeps c.in-Ok-Some.ensures.joint.grows c.in-Ok-Some.ensures.only
     (λ to e. (c.touch_slot.ensures.still to e).0) (side_known ks c.args.sw.now a (name_of c.args.sw.now (ref_at c.args.sw.now c.args.at c.args.slot)) _ (side_seen ks c.args.sw.now a c.args.at c.args.slot row c.requires.slot s) known)
 
 pub returns-in-Ok-None-clause-fetched : goal.returns-in-Ok-None-clause-fetched
 returns-in-Ok-None-clause-fetched g c ks n row named r known =
     let a = g.V.Vault.outside c.args.vault.now in
     let s = seat_at ks c.args.sw.now a c.args.at n row c.sound.ensures named r in
-    touch_fetches ks c.args.sw.now c.touch_slot.new.self a (g.V.Vault.outside c.touch_slot.new.vault) (ref_at c.args.sw.now c.args.at c.args.slot) c.sound-in-Ok-None.ensures c.in-Ok-None.ensures.keeps c.in-Ok-None.ensures.joint.grows c.in-Ok-None.ensures.only
+    touch_arrives c.args.sw.now c.touch_slot.new.self a (g.V.Vault.outside c.touch_slot.new.vault) (ref_at c.args.sw.now c.args.at c.args.slot) c.sound-in-Ok-None.ensures c.in-Ok-None.ensures.keeps c.in-Ok-None.ensures.joint.grows c.in-Ok-None.ensures.only
     (λ to e. (c.touch_slot.ensures.still to e).0) (side_known ks c.args.sw.now a (name_of c.args.sw.now (ref_at c.args.sw.now c.args.at c.args.slot)) _ (side_seen ks c.args.sw.now a c.args.at c.args.slot row c.requires.slot s) known)

@@ -9,6 +9,7 @@ use Rattle.heap_places.specs.swizzle.Changes.{IsKnown}
 use Rattle.table_nodes.specs.Nodes.{seen}
 use Rattle.table_nodes.proofs.SeenLaws.{touch_failed_seen}
 use Rattle.table_nodes.proofs.BringLaws.{brings_only, brings_same}
+use Rattle.table_nodes.proofs.FetchLaws.{touch_arrives}
 use Rattle.table_nodes.specs.Faults.{misfit, no_value}
 use Rattle.table_nodes.proofs.FaultLaws.{touch_failed}
 use Rattle.table_nodes.proofs.SpanLaws.{slot_shown}
@@ -63,3 +64,11 @@ returns-in-Err-clause-read g c ks n row named r some known =
     let e = sym s.value ∙ slot-name c.args.sw.now c.args.at 3 in
     touch_failed_seen c.args.sw.now c.touch_slot.new.self a (g.V.Vault.outside c.touch_slot.new.vault) (ref_at c.args.sw.now c.args.at 3) c.in-Err.fault c.sound.ensures
     (λ pid f. subst (λ (m : Reference). IsKnown (seen c.args.sw.now a) m) e known) c.in-Err.ensures.fault c.in-Err.ensures.call
+
+pub returns-in-Ok-Some-clause-fetched : goal.returns-in-Ok-Some-clause-fetched
+returns-in-Ok-Some-clause-fetched g c ks n row named r known =
+    let a = g.V.Vault.outside c.args.vault.now in
+    let s = seat_at ks c.args.sw.now a c.args.at n row c.sound.ensures named r in
+    let e = sym s.value ∙ slot-name c.args.sw.now c.args.at 3 in
+    touch_arrives c.args.sw.now c.touch_slot.new.self a (g.V.Vault.outside c.touch_slot.new.vault) (ref_at c.args.sw.now c.args.at 3) c.sound-in-Ok-Some.ensures c.in-Ok-Some.ensures.keeps c.in-Ok-Some.ensures.joint.grows c.in-Ok-Some.ensures.only
+    (λ to f. (c.touch_slot.ensures.still to f).0) (λ pid f. subst (λ (m : Reference). IsKnown (seen c.args.sw.now a) m) e known)

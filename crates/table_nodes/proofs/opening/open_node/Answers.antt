@@ -11,7 +11,7 @@ use Rattle.table_nodes.proofs.BringLaws.{brings_more, brings_touched}
 use Rattle.table_nodes.proofs.FaultLaws.{node_fault_back}
 use Rattle.table_nodes.proofs.SpanLaws.{span_kept, within_kept}
 use Rattle.table_nodes.proofs.NodeLaws.{grows_then}
-use Rattle.table_nodes.proofs.FetchLaws.{fetches_read}
+use Rattle.table_nodes.proofs.FetchLaws.{arrives_fetches, arrives_then}
 use Rattle.table_nodes.proofs.opening.open_node.Goals as goal
 
 pub returns-in-Err-clause-opens : goal.returns-in-Err-clause-opens
@@ -100,5 +100,6 @@ returns-clause-fetched g c x b y s named =
     let first = c.in-Ok.ensures.fetched b.name (row_of x b y) named s.0 in
     let left = c.in-Ok-side.ensures.fetched ks b.name (row_of x b y) name t.0 (is_side ks m x t.1) in
     let right = c.in-Ok-side-2.ensures.fetched ks b.name (row_of x b y) (c.in-Ok-side.ensures.grows.named c.args.at b.name name) t1.0 (is_side ks m1 y t1.2) in
-    fetches_read ks p.heap m.heap m2.heap p.outside m.outside m2.outside c.in-Ok.ensures.grows (touches_then m m1 m2 c.in-Ok-side.ensures.grows c.in-Ok-side-2.ensures.grows) first
-    (fetches_read ks m.heap m1.heap m2.heap m.outside m1.outside m2.outside c.in-Ok-side.ensures.grows c.in-Ok-side-2.ensures.grows left right)
+    arrives_fetches ks p.heap m2.heap p.outside c.in-Ok-side-2.ensures.grows.heap
+    (arrives_then p.heap m.heap m2.heap p.outside m.outside m2.outside c.in-Ok.ensures.grows (touches_then m m1 m2 c.in-Ok-side.ensures.grows c.in-Ok-side-2.ensures.grows) first
+    (arrives_then m.heap m1.heap m2.heap m.outside m1.outside m2.outside c.in-Ok-side.ensures.grows c.in-Ok-side-2.ensures.grows left right))

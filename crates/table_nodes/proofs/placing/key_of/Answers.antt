@@ -10,7 +10,7 @@ use Rattle.table_nodes.proofs.BringLaws.{brings_none}
 use Rattle.table_nodes.proofs.SoughtLaws.{int_key_same, int_read, int_same, same_ok}
 use Rattle.table_nodes.proofs.NodeLaws.{grows_none}
 use Rattle.table_nodes.specs.Fetching.{FetchesKey}
-use Rattle.table_nodes.proofs.FetchLaws.{fetches_same}
+use Rattle.table_nodes.proofs.FetchLaws.{arrives_none}
 use Rattle.table_nodes.proofs.placing.key_of.Goals as goal
 
 pub returns-in-Ok-clause-read : goal.returns-in-Ok-clause-read
@@ -54,7 +54,7 @@ pub returns-in-Ok-text_key-clause-has : goal.returns-in-Ok-text_key-clause-has
 returns-in-Ok-text_key-clause-has g c = record { node = c.in-Ok-text_key.ensures.grows.nodes c.args.at c.requires.node; held = c.in-Ok-text_key.ensures.held; shows = c.in-Ok-text_key.ensures.slot }
 
 pub returns-in-Ok-clause-fetched : goal.returns-in-Ok-clause-fetched
-returns-in-Ok-clause-fetched g c n row named r = fetches_same (keys_of c.args.keys) c.args.sw.now c.args.sw.now (g.V.Vault.outside c.args.vault.now) refl
+returns-in-Ok-clause-fetched g c n row named r = arrives_none c.args.sw.now (g.V.Vault.outside c.args.vault.now)
 
 pub returns-in-Ok-text_key-clause-fetched : goal.returns-in-Ok-text_key-clause-fetched
 returns-in-Ok-text_key-clause-fetched g c =

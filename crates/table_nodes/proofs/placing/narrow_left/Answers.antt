@@ -38,3 +38,6 @@ returns-in-Err-check_side-clause-brings g c = brings_more _ _ 0 1 (omega arith) 
 
 pub check_side-requires-clause-edge : goal.check_side-requires-clause-edge
 check_side-requires-clause-edge g c = end_held c.key_of.new.sw c.args.span.high (span_kept c.args.sw.now c.key_of.new.sw c.args.span c.in-Ok.ensures.keeps c.requires.span).high_is
+
+pub returns-in-Ok-check_side-clause-fetched : goal.returns-in-Ok-check_side-clause-fetched
+returns-in-Ok-check_side-clause-fetched g c = c.in-Ok.ensures.fetched

@@ -7,6 +7,7 @@ use Rattle.table_nodes.specs.Steps.{place, rows_of}
 use Rattle.table_nodes.proofs.SeenLaws.{fetch_back}
 use Rattle.table_nodes.proofs.StepLaws.{is_side, touches_then}
 use Rattle.table_nodes.proofs.BringLaws.{brings_touched}
+use Rattle.table_nodes.proofs.FetchLaws.{arrives_then}
 use Rattle.table_nodes.proofs.FaultLaws.{node_fault_back}
 use Rattle.table_nodes.proofs.SpanLaws.{span_kept, within_kept}
 use Rattle.table_nodes.proofs.NodeLaws.{grows_then}
@@ -91,3 +92,24 @@ returns-in-Ok-side-clause-grows g c = touches_then (place c.args.sw.now (g.V.Vau
 pub returns-in-Ok-side-2-clause-grows : goal.returns-in-Ok-side-2-clause-grows
 returns-in-Ok-side-2-clause-grows g c =
     touches_then (place c.args.sw.now (g.V.Vault.outside c.args.vault.now)) (place c.place_key.new.sw (g.V.Vault.outside c.place_key.new.vault)) (place c.side-in-Greater.new.sw (g.V.Vault.outside c.side-in-Greater.new.vault)) c.in-Ok.ensures.grows c.in-Ok-side-2.ensures.grows
+
+pub returns-in-Equal-clause-fetched : goal.returns-in-Equal-clause-fetched
+returns-in-Equal-clause-fetched g c x b y s named = c.in-Ok.ensures.fetched b.name (row_of x b y) named s.0
+
+pub returns-in-Ok-side-clause-fetched : goal.returns-in-Ok-side-clause-fetched
+returns-in-Ok-side-clause-fetched g c x b y s named =
+    let ks = kind_of c.args.key in
+    let p = place c.args.sw.now (g.V.Vault.outside c.args.vault.now) in
+    let m = place c.place_key.new.sw (g.V.Vault.outside c.place_key.new.vault) in
+    let t = stands_grown (rows_of ks p) (rows_of ks m) (c.in-Ok.ensures.grows.rows ks) (node x b y) s in
+    arrives_then p.heap m.heap c.side.new.sw p.outside m.outside (g.V.Vault.outside c.side.new.vault) c.in-Ok.ensures.grows c.in-Ok-side.ensures.grows (c.in-Ok.ensures.fetched b.name (row_of x b y) named s.0)
+    (c.in-Ok-side.ensures.fetched ks b.name (row_of x b y) (c.in-Ok.ensures.grows.named c.args.at b.name named) t.0 (is_side ks m x t.1))
+
+pub returns-in-Ok-side-2-clause-fetched : goal.returns-in-Ok-side-2-clause-fetched
+returns-in-Ok-side-2-clause-fetched g c x b y s named =
+    let ks = kind_of c.args.key in
+    let p = place c.args.sw.now (g.V.Vault.outside c.args.vault.now) in
+    let m = place c.place_key.new.sw (g.V.Vault.outside c.place_key.new.vault) in
+    let t = stands_grown (rows_of ks p) (rows_of ks m) (c.in-Ok.ensures.grows.rows ks) (node x b y) s in
+    arrives_then p.heap m.heap c.side-in-Greater.new.sw p.outside m.outside (g.V.Vault.outside c.side-in-Greater.new.vault) c.in-Ok.ensures.grows c.in-Ok-side-2.ensures.grows (c.in-Ok.ensures.fetched b.name (row_of x b y) named s.0)
+    (c.in-Ok-side-2.ensures.fetched ks b.name (row_of x b y) (c.in-Ok.ensures.grows.named c.args.at b.name named) t.0 (is_side ks m y t.2))

@@ -1,5 +1,6 @@
 use Rattle.std.proofs.Common.{◌∙◌, ◌-◌, Option, Ok, Err, ℕ, subst, arith, refl}
 use Rattle.heap_places.proofs.of_swizzle.TouchLaws.{keeps-refl, keeps-trans}
+use Rattle.avl_trees.specs.Standing.{row_of}
 use Rattle.table_nodes.specs.Sought.{kind_of, key_in}
 use Rattle.table_nodes.specs.Steps.{place}
 use Rattle.table_nodes.specs.Bringing.{Brings}
@@ -8,10 +9,11 @@ use Rattle.table_nodes.proofs.BringLaws.{brings_more, brings_none, brings_touche
 use Rattle.table_nodes.specs.declared.search.Step.{Step}
 use Rattle.table_nodes.specs.declared.search.Step.TheVariants.{Found, Down}
 use Rattle.table_nodes.proofs.SeenLaws.{fetch_back}
+use Rattle.table_nodes.proofs.FetchLaws.{arrives_none, arrives_then}
 use Rattle.table_nodes.proofs.SoughtLaws.{key_held_kept, key_in_kept}
 use Rattle.table_nodes.proofs.SpanLaws.{value_found}
 use Rattle.table_nodes.proofs.StepLaws.{touches_none, touches_then}
-use Rattle.table_nodes.proofs.Seeking.{sought_whole, looked_none, looked_found, Sought, at_node, sought_none, height_read, sought_found, sought_down}
+use Rattle.table_nodes.proofs.Seeking.{sought_whole, looked_none, looked_found, Sought, at_node, sought_none, height_read, sought_found, sought_down, value_seen}
 use Rattle.table_nodes.proofs.FaultLaws.{node_fault_back, height_tested, the_node}
 use Rattle.table_nodes.proofs.NodeLaws.{grows_then}
 use Rattle.table_nodes.proofs.search.lookup.Goals as goal
@@ -94,6 +96,9 @@ loop-at-preserved g c =
           (subst (λ (w : Step). Brings now.heap m.heap (came_by w)) c.in-Ok-Down.field-0-is c.in-Ok-Down.ensures.brings);
       alive = c.in-Ok-Down.ensures.alive;
       numbers = (c.in-Ok-Down.ensures.numbers.0 ∙ c.loop-at.invariant.numbers.0, c.in-Ok-Down.ensures.numbers.1 ∙ c.loop-at.invariant.numbers.1, c.in-Ok-Down.ensures.numbers.2 ∙ c.loop-at.invariant.numbers.2, c.in-Ok-Down.ensures.numbers.3 ∙ c.loop-at.invariant.numbers.3);
+      fetched = λ t h low.
+          let s = at_node ks wanted old now c.in-Some.node c.loop-at.span c.loop-at.bound c.args.steps.now c.loop-at.steps t (subst (λ (i : Option ℕ). Sought ks wanted old now i c.loop-at.span c.loop-at.bound c.args.steps.now c.loop-at.steps t) c.in-Some.is (c.loop-at.invariant.sought t h low)) in
+          arrives_then old.heap now.heap m.heap old.outside now.outside m.outside c.loop-at.invariant.grows c.in-Ok-Down.ensures.grows (c.loop-at.invariant.fetched t h low) (c.in-Ok-Down.ensures.fetched s.x s.b s.y s.stands s.name);
       sought = λ t h low.
           let s = at_node ks wanted old now c.in-Some.node c.loop-at.span c.loop-at.bound c.args.steps.now c.loop-at.steps t (subst (λ (i : Option ℕ). Sought ks wanted old now i c.loop-at.span c.loop-at.bound c.args.steps.now c.loop-at.steps t) c.in-Some.is (c.loop-at.invariant.sought t h low)) in
           let e = height_read ks wanted old now c.in-Some.node c.loop-at.span c.loop-at.bound c.args.steps.now c.loop-at.steps t s c.height-height.result (c.height-height.ensures.some ks) in
@@ -187,5 +192,25 @@ loop-at-init g c =
       brings = brings_none c.args.sw.now _;
       alive = c.requires.alive;
       numbers = (refl, refl, refl, refl);
+      fetched = λ t h low. arrives_none c.args.sw.now old.outside;
       sought = λ t h low. sought_whole (kind_of c.args.key) (key_in c.args.sw.now c.args.key) old c.args.root c.args.bound c.args.steps.now t h low;
     }
+
+pub returns-clause-fetched : goal.returns-clause-fetched
+returns-clause-fetched g c t h low seen = c.loop-at.invariant.fetched t h low
+
+pub returns-in-Ok-clause-fetched : goal.returns-in-Ok-clause-fetched
+returns-in-Ok-clause-fetched g c t h low seen =
+    let ks = kind_of c.args.key in
+    let wanted = key_in c.args.sw.now c.args.key in
+    let old = place c.args.sw.now (g.V.Vault.outside c.args.vault.now) in
+    let now = place c.loop-at.sw (g.V.Vault.outside c.loop-at.vault) in
+    let m = place c.look.new.sw (g.V.Vault.outside c.look.new.vault) in
+    let new = place c.value.new.sw (g.V.Vault.outside c.value.new.vault) in
+    let s = at_node ks wanted old now c.in-Some.node c.loop-at.span c.loop-at.bound c.args.steps.now c.loop-at.steps t (subst (λ (i : Option ℕ). Sought ks wanted old now i c.loop-at.span c.loop-at.bound c.args.steps.now c.loop-at.steps t) c.in-Some.is (c.loop-at.invariant.sought t h low)) in
+    let known = value_seen ks wanted old now m c.in-Some.node c.loop-at.span c.loop-at.bound c.args.steps.now c.loop-at.steps t s c.in-Ok-Found.ensures.grows c.loop-at.invariant.grows seen in
+    let named = c.in-Ok-Found.ensures.grows.named c.in-Some.node s.b.name s.name in
+    let row = c.in-Ok-Found.ensures.grows.rows ks s.b.name (row_of s.x s.b s.y) s.stands.0 in
+    let first = arrives_then old.heap now.heap m.heap old.outside now.outside m.outside c.loop-at.invariant.grows c.in-Ok-Found.ensures.grows (c.loop-at.invariant.fetched t h low) (c.in-Ok-Found.ensures.fetched s.x s.b s.y s.stands s.name) in
+    arrives_then old.heap m.heap new.heap old.outside m.outside new.outside (touches_then old now m c.loop-at.invariant.grows c.in-Ok-Found.ensures.grows) c.in-Ok.ensures.grows first
+    (c.in-Ok.ensures.fetched ks s.b.name (row_of s.x s.b s.y) named row known)

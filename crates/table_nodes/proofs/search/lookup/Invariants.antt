@@ -4,6 +4,7 @@ use Rattle.heap_places.specs.obj_layout.Storing.{SameNumbers}
 use Rattle.heap_places.specs.swizzle.Touch.{Keeps}
 use Rattle.avl_trees.specs.Trees.{Tree, height}
 use Rattle.table_nodes.specs.Bringing.{Brings}
+use Rattle.table_nodes.specs.Fetching.{Arrives}
 use Rattle.table_nodes.specs.Nodes.{IsNode, Grows}
 use Rattle.table_nodes.specs.Sought.{IsKeyHeld, kind_of, key_in}
 use Rattle.table_nodes.specs.Searching.{IsTree}
@@ -32,6 +33,7 @@ invariant-loop-at g l =
       brings : Brings l.initial.sw l.sw (l.steps - l.initial.steps);
       alive : g.V.Vault.alive l.vault;
       numbers : SameNumbers g.V.Vault.used_words g.V.Vault.directory_at g.V.Vault.most_words g.V.Vault.access l.initial.vault l.vault;
+      fetched : (t : Tree (I ks)) → IsTree ks old l.fn.root t → height t < l.initial.bound → Arrives l.initial.sw l.sw (g.V.Vault.outside l.initial.vault);
       sought : (t : Tree (I ks)) → IsTree ks old l.fn.root t → height t < l.initial.bound → Sought ks wanted old now l.at l.span l.bound l.initial.steps l.steps t;
     }
 

@@ -9,7 +9,7 @@ use Rattle.table_nodes.proofs.SeenLaws.{fetch_back}
 use Rattle.table_nodes.proofs.StepLaws.{is_side, linked_kept, side_map, touches_then}
 use Rattle.table_nodes.proofs.FaultLaws.{node_fault_back}
 use Rattle.table_nodes.proofs.NodeLaws.{grows_then}
-use Rattle.table_nodes.proofs.FetchLaws.{fetches_read}
+use Rattle.table_nodes.proofs.FetchLaws.{arrives_fetches, arrives_then}
 use Rattle.table_nodes.proofs.wings.open_sides.Goals as goal
 
 pub returns-in-Err-clause-ends : goal.returns-in-Err-clause-ends
@@ -58,4 +58,4 @@ returns-clause-fetched g c ks x b y s named =
     let t = stands_grown (rows_of ks p) (rows_of ks m) (c.in-Ok.ensures.grows.rows ks) (node x b y) s in
     let left = c.in-Ok.ensures.fetched ks b.name (row_of x b y) named s.0 (is_side ks p x s.1) in
     let right = c.in-Ok-side.ensures.fetched ks b.name (row_of x b y) (c.in-Ok.ensures.grows.named c.args.at b.name named) t.0 (is_side ks m y t.2) in
-    fetches_read ks p.heap m.heap m1.heap p.outside m.outside m1.outside c.in-Ok.ensures.grows c.in-Ok-side.ensures.grows left right
+    arrives_fetches ks p.heap m1.heap p.outside c.in-Ok-side.ensures.grows.heap (arrives_then p.heap m.heap m1.heap p.outside m.outside m1.outside c.in-Ok.ensures.grows c.in-Ok-side.ensures.grows left right)

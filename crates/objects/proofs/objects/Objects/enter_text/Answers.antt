@@ -5,7 +5,8 @@ use Rattle.objects.proofs.LastingLaws.{keeps-lasts}
 use Rattle.objects.proofs.KnownLaws.{right-stays}
 use Rattle.objects.proofs.BrokenLaws.{lasts-broken}
 use Rattle.objects.proofs.TableLaws.{entered-lasts}
-use Rattle.objects.proofs.TableCalls.{EntersText}
+use Rattle.objects.proofs.EnterRuns.{text-run}
+use Rattle.objects.proofs.TableCalls.{EntersText, EntersTextRun}
 use Rattle.objects.proofs.objects.Objects.enter_text.Goals as goal
 
 pub invariant_of-self : goal.invariant_of-self
@@ -41,3 +42,24 @@ returns-in-Err-clause-entered g c =
     subst (λ (x : Heap). EntersText x new before after c.args.key c.args.table c.args.to (Err c.keep.result)) c.self.view_is
     (subst (λ (f : OpFault). EntersText here new before after c.args.key c.args.table c.args.to (Err f)) (sym c.keep.ensures.same)
     c.in-Err.ensures.entered)
+
+pub returns-in-Ok-clause-run : goal.returns-in-Ok-clause-run
+returns-in-Ok-clause-run g c =
+    let here = c.self.inside.sw in
+    let new = c.enter_text-done.new.sw in
+    let before = g.V.Vault.outside c.args.vault.now in
+    let after = g.V.Vault.outside c.enter_text-done.new.vault in
+    subst (λ (x : Heap). EntersTextRun x new before after c.args.key c.args.table c.args.to (Ok tt)) c.self.view_is
+    (text-run here new before after c.sound.ensures c.sound-2.ensures c.args.table c.args.to (Ok tt) c.in-Ok.ensures.table c.in-Ok.ensures.spares c.args.key
+    c.in-Ok.ensures.entered c.in-Ok.ensures.pairs)
+
+pub returns-in-Err-clause-run : goal.returns-in-Err-clause-run
+returns-in-Err-clause-run g c =
+    let here = c.self.inside.sw in
+    let new = c.enter_text-done.new.sw in
+    let before = g.V.Vault.outside c.args.vault.now in
+    let after = g.V.Vault.outside c.enter_text-done.new.vault in
+    subst (λ (x : Heap). EntersTextRun x new before after c.args.key c.args.table c.args.to (Err c.keep.result)) c.self.view_is
+    (subst (λ (f : OpFault). EntersTextRun here new before after c.args.key c.args.table c.args.to (Err f)) (sym c.keep.ensures.same)
+    (text-run here new before after c.sound.ensures c.sound-2.ensures c.args.table c.args.to (Err c.in-Err.fault) c.in-Err.ensures.table c.in-Err.ensures.spares c.args.key
+    c.in-Err.ensures.entered c.in-Err.ensures.pairs))

@@ -4,7 +4,7 @@ use Rattle.obj_layout.specs.declared.header.Header.{Header}
 use Rattle.obj_layout.specs.Header.{header_words}
 use Rattle.pid_map.proofs.ChainLaws.{bucket_below}
 use Rattle.swizzle.specs.Heap.{object_at, with_object}
-use Rattle.swizzle.specs.Kept.{with_heads}
+use Rattle.swizzle.specs.Kept.{with_map}
 use Rattle.swizzle.specs.View.{noted_of, beside_of}
 use Rattle.swizzle.specs.Numbered.{numbered}
 use Rattle.swizzle.proofs.KeptLaws.{lies_in, Again}
@@ -27,14 +27,14 @@ write_words-requires c =
     let home = l.split.fit.home in
     record { placed = omega (arith, from); below = omega (arith, to, four, home) }
 
-made : (c : goal.After-put) → Again c.write_words.new.self.words c.write_words.new.self.size (noted_of c.self.inside) (with_heads (beside_of c.self.inside) c.put.new.self.heads.items) (with_object c.args.self.now c.args.object (numbered (object_at c.args.self.now c.args.object) c.args.pid c.head-link.result))
+made : (c : goal.After-put) → Again c.write_words.new.self.words c.write_words.new.self.size (noted_of c.self.inside) (with_map (beside_of c.self.inside) c.put.new.self.heads.items c.max-self-inside.result) (with_object c.args.self.now c.args.object (numbered (object_at c.args.self.now c.args.object) c.args.pid c.head-link.result))
 made c =
     let l = lies_in c.self.inside _ c.args.object c.self.view_is c.self.invariant c.requires.held in
     let heads = c.self.inside.map.heads.items in
     let words = words_are c.write_header.new.into c.header.result (object_at c.args.self.now c.args.object).header c.args.pid c.head-link.result c.from.result c.write_header.ensures c.from.ensures c.header.ensures.value in
-    given c.self.inside c.write_words.new.self c.put.new.self.heads.items c.args.self.now c.args.object c.args.pid c.head-link.result c.self.view_is c.self.invariant l
+    given c.self.inside c.write_words.new.self c.put.new.self.heads.items c.args.self.now c.args.object c.args.pid c.head-link.result c.max-self-inside.result c.self.view_is c.self.invariant l
     (c.write_words.ensures.written ∙ ap (λ (ws : List ℕ). with_words c.self.inside.area c.args.object ws) words) c.requires.none c.requires.low c.requires.high c.requires.fresh
-    c.head-link.ensures (omega arith) (bucket_below c.args.pid (length heads) (length heads) refl c.self.invariant.pids.some) c.put.ensures
+    c.head-link.ensures (omega arith) (bucket_below c.args.pid (length heads) (length heads) refl c.self.invariant.pids.some) c.put.ensures c.max-self-inside.ensures
 
 pub invariant_of-self : goal.invariant_of-self
 invariant_of-self c = (made c).kept

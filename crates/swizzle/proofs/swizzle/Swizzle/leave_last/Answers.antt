@@ -5,7 +5,7 @@ use Rattle.swizzle.specs.Heap.{Heap, IsHeap, object_at, reach_unflagged}
 use Rattle.swizzle.specs.inside.Clearing.{AreLeft}
 use Rattle.swizzle.specs.Kept.{heap_from}
 use Rattle.swizzle.specs.View.{beside_of}
-use Rattle.swizzle.specs.Kept.{Noted, with_room}
+use Rattle.swizzle.specs.Kept.{with_room}
 use Rattle.swizzle.proofs.KeptLaws.{Again, heap_with, lies-given}
 use Rattle.swizzle.proofs.ClearLaws.{last-reached, last-reached_word, without_reached, left-again, left-step, left-all}
 use Rattle.swizzle.proofs.swizzle.Swizzle.leave_last.Goals as goal
@@ -37,7 +37,7 @@ invariant_of-self c =
       heap = subst (λ (xs : List ℕ). IsHeap (heap_from c.self.inside.area.words c.self.inside.area.size (without_reached c.self.inside xs))) (sym (same c)) k.heap;
       for_assigned = k.for_assigned;
       for_reached = omega (arith, k.for_reached, c.in_default.ensures.capacity);
-      pids = record { some = k.pids.some; chained = k.pids.chained; for_fetch = k.pids.for_fetch };
+      pids = record { some = k.pids.some; chained = k.pids.chained; greatest = k.pids.greatest; for_fetch = k.pids.for_fetch };
     }
 
 pub returns-in_default-clause-all : goal.returns-in_default-clause-all

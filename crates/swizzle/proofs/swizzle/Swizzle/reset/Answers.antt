@@ -1,4 +1,4 @@
-use Rattle.std.proofs.Common.{◌≡◌, ◌∙◌, ◌+◌, ◌-◌, ap, arith, length, vec_capacity}
+use Rattle.std.proofs.Common.{◌≡◌, ◌∙◌, ◌+◌, ◌-◌, ap, arith, length, refl, vec_capacity}
 use Rattle.obj_area.specs.Area.{fresh_area}
 use Rattle.swizzle.specs.Heap.{Heap, fresh_heap}
 use Rattle.swizzle.specs.Kept.{Beside, Noted}
@@ -10,6 +10,7 @@ beside c = record {
   places = vec_capacity c.clear.new.self;
   stops = vec_capacity c.clear-2.new.self;
   heads = c.clear-3.new.self.heads.items;
+  greatest = 0;
   room = vec_capacity c.self.inside.buffer;
 }
 
@@ -22,7 +23,7 @@ made c =
     let k = c.self.invariant in
     let size : c.self.inside.area.size ≡ c.self.inside.area.size - 1 + 1 = omega (arith, k.heap.within) in
     fresh_again (c.self.inside.area.size - 1) c.reset.new.self (noted c) (beside c) (length c.self.inside.map.heads.items)
-    (c.reset.ensures ∙ ap fresh_area size) (none-noted c.clear.ensures.items c.clear-2.ensures.items) k.pids.some c.clear-3.ensures (omega (arith, k.heap.small))
+    (c.reset.ensures ∙ ap fresh_area size) (none-noted c.clear.ensures.items c.clear-2.ensures.items) k.pids.some c.clear-3.ensures refl (omega (arith, k.heap.small))
     (omega (arith, k.for_assigned, c.clear.ensures.capacity)) (omega (arith, k.for_reached, c.clear-2.ensures.capacity)) (omega (arith, k.pids.for_fetch))
 
 pub invariant_of-self : goal.invariant_of-self

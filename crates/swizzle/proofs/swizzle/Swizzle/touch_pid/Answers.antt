@@ -65,6 +65,7 @@ beside g c = record {
   places = vec_capacity c.self.inside.assigned;
   stops = vec_capacity c.self.inside.reached;
   heads = c.put.new.self.heads.items;
+  greatest = c.max-self-inside.result;
   room = vec_capacity (with_items c.make_room.new.buffer c.fetch_near.new.buffer);
 }
 
@@ -95,10 +96,10 @@ made g c =
     let at : o.header.pid % length heads ≡ c.args.pid % length heads = ap (λ (p : ℕ). p % length heads) pid in
     let below = bucket_below c.args.pid (length heads) (length heads) refl m.some in
     let link : o.header.chain ≡ c.head-link.result = ap (λ (h : Header). h.chain) it.header_is in
-    mapped-laid now.objects now.size (beside_of c.self.inside) o c.top-top.result (vec_capacity (with_items c.make_room.new.buffer c.fetch_near.new.buffer)) c.put.new.self.heads.items good.one m
+    mapped-laid now.objects now.size (beside_of c.self.inside) o c.top-top.result (vec_capacity (with_items c.make_room.new.buffer c.fetch_near.new.buffer)) c.max-self-inside.result c.put.new.self.heads.items good.one m
     (omega (arith, pid, c.requires.low)) (ap (local_of now) pid ∙ away g c) (omega (arith, at, below))
     (link ∙ c.head-link.ensures ∙ ap (λ (b : ℕ). get_or heads b 0) (sym at)) (omega (arith, link)) place
-    (c.put.ensures ∙ ap (λ (b : ℕ). set heads b c.top-top.result) (sym at)) (omega (arith, m.for_fetch, c.make_room.ensures.capacity)))
+    (c.put.ensures ∙ ap (λ (b : ℕ). set heads b c.top-top.result) (sym at)) (omega (arith, c.max-self-inside.ensures, pid)) (omega (arith, m.for_fetch, c.make_room.ensures.capacity)))
 
 came : (g : Given.Over) (c : goal.After-put g) → Came c.args.self.now (heap_is c.lay.new.area (noted_of c.self.inside)) c.args.pid c.head-link.result c.in_default-fetch_near.ensures.near.words
 came g c = record {

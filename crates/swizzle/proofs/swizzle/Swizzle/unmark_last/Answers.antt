@@ -5,7 +5,7 @@ use Rattle.swizzle.specs.Heap.{Heap, IsHeap, object_at, unflagged}
 use Rattle.swizzle.specs.inside.Clearing.{IsUnmarkedAll}
 use Rattle.swizzle.specs.Kept.{heap_from}
 use Rattle.swizzle.specs.View.{beside_of}
-use Rattle.swizzle.specs.Kept.{Noted, with_room}
+use Rattle.swizzle.specs.Kept.{with_room}
 use Rattle.swizzle.proofs.KeptLaws.{Again, heap_with, lies-given}
 use Rattle.swizzle.proofs.ClearLaws.{last, last-word, without_assigned, unmarked-again, unmarked-step, unmarked-all}
 use Rattle.swizzle.proofs.swizzle.Swizzle.unmark_last.Goals as goal
@@ -37,7 +37,7 @@ invariant_of-self c =
       heap = subst (λ (xs : List ℕ). IsHeap (heap_from c.self.inside.area.words c.self.inside.area.size (without_assigned c.self.inside xs))) (sym (same c)) k.heap;
       for_assigned = omega (arith, k.for_assigned, c.in_default.ensures.capacity);
       for_reached = k.for_reached;
-      pids = record { some = k.pids.some; chained = k.pids.chained; for_fetch = k.pids.for_fetch };
+      pids = record { some = k.pids.some; chained = k.pids.chained; greatest = k.pids.greatest; for_fetch = k.pids.for_fetch };
     }
 
 pub returns-in_default-clause-all : goal.returns-in_default-clause-all

@@ -1,0 +1,4 @@
+pub mod ResultLaws
+pub mod KnowLaws
+pub mod OpenLaws
+pub mod CreateLaws

@@ -1,0 +1,2 @@
+pub mod Calls
+pub use Rattle.joint_held.specs as joint_held

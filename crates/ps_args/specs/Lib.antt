@@ -1,0 +1,5 @@
+pub mod Given
+pub mod Words
+pub mod Simple
+pub mod Reading
+pub use Rattle.ps_scan.specs as ps_scan
