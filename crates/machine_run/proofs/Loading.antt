@@ -1,5 +1,5 @@
 -- A machine at the start of a unit.
-use Rattle.std.proofs.Common.{◌≡◌, ℕ, ◌≤◌, ℤ, pos, List, [], length, replicate, Option, None, false, sym, ap, ◌∙◌, subst, arith, rules}
+use Rattle.std.proofs.Common.{◌≡◌, ℕ, ◌≤◌, ℤ, pos, List, [], length, replicate, None, sym, ap, ◌∙◌, subst, arith, rules}
 use Rattle.std.specs.Prelude.{All, reverse}
 use Rattle.std.proofs.lemmas.List.{get_or-replicate, drop_all, length-replicate}
 use Rattle.std.proofs.lemmas.List.Elements.{All-nil, All-replicate}
@@ -20,11 +20,7 @@ use Rattle.machine_core.specs.heap_texts.Texts.{wanted_of}
 use Rattle.machine_core.specs.proc_values.Units.{IsCut, unit_objects}
 use Rattle.machine_core.specs.proc_values.Reading.{IsPlaceOf}
 use Rattle.machine_core.specs.proc_values.declared.reading.CodePlace.{CodePlace}
-use Rattle.machine_core.specs.joint_ops.World.{IsUnitIn, DenotesIn, DenotesScopeIn}
-use Rattle.machine_core.specs.joint_held.reach_commit.commit_walk.declared.homes.Source.{Source}
-use Rattle.machine_core.specs.joint_held.Held.{HoldsRun}
-use Rattle.machine_core.specs.Holding.{holding, run_in}
-use Rattle.machine_core.proofs.RunLaws.{run-gained}
+use Rattle.machine_core.specs.joint_ops.World.{IsWorld, IsUnitIn, DenotesIn, DenotesScopeIn}
 use Rattle.machine_core.specs.joint_ops.Code as code
 use Rattle.machine_core.specs.joint_ops.Code.{unit_weight}
 use Rattle.machine_core.specs.declared.machine.Machine.{Machine}
@@ -135,10 +131,8 @@ module _ (outside : Outside Space) (u : UnitView) (turns : ℕ) (input : List �
         roomy = b.roomy;
         size = ap (λ (h : area.Heap). h.size) objects ∙ keeps ∙ ap (λ (h : area.Heap). h.size) empty;
         top = let top = is.top in let was = ap top_of empty in let now = ap top_of objects in omega (arith, top, was, now);
-        starts = λ constants store g.
-            let was = subst (λ (h : area.Heap). HoldsRun h outside g.names [] None store.held) (sym empty) g.run in
-            let run = run-gained g.names [] false None store.held fresh mid.objects outside outside (is.gains constants) (holding g.unasked was) in
-            let here_run = subst (λ (h : area.Heap). HoldsRun h outside g.names [] None store.held) (sym objects) (run_in run) in
+        starts = λ store g.
+            let world = (is.stands store.held.objects g.names (subst (λ (h : area.Heap). IsWorld h outside store.held.objects g.names) (sym empty) g.world)).world in
             record {
               names = g.names;
               held = record {
@@ -154,9 +148,7 @@ module _ (outside : Outside Space) (u : UnitView) (turns : ℕ) (input : List �
                 callers_are = (b.callers, b.nums_below, b.refs_below);
                 input_is = b.input ∙ read ∙ sym g.input_is;
                 turns_are = g.turns_are ∙ sym b.turns_are;
-                run = holding (g.unasked ∙ sym b.asked)
-                    (subst (λ (ss : List Source). HoldsRun here outside g.names ss new.databases.directory store.held) (sym b.writing)
-                    (subst (λ (to : Option ℕ). HoldsRun here outside g.names [] to store.held) (sym b.directory) here_run));
+                world = subst (λ (h : area.Heap). IsWorld h outside store.held.objects g.names) (sym objects) world;
               };
             };
       }

@@ -76,5 +76,5 @@ module _ (m : Machine) (input : List ℕ) where
     callers_are = h.callers_are;
     input_is = is ∙ ap behind_line h.input_is;
     turns_are = h.turns_are;
-    run = h.run;
+    world = h.world;
   }

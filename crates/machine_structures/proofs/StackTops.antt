@@ -134,7 +134,7 @@ module _ (m : Machine) (now : area.Heap) (values : Vec code.Value Global) (nums 
         (subst (λ (l : List ℕ). AreWaiting m.objects outside names m.callers.items m.nums.below l c.callers) (sym refs_below) h.callers_are);
     input_is = h.input_is;
     turns_are = h.turns_are;
-    run = h.run;
+    world = h.world;
   }
 
   -- its words name objects of the area still

@@ -32,7 +32,7 @@ use ps_causes::ps_volumes::{Unattached, attached};
 use ps_causes::ps_words::RunWords;
 use ps_code_laws::program_runs_as_meant;
 use ps_port::{Host, tell};
-use ps_unit_weights::{generated_units_have_constants, units_weigh_as_counted};
+use ps_unit_weights::units_weigh_as_counted;
 use std::alloc::Global;
 
 /// Runs what was prepared over the volume of the host, and gives its end beside the host. All memory is taken here, before the first event.
@@ -75,7 +75,6 @@ fn run_attached<H: Host>(
     heavier_code_counts_more();
     program_runs_as_meant();
     units_weigh_as_counted();
-    generated_units_have_constants();
     let mut m = m;
     let Prepared { unit, input } = prepared;
     let vault = NoStore::new(host);

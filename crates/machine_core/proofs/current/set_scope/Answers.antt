@@ -35,6 +35,6 @@ returns-clause-enters g c =
         callers_are = h.callers_are;
         input_is = h.input_is;
         turns_are = h.turns_are;
-        run = h.run;
+        world = h.world;
       };
     }
