@@ -61,7 +61,7 @@ use Rattle.machine_run.proofs.Counting.{next_counted}
 use Rattle.machine_run.proofs.Between.{goes_plainly}
 use Rattle.no_store.specs.NoObjects.{outside_of}
 use Rattle.no_store.proofs.HoldingLaws.{holds-nothing, device-left}
-use Rattle.ps_causes.specs.ps_args.Words.{RunOf}
+use Rattle.ps_causes.specs.ps_words.Words.{RunOf}
 use Rattle.ps_causes.specs.ps_reports.declared.status.Status.{Status}
 use Rattle.ps_causes.specs.ps_reports.declared.status.Status.TheVariants as statuses
 use Rattle.ps_causes.specs.ps_reports.declared.report.Report.{Report}

@@ -6,7 +6,7 @@ use Rattle.no_store.specs.NoObjects.{outside_of}
 use Rattle.ps_port.proofs.Telling.{all_none}
 use Rattle.ps_port.proofs.of_ps_outside.Moments.{along_none}
 use Rattle.ps_port.specs.ps_outside.Outside.{LeavesSame}
-use Rattle.ps_causes.specs.ps_args.Reading.{run_in}
+use Rattle.ps_causes.specs.ps_words.Reading.{run_in}
 use Rattle.ps_causes.specs.ps_reports.declared.report.Report.TheVariants as reports
 use Rattle.ps_causes.specs.Steps.{EndsRun}
 use Rattle.ps_command.proofs.Ending.{has_frame, has_no_room, loads_itself, ready, never_begins, full_told}
