@@ -3,7 +3,7 @@ use crate::asked::{Asked, Row};
 use ps_args::{FORMAT_HELP, HELP, RUN_HELP, VERSION};
 
 /// Words that are a run.
-pub static RUNS: [Row; 34] = [
+pub static RUNS: [Row; 30] = [
     Row {
         words: &["run", "v", "a"],
         asked: Asked::Run {
@@ -115,30 +115,12 @@ pub static RUNS: [Row; 34] = [
         },
     },
     Row {
-        words: &["run", "v", "--", "-a"],
+        words: &["run", "v", "--", "-"],
         asked: Asked::Run {
             area: 16384,
             turns: 100000000,
             input: None,
-            files: &["-a"],
-        },
-    },
-    Row {
-        words: &["run", "v", "--turns", "5", "--", "--area"],
-        asked: Asked::Run {
-            area: 16384,
-            turns: 5,
-            input: None,
-            files: &["--area"],
-        },
-    },
-    Row {
-        words: &["run", "v", "--", "--"],
-        asked: Asked::Run {
-            area: 16384,
-            turns: 100000000,
-            input: None,
-            files: &["--"],
+            files: &["-"],
         },
     },
     Row {
@@ -148,15 +130,6 @@ pub static RUNS: [Row; 34] = [
             turns: 100000000,
             input: None,
             files: &["a", "b"],
-        },
-    },
-    Row {
-        words: &["run", "v", "a", "--", "--turns", "5"],
-        asked: Asked::Run {
-            area: 16384,
-            turns: 100000000,
-            input: None,
-            files: &["a", "--turns", "5"],
         },
     },
     Row {
@@ -219,15 +192,6 @@ pub static RUNS: [Row; 34] = [
             area: 16384,
             turns: 100000000,
             input: Some("-"),
-            files: &["a"],
-        },
-    },
-    Row {
-        words: &["run", "v", "--input=-x", "a"],
-        asked: Asked::Run {
-            area: 16384,
-            turns: 100000000,
-            input: Some("-x"),
             files: &["a"],
         },
     },
@@ -315,7 +279,7 @@ pub static RUNS: [Row; 34] = [
 ];
 
 /// Words behind the volume that are no run.
-pub static REFUSED: [Row; 38] = [
+pub static REFUSED: [Row; 43] = [
     Row {
         words: &["run", "v"],
         asked: Asked::Usage,
@@ -466,6 +430,26 @@ pub static REFUSED: [Row; 38] = [
     },
     Row {
         words: &["run", "v", "a", "-5"],
+        asked: Asked::Usage,
+    },
+    Row {
+        words: &["run", "v", "--", "-a"],
+        asked: Asked::Usage,
+    },
+    Row {
+        words: &["run", "v", "--turns", "5", "--", "--area"],
+        asked: Asked::Usage,
+    },
+    Row {
+        words: &["run", "v", "--", "--"],
+        asked: Asked::Usage,
+    },
+    Row {
+        words: &["run", "v", "a", "--", "--turns", "5"],
+        asked: Asked::Usage,
+    },
+    Row {
+        words: &["run", "v", "--input=-x", "a"],
         asked: Asked::Usage,
     },
 ];
@@ -672,7 +656,7 @@ pub static OTHERS: [Row; 48] = [
 ];
 
 /// Words that are no command, though `clap` takes those behind the volume: a number isn't one, or isn't in its bounds.
-pub static TAKEN: [&[&str]; 18] = [
+pub static TAKEN: [&[&str]; 23] = [
     &["run", "v", "--turns=-5", "a"],
     &["run", "v", "--turns=", "a"],
     &["run", "v", "--turns", "", "a"],
@@ -691,4 +675,9 @@ pub static TAKEN: [&[&str]; 18] = [
     &["format", "v", ""],
     &["format", "v", "--", "-64"],
     &["format", "v", "64x"],
+    &["run", "v", "--", "-a"],
+    &["run", "v", "--turns", "5", "--", "--area"],
+    &["run", "v", "--", "--"],
+    &["run", "v", "a", "--", "--turns", "5"],
+    &["run", "v", "--input=-x", "a"],
 ];

@@ -16,7 +16,7 @@ use Rattle.heap_meaning.specs.Standing.{Seen, Pairing}
 use Rattle.heap_meaning.specs.Paired.{paired}
 use Rattle.heap_meaning.specs.ps_heap.Databases.{Database, Directory, database_from, database_at, root_of, each_once, open_for_writing, is_there}
 use Rattle.heap_meaning.specs.ps_heap.Held.{Place, object_of, Held, home_at, row}
-use Rattle.heap_meaning.specs.ps_heap.Commit.{created_with, or_else, first_database, home_after, homes_after, is_writable, are_writable, is_empty, Decision, decision, NotWritable, NothingToDo, Saves, saved}
+use Rattle.heap_meaning.specs.ps_heap.Commit.{created_with, or_else, first_database, home_after, homes_after, is_writable, are_writable, is_empty, decision, NotWritable, NothingToDo, Saves, saved}
 use Rattle.joint_ops.specs.World.{seen, IsWorld}
 use Rattle.db_dir.specs.Directories as area
 use Rattle.db_dir.specs.Directories.{IsDirectoryAt}

@@ -1,5 +1,5 @@
 -- What a commit that saved leaves on the vault stands for the heap that the meaning saves.
-use Rattle.std.proofs.Common.{true, inl, inr, ◌≡◌, ◌≢◌, ℕ, List, [], map, refl, sym, ap, ◌∙◌, subst, Option, Some, None, IfSome}
+use Rattle.std.proofs.Common.{true, inl, inr, ◌≡◌, ◌≢◌, ℕ, List, map, refl, sym, ap, ◌∙◌, subst, Option, Some, None, IfSome}
 use Rattle.std.specs.Prelude.{Result, Ok, Err}
 use Rattle.swizzle.specs.obj_layout.ps_outside.Outside.{Outside}
 use Rattle.swizzle.specs.obj_layout.declared.kind.Kind.TheVariants as kind
@@ -14,13 +14,13 @@ use Rattle.swizzle.specs.Heap.{Heap, IsHeap, IsHeld}
 use Rattle.swizzle.specs.Joint.{Shown}
 use Rattle.commit_walk.specs.declared.homes.Source.{Source}
 use Rattle.heap_meaning.specs.heap_places.Shapes.{word_in}
-use Rattle.heap_meaning.specs.Paired.{paired}
+use Rattle.heap_meaning.specs.Paired.{paired, StandsRow}
 use Rattle.heap_meaning.proofs.TableLaws.{no-node}
 use Rattle.heap_meaning.specs.ps_heap.Held.{Held, StoredHeap, home_at}
-use Rattle.heap_meaning.specs.ps_heap.Commit.{homes_after, Decision, NotWritable, NothingToDo, Saves, saved, decision, after_decision}
-use Rattle.database_meaning.proofs.CommitLaws.{saved-is}
-use Rattle.ps_code_laws.specs.Compiled.{compiled_held, compiled_stored}
-use Rattle.ps_code_laws.proofs.CommitCompiling.{compiled_decision, decision_compiled}
+use Rattle.heap_meaning.specs.ps_heap.Objects as meaning
+use Rattle.heap_meaning.specs.ps_heap.Databases.{Directory}
+use Rattle.heap_meaning.specs.ps_heap.Commit.{homes_after, Saves, saved, after_decision}
+use Rattle.ps_code_laws.specs.Compiled.{compiled_heap, compiled_stored}
 use Rattle.joint_ops.specs.World.{seen}
 use Rattle.joint_ops.proofs.SeenLaws.{seen-one}
 use Rattle.reach_commit.specs.declared.commit.CommitAnswer.{CommitAnswer}
@@ -31,100 +31,83 @@ use Rattle.reach_commit.specs.Committing.{Commits, BreaksOff, pid_of}
 use Rattle.reach_commit.specs.Telling.{after_step, Tells}
 use Rattle.reach_commit.specs.Answers.{Decides, LeavesAll, Stores}
 use Rattle.joint_held.specs.Held.{IsAtHome, IsOneStore, HoldsRun}
-use Rattle.space_meaning.specs.heap_fit.Heaps.{IsFitHeap}
 use Rattle.space_meaning.specs.Space.{SeenIn}
-use Rattle.space_meaning.specs.Stands.{IsHome, SpaceStands}
-use Rattle.space_meaning.specs.Keeping.{HaveUnits}
+use Rattle.space_meaning.specs.Stands.{IsHome, IsDirectoryOf, SpaceStands}
+use Rattle.space_meaning.specs.Keeping.{IsKept}
 use Rattle.space_meaning.proofs.Seen.{seen-one as one-seen}
 use Rattle.space_meaning.proofs.StandLaws.{space-stands}
 use Rattle.joint_reach.specs.Meets.{DecidesAs, MeetsHomes}
 use Rattle.joint_reach.proofs.DecideLaws.{decides-as}
 use Rattle.joint_reach.proofs.HomeLaws.{meets-homes}
 use Rattle.joint_reach.proofs.NodeLaws.{meets-nodes}
-use Rattle.joint_commit.specs.Saving.{none_made, ContentsStand, ImagesStand, LeavesEither}
-use Rattle.joint_commit.specs.Answers.{IsOwed, CommitsRun}
+use Rattle.joint_commit.specs.Saving.{none_made, ContentsStand, ImagesStand, IsSaved, LeavesEither}
+use Rattle.joint_commit.specs.Answers.{CommitsHeld}
 use Rattle.joint_commit.proofs.StoredLaws.{Setting, row, things-kept, space-keeps}
 use Rattle.joint_commit.proofs.HomeLaws.{homes-hold}
 use Rattle.joint_commit.proofs.DirectoryLaws.{directory-stands}
 use Rattle.joint_commit.proofs.RunLaws.{held_after, run-after, saves-asked}
 
--- The decision over the meaning's heap, from that over the compiled one.
+-- The parts of the heap that is saved are those of the run, as it is after the commit.
+pub record AreSaved (d : Held) (heap : StoredHeap) : Type 0 where
+  pub objects : d.objects ≡ compiled_heap heap.objects
+  pub homes : homes_after d ≡ heap.homes
+  pub directory : d.directory ≡ heap.directory
 
-refused-back : (d : Decision) → compiled_decision d ≡ NotWritable → d ≡ NotWritable
-refused-back NotWritable e = refl
-refused-back NothingToDo e = absurd (cc)
-refused-back (Saves heap) e = absurd (cc)
-
-nothing-back : (d : Decision) → compiled_decision d ≡ NothingToDo → d ≡ NothingToDo
-nothing-back NotWritable e = absurd (cc)
-nothing-back NothingToDo e = refl
-nothing-back (Saves heap) e = absurd (cc)
-
-saves-back : (d : Decision) (made : StoredHeap) → compiled_decision d ≡ Saves made → (heap : StoredHeap) × (d ≡ Saves heap) × (made ≡ compiled_stored heap)
-saves-back NotWritable made e = absurd (cc)
-saves-back NothingToDo made e = absurd (cc)
-saves-back (Saves heap) made e = (heap, refl, cc)
-
--- the meaning saves, and its heap is the compiled one's
-pub record SavesBoth (h : Held) : Type 0 where
-  pub saves : decision h ≡ Saves (saved h)
-  pub made : saved (compiled_held h) ≡ compiled_stored (saved h)
-
-saves-both : (h : Held) → decision (compiled_held h) ≡ Saves (saved (compiled_held h)) → SavesBoth h
-saves-both h e =
-    let b = saves-back (decision h) (saved (compiled_held h)) (sym (decision_compiled h) ∙ e) in
-    let is = (saved-is h b.0 b.1).1 in
-    record { saves = b.1 ∙ ap (λ (heap : StoredHeap). Saves heap) is; made = b.2 ∙ ap compiled_stored is }
-
-homes-same : (h : Held) → saved (compiled_held h) ≡ compiled_stored (saved h) → homes_after (compiled_held h) ≡ homes_after h
+are-saved : (d : Held) (heap : StoredHeap) → saved d ≡ compiled_stored heap → AreSaved d heap
 unfolding saved
-homes-same h e = ap (λ (heap : StoredHeap). heap.homes) e
+are-saved d heap e = record {
+  objects = ap (λ (made : StoredHeap). made.objects) e;
+  homes = ap (λ (made : StoredHeap). made.homes) e;
+  directory = ap (λ (made : StoredHeap). made.directory) e;
+}
 
-abbrev saved_parts : Held → StoredHeap
-saved_parts h = record { objects = h.objects; homes = homes_after h; directory = h.directory }
-
-saved-is_parts : (h : Held) → saved h ≡ saved_parts h
+after-saved : (d : Held) → held_after d ≡ after_decision (Saves (saved d)) d
 unfolding saved
-saved-is_parts h = refl
+after-saved d = refl
 
-run-same : (h : Held) → homes_after (compiled_held h) ≡ homes_after h → held_after (compiled_held h) ≡ compiled_held (after_decision (Saves (saved h)) h)
-unfolding saved
-run-same h e = ap (λ (homes : List (Option ℕ)). record (compiled_held h) { homes = homes; created = []; assigned = [] }) e
-
-module _ (old new : Heap) (before after : Outside Space) (names : List Reference) (writing : List Source) (directory : Option ℕ) (h : Held)
-    (s : Setting old new before after names writing directory (compiled_held h))
-    (meets : MeetsHomes old new names writing directory (compiled_held h))
-    (fit : IsFitHeap (saved h))
-    (units : HaveUnits h.objects)
-    (both : SavesBoth h)
-    (asked : h.asked ≡ true) where
+module _ (old new : Heap) (before after : Outside Space) (names : List Reference) (writing : List Source) (directory : Option ℕ) (d : Held)
+    (s : Setting old new before after names writing directory d)
+    (meets : MeetsHomes old new names writing directory d)
+    (asked : d.asked ≡ true)
+    (heap : StoredHeap)
+    (is_saved : IsSaved d heap) where
   abbrev ρ : Reference → Reference
   ρ = (s.tells.moved s.holds.current.told).to
 
+  parts : AreSaved d heap
+  parts = are-saved d heap is_saved.made
+
   home-in : (space : Space) (is : after.contents space) (pid id : ℕ) → paired (map ρ names) (Pid pid) id → (it : Shown) → SeenIn (without_file space) (Pid pid) it
-      → IsHome (word_in it 0) (home_at (homes_after h) id)
+      → IsHome (word_in it 0) (home_at heap.homes id)
   home-in space is pid id p it there =
-      by (home_at (homes_after h) id)
-      (subst (λ (homes : List (Option ℕ)). IsAtHome (seen new after) (Pid pid) (home_at homes id)) (homes-same h both.made)
-      (homes-hold old new before after names writing directory (compiled_held h) s meets (Pid pid) id p))
+      by (home_at heap.homes id)
+      (subst (λ (homes : List (Option ℕ)). IsAtHome (seen new after) (Pid pid) (home_at homes id)) parts.homes
+      (homes-hold old new before after names writing directory d s meets (Pid pid) id p))
     where
       by : (home : Option ℕ) → IsAtHome (seen new after) (Pid pid) home → IsHome (word_in it 0) home
       by None a = absurd a
       by (Some number) a =
-          let b = (row old new before after names writing directory (compiled_held h) s).stands.both (Pid pid) id p in
+          let b = (row old new before after names writing directory d s).stands.both (Pid pid) id p in
           let same : a.0 ≡ b.it = seen-one new after s.good s.one (Pid pid) a.0 b.it a.1 b.there in
           let other : (a.0).kind ≢ kind.Node =
           λ e. no-node (seen new after) (paired (map ρ names)) b.it b.object b.like (ap (λ (x : Shown). x.kind) (sym same) ∙ e) in
-          let mine = things-kept old new before after names writing directory (compiled_held h) s space is pid a.0 a.1 other in
+          let mine = things-kept old new before after names writing directory d s space is pid a.0 a.1 other in
           ap (λ (x : Shown). word_in x 0) (one-seen (without_file space) (Pid pid) it a.0 there mine) ∙ a.2
 
-  pub contents-stand : ContentsStand after (saved h)
+  -- the directory of the space, as the heap has it
+  directory-in : (space : Space) (is : after.contents space) → IsDirectoryOf (SeenIn (without_file space)) (paired (map ρ names)) space.directory heap.directory
+  directory-in space is =
+      subst (λ (databases : Directory). IsDirectoryOf (SeenIn (without_file space)) (paired (map ρ names)) space.directory databases) parts.directory
+      (directory-stands old new before after names writing directory d s space is asked)
+
+  pub contents-stand : ContentsStand after heap
   contents-stand space is =
       let cut = (s.tells.told s.holds.current.told).cut space is in
-      subst (SpaceStands (without_file space)) (sym (saved-is_parts h))
-      (space-stands (seen new after) (without_file space) (saved_parts h) (map ρ names) (row old new before after names writing directory (compiled_held h) s) units
-      (space-keeps old new before after names writing directory (compiled_held h) s space is) (home-in space is)
-      (directory-stands old new before after names writing directory (compiled_held h) s space is asked) cut.objects cut.cut (subst IsFitHeap (saved-is_parts h) fit))
+      let there = without_file space in
+      subst (λ (of : meaning.Heap). (r : StandsRow (seen new after) of (map ρ names)) → IsKept (seen new after) there of (map ρ names) r.stands.tables.nodes → SpaceStands there heap)
+      (sym parts.objects)
+      (λ r kept. space-stands (seen new after) there heap (map ρ names) r is_saved.units kept (home-in space is) (directory-in space is) cut.objects cut.cut is_saved.fit)
+      (row old new before after names writing directory d s) (space-keeps old new before after names writing directory d s space is)
 
 -- What a crash leaves, of a commit that was answered.
 module _ (before after : Outside Space) (most : ℕ) (step : Space → Space) (heap : StoredHeap)
@@ -180,23 +163,22 @@ keeps-run outside old new before after names writing directory h (Ok (answer.Sav
 keeps-run outside old new before after names writing directory h (Err fault) holds same = tt
 
 -- A commit, by what it answers.
-module _ (old new : Heap) (before after : Outside Space) (names : List Reference) (writing : List Source) (directory : Option ℕ) (h : Held) (used now most named : ℕ)
+module _ (old new : Heap) (before after : Outside Space) (names : List Reference) (writing : List Source) (directory : Option ℕ) (d : Held) (used now most named : ℕ)
     (sound : IsHeap old)
     (good : IsHeap new)
     (store : IsOneStore after)
     (given : IfSome directory (IsHeld old))
-    (holds : HoldsRun old before names writing directory (compiled_held h))
-    (owed : IsOwed h) where
+    (holds : HoldsRun old before names writing directory d) where
   only : (a b : Space) → before.contents a → before.contents b → a ≡ b
   only a b p q = holds.store.one a b p q
 
-  decides : (result : Result CommitAnswer SwizzleFault) → Decides old writing result → DecidesAs (compiled_held h) result
-  decides result d = decides-as old before names writing directory (compiled_held h) sound (seen-one old before sound only) holds result d
+  decides : (result : Result CommitAnswer SwizzleFault) → Decides old writing result → DecidesAs d result
+  decides result told = decides-as old before names writing directory d sound (seen-one old before sound only) holds result told
 
   -- the parts of a commit that stored
   abbrev setting : (then : Outside Space) (fresh changed : List ℕ) → AreWritable old writing → ((a b : Space) → then.contents a → then.contents b → a ≡ b)
       → Commits old new writing directory used fresh changed → Becomes before then (stored_by new fresh changed (pid_of new directory))
-      → Tells old new before then fresh changed (pid_of new directory) → Setting old new before then names writing directory (compiled_held h)
+      → Tells old new before then fresh changed (pid_of new directory) → Setting old new before then names writing directory d
   setting then fresh changed writable single commits becomes tells = record {
     used = used;
     fresh = fresh;
@@ -210,50 +192,50 @@ module _ (old new : Heap) (before after : Outside Space) (names : List Reference
     commits = commits;
     becomes = becomes;
     tells = tells;
-    meets = meets-nodes old before names writing directory (compiled_held h) sound (seen-one old before sound only) holds writable;
+    meets = meets-nodes old before names writing directory d sound (seen-one old before sound only) holds writable;
   }
 
-  homes : (fresh changed : List ℕ) → AreWritable old writing → Commits old new writing directory used fresh changed → MeetsHomes old new names writing directory (compiled_held h)
+  homes : (fresh changed : List ℕ) → AreWritable old writing → Commits old new writing directory used fresh changed → MeetsHomes old new names writing directory d
   homes fresh changed writable commits =
-      meets-homes old before names writing directory (compiled_held h) sound (seen-one old before sound only) holds writable new used fresh changed commits
+      meets-homes old before names writing directory d sound (seen-one old before sound only) holds writable new used fresh changed commits
 
-  pub commits-run : (result : Result CommitAnswer SwizzleFault) → Decides old writing result → Stores old new writing directory before after used now most named result
-      → Keeps new after names writing directory (compiled_held h) result → CommitsRun old new before after names writing directory h result
-  commits-run (Ok (answer.NotWritable object home)) d stores keeps =
-      (refused-back (decision h) (sym (decision_compiled h) ∙ decides (Ok (answer.NotWritable object home)) d), keeps)
-  commits-run (Ok answer.Nothing) d stores keeps = (nothing-back (decision h) (sym (decision_compiled h) ∙ decides (Ok answer.Nothing) d), keeps)
-  commits-run (Err (AreaFull top wanted size)) d stores keeps = absurd stores
-  commits-run (Err (Vault fault)) d stores keeps =
-      let made = decides (Err (Vault fault)) d in
-      let both = saves-both h made in
-      let asked = saves-asked old before names writing directory (compiled_held h) made holds in
+  pub commits-held : (result : Result CommitAnswer SwizzleFault) → Decides old writing result → Stores old new writing directory before after used now most named result
+      → Keeps new after names writing directory d result → CommitsHeld old new before after names writing directory d result
+  commits-held (Ok (answer.NotWritable object home)) told stores keeps = (decides (Ok (answer.NotWritable object home)) told, keeps)
+  commits-held (Ok answer.Nothing) told stores keeps = (decides (Ok answer.Nothing) told, keeps)
+  commits-held (Err (AreaFull top wanted size)) told stores keeps = absurd stores
+  commits-held (Err (Vault fault)) told stores keeps =
+      let saves = decides (Err (Vault fault)) told in
+      let asked = saves-asked old before names writing directory d saves holds in
       let step = stored_by new stores.fresh stores.changed (pid_of new directory) in (
-        both.saves,
-        broken-stands old new writing directory before after used most fault (saved h) stores (λ tells.
-            contents-stand old new before (after_step before step) names writing directory h
-            (setting (after_step before step) stores.fresh stores.changed d.0 (one-step before step only) stores.commits (held-step before step) tells)
-            (homes stores.fresh stores.changed d.0 stores.commits) owed.fit owed.units both asked),
+        saves,
+        λ heap is_saved. broken-stands old new writing directory before after used most fault heap stores (λ tells.
+            contents-stand old new before (after_step before step) names writing directory d
+            (setting (after_step before step) stores.fresh stores.changed told.0 (one-step before step only) stores.commits (held-step before step) tells)
+            (homes stores.fresh stores.changed told.0 stores.commits) asked heap is_saved),
       )
-  commits-run (Ok (answer.Saved fresh rewritten)) d stores keeps =
-      let made = decides (Ok (answer.Saved fresh rewritten)) d in
-      let both = saves-both h made in
-      let asked = saves-asked old before names writing directory (compiled_held h) made holds in
-      let s = setting after stores.fresh stores.changed d.0 store.one stores.commits stores.becomes stores.tells in
-      let at_home = homes stores.fresh stores.changed d.0 stores.commits in
-      let stands = contents-stand old new before after names writing directory h s at_home owed.fit owed.units both asked in
+  commits-held (Ok (answer.Saved fresh rewritten)) told stores keeps =
+      let saves = decides (Ok (answer.Saved fresh rewritten)) told in
+      let asked = saves-asked old before names writing directory d saves holds in
+      let s = setting after stores.fresh stores.changed told.0 store.one stores.commits stores.becomes stores.tells in
+      let at_home = homes stores.fresh stores.changed told.0 stores.commits in
       let t = holds.current.told in
       let m = stores.tells.moved t in
       let step = stored_by new stores.fresh stores.changed (pid_of new directory) in (
-        both.saves,
+        saves,
         record {
           more = map m.to names;
-          holds = subst (HoldsRun new after (map m.to names) (none_made writing) directory) (run-same h (homes-same h both.made))
-              (run-after old new before after names writing directory (compiled_held h) s stores.unassigned at_home asked store);
+          holds = subst (HoldsRun new after (map m.to names) (none_made writing) directory) (after-saved d)
+              (run-after old new before after names writing directory d s stores.unassigned at_home asked store);
           values = λ at v e. m.values names at v e;
           scopes = λ at scope e. m.scopes names at scope e;
           units = m.units;
-          contents = stands;
-          moments = moments-stand before after (saving new stores.fresh stores.changed now) step (saved h) stores.settles stands stores.becomes;
-          last = last-stands before after (saving new stores.fresh stores.changed now) step (saved h) stores.settles stands t.content t.is;
+          leaves = λ heap is_saved.
+              let stands = contents-stand old new before after names writing directory d s at_home asked heap is_saved in
+              record {
+                contents = stands;
+                moments = moments-stand before after (saving new stores.fresh stores.changed now) step heap stores.settles stands stores.becomes;
+                last = last-stands before after (saving new stores.fresh stores.changed now) step heap stores.settles stands t.content t.is;
+              };
         },
       )

@@ -7,8 +7,7 @@ ghost use Rattle.reach_commit.specs.Becoming.{AreNewRoots};
 ghost use Rattle.reach_commit.specs.Answers.{Decides, LeavesAll, Stores, Lacks};
 ghost use Rattle.joint_held.specs.joint_ops.ps_heap.Held.{Held};
 ghost use Rattle.joint_held.specs.Held.{HoldsRun};
-ghost use Rattle.space_meaning.specs.ps_code_laws.Compiled.{compiled_held};
-ghost use Rattle.joint_commit.specs.Answers.{IsOwed, CommitsRun};
+ghost use Rattle.joint_commit.specs.Answers.{CommitsHeld};
 ghost use Rattle.new_pids.specs.Giving.{AreBelow};
 
 use commit_walk::homes::Source;
@@ -17,7 +16,7 @@ use swizzle::fault::SwizzleFault;
 use swizzle::obj_layout::vault::Vault;
 use swizzle::swizzle::Swizzle;
 
-/// Commits, as `reach_commit::commit::commit` does. Where area and vault hold a run of the meaning, it does what the meaning's commit does: it is refused where that
+/// Commits, as `reach_commit::commit::commit` does. Where area and vault hold a run, it does what the meaning's commit of this run does: it is refused where that
 /// is, has nothing to do where that has nothing, and else what it leaves on the vault stands for the heap that the meaning saves, at every moment whole or not at
 /// all; area and vault hold the run as it is then.
 pub fn commit<V: Vault>(
@@ -34,8 +33,8 @@ pub fn commit<V: Vault>(
     requires directory { IfSome directory (IsHeld sw.old) }
     requires below { AreBelow sw.old (V.used_words vault.old) }
     requires room { sw.old.size ≤ length buffer.old + 1 }
-    ensures run { (names : List Reference) (h : Held) → HoldsRun sw.old (V.outside vault.old) names writing.now directory (compiled_held h) → IsOwed h →
-        CommitsRun sw.old sw.new (V.outside vault.old) (V.outside vault.new) names writing.now directory h result }
+    ensures held { (names : List Reference) (d : Held) → HoldsRun sw.old (V.outside vault.old) names writing.now directory d →
+        CommitsHeld sw.old sw.new (V.outside vault.old) (V.outside vault.new) names writing.now directory d result }
     ensures decides { Decides sw.old writing.now result }
     ensures still { LeavesAll sw.old sw.new vault.old vault.new result }
     ensures stores { Stores sw.old sw.new writing.now directory (V.outside vault.old) (V.outside vault.new) (V.used_words vault.old) (V.used_words vault.new) (V.most_words vault.old) (V.directory_at vault.new) result }

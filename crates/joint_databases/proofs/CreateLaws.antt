@@ -1,5 +1,5 @@
 -- A database is created, with a table that was made for it.
-use Rattle.std.proofs.Common.{inl, inr, ◌≡◌, ℕ, suc, arith, true, List, length, Option, Some, Result, Ok, Err, IfOk, IfErr, OnOk, refl, sym, ap, ◌∙◌, subst}
+use Rattle.std.proofs.Common.{inl, inr, ◌≡◌, ℕ, suc, arith, true, List, length, Option, Some, Result, Ok, Err, IfOk, IfErr, IfSome, None, OnOk, refl, sym, ap, ◌∙◌, subst}
 use Rattle.joint_held.specs.joint_ops.ps_outside.Outside.{Outside}
 use Rattle.joint_held.specs.joint_ops.obj_layout.Stored.{Space}
 use Rattle.joint_held.specs.joint_ops.obj_layout.Objects as layout
@@ -21,7 +21,8 @@ use Rattle.joint_ops.proofs.of_heap_ops.ClassLaws.{pid-kept}
 use Rattle.joint_held.specs.joint_ops.heap_meaning.Paired.{and_name, name_in, paired}
 use Rattle.heap_meaning.proofs.PairedLaws.{name-before, name-last}
 use Rattle.joint_held.specs.joint_ops.Seeing.{Gains}
-use Rattle.joint_held.specs.joint_ops.World.{seen, DenotesIn, FailsAsReading}
+use Rattle.joint_held.specs.joint_ops.World.{seen, BreaksOff, DenotesIn, FailsAsReading}
+use Rattle.db_dir.proofs.DirLaws.{spoilt-breaks}
 use Rattle.joint_ops.proofs.GrowthLaws.{made-keeps}
 use Rattle.joint_ops.proofs.GainLaws.{made-gains, gains-then}
 use Rattle.joint_ops.proofs.SeenLaws.{seen-held, text-denoted, keeps-carries, breaks-earlier}
@@ -34,7 +35,8 @@ use Rattle.joint_held.specs.joint_ops.ps_heap.Values.{Text, Pointer}
 use Rattle.commit_walk.specs.declared.homes.Source.{Source}
 use Rattle.joint_held.specs.db_dir.declared.create.Created.{Created}
 use Rattle.joint_held.specs.db_dir.declared.create.Created.TheVariants as created
-use Rattle.joint_held.specs.db_dir.Directories.{IsDirectoryAt}
+use Rattle.joint_held.specs.db_dir.Directories.{IsDirectoryAt, IsShaped}
+use Rattle.joint_held.specs.db_dir.Found.{Finds, Tries}
 use Rattle.joint_held.specs.db_dir.Answers as dir
 use Rattle.joint_held.specs.db_dir.Answers.{IsShort, IsShapedIfMade}
 use Rattle.joint_held.specs.Held.{HoldsRun}
@@ -180,32 +182,54 @@ module _ (old mid new : Heap) (before after : Outside Space) (root : ℕ) (was_s
             });
           }
 
-      creating-by : (result : Result Created SwizzleFault) → dir.Creates mid new before after more h.directory n p root result
+      -- a directory that was spoilt where there was one
+      spoilt-off : (d : Option ℕ) (name : List ℕ) (fault : SwizzleFault) → IsHeap new → IfSome d (IsShaped mid)
+          → IsDirectoryAt mid (seen mid before) (paired more) d h.directory → FailsReading before after fault → Finds mid new before after d name (Err fault)
+          → BreaksOff mid new before after fault
+      spoilt-off None name fault later shaped is fails finds = absurd finds
+      spoilt-off (Some at) name fault later shaped is fails finds =
+          spoilt-breaks mid new before after more at h.directory mid_sound later shaped.held is fault fails finds
+
+      -- there was no room for the directory, and the area kept its size; or it broke off
+      short-by : (name password : ℕ) (fault : SwizzleFault) → IsHeap new → IfSome directory (IsShaped mid) → FailsReading before after fault
+          → Tries mid new before after directory name password root (Err fault) → IsShort mid new before after more h.directory n p fault
+          → Creating old new before after names writing directory h n p (Err fault)
+      short-by name password fault later shaped fails (inl finds) short =
+          inl (breaks-earlier old mid new before before after fault mid_sound table-gains.keeps (leaves-none before)
+          (spoilt-off directory (text_at mid name) fault later shaped (made-run.asked asked) fails finds))
+      short-by name password fault later shaped fails (inr goes) short =
+          inr (inr (
+            record { none = short.none; wanted = short.wanted; words = short.words; fault_is = short.fault_is; full = short.full },
+            ap (λ (x : Heap). x.size) goes.adds.full.stays ∙ (goes.reads.reads.keeps.size ∙ table-gains.keeps.size),
+          ))
+
+      creating-by : (name password : ℕ) (result : Result Created SwizzleFault) → IsHeap new → IfSome directory (IsShaped mid) → FailsAsReading before after result
+          → Tries mid new before after directory name password root result → dir.Creates mid new before after more h.directory n p root result
           → Creating old new before after names writing directory h n p (creation_of root result)
-      creating-by (Ok (created.Made now number)) makes = database-made number now makes
-      creating-by (Ok (created.Fault fault)) told = (
+      creating-by name password (Ok (created.Made now number)) later shaped fails tries makes = database-made number now makes
+      creating-by name password (Ok (created.Fault fault)) later shaped fails tries told = (
         told.0,
         record {
           run = holds old new before after names writing directory h (all-gains told.1) run;
           carries = gains-carry old new before after names (all-gains told.1);
         },
       )
-      creating-by (Err fault) (inl broke) = inl (breaks-earlier old mid new before before after fault mid_sound table-gains.keeps (leaves-none before) broke)
-      creating-by (Err fault) (inr short) =
-          inr (inr (record { none = short.none; wanted = short.wanted; words = short.words; fault_is = short.fault_is; full = short.full }))
+      creating-by name password (Err fault) later shaped fails tries (inl broke) = inl (breaks-earlier old mid new before before after fault mid_sound table-gains.keeps (leaves-none before) broke)
+      creating-by name password (Err fault) later shaped fails tries (inr short) = short-by name password fault later shaped fails tries short
 
     -- a text of the area has its bytes still
     text-still : (at : ℕ) (bytes : List ℕ) → DenotesIn old before names (Some at) (Text bytes) → text_at mid at ≡ bytes
     text-still at bytes d =
         let t = text-denoted old before names at bytes was_sound d in (texts-kept old mid table-gains.keeps at t.held t.kind).bytes ∙ t.bytes_are
 
-    pub creating : (name password : ℕ) (n p : List ℕ) (result : Result Created SwizzleFault) → DenotesIn old before names (Some name) (Text n)
+    pub creating : (name password : ℕ) (n p : List ℕ) (result : Result Created SwizzleFault) → IsHeap new → IfSome directory (IsShaped mid)
+        → FailsAsReading before after result → Tries mid new before after directory name password root result → DenotesIn old before names (Some name) (Text n)
         → DenotesIn old before names (Some password) (Text p)
         → ((databases : Directory) (row : List Reference) → IsDirectoryAt mid (seen mid before) (paired row) directory databases
         → dir.Creates mid new before after row databases (text_at mid name) (text_at mid password) root result)
         → Creating old new before after names writing directory h n p (creation_of root result)
-    creating name password n p result name_is password_is told =
+    creating name password n p result later shaped fails tries name_is password_is told =
         let all = told h.directory more (made-run.asked asked) in
-        creating-by n p result
+        creating-by n p name password result later shaped fails tries
         (subst (λ (x : List ℕ). dir.Creates mid new before after more h.directory n x root result) (text-still password p password_is)
         (subst (λ (x : List ℕ). dir.Creates mid new before after more h.directory x (text_at mid password) root result) (text-still name n name_is) all))

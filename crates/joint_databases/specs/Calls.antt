@@ -79,7 +79,8 @@ module _ (old new : Heap) (before after : Outside Space) (names : List Reference
   Creating writing directory h name password (Ok (creation.Made number root now)) = Creates writing h name password number root now
   Creating writing directory h name password (Ok (creation.Fault fault)) = (create_fault h.directory name password ≡ Some (fault_of fault)) × Holds names writing directory h
   Creating writing directory h name password (Err fault) =
-      BreaksOff old new before after fault ⊎ (IsFull old new 8 fault ⊎ IsShort old new before after names h.directory name password fault)
+      BreaksOff old new before after fault
+      ⊎ (IsFull old new 8 fault ⊎ (IsShort old new before after names h.directory name password fault × (new.size ≡ old.size)))
 
   -- The run has a database open in a mode, of which the root lies in the area.
   pub record IsOpened (writing : List Source) (directory : Option ℕ) (h : Held) (to : Numbered) (mode : Mode) (number root : ℕ) (for_writing : Bool) : Type 0 where

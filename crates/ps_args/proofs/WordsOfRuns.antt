@@ -42,72 +42,60 @@ row_11 = refl
 row_12 : command_of (codes "run" ∷ codes "v" ∷ codes "--" ∷ codes "a" ∷ []) ≡ runs 16384 (10 ^ 8) None (codes "a") ([])
 row_12 = refl
 
-row_13 : command_of (codes "run" ∷ codes "v" ∷ codes "--" ∷ codes "-a" ∷ []) ≡ runs 16384 (10 ^ 8) None (codes "-a") ([])
+row_13 : command_of (codes "run" ∷ codes "v" ∷ codes "--" ∷ codes "-" ∷ []) ≡ runs 16384 (10 ^ 8) None (codes "-") ([])
 row_13 = refl
 
-row_14 : command_of (codes "run" ∷ codes "v" ∷ codes "--turns" ∷ codes "5" ∷ codes "--" ∷ codes "--area" ∷ []) ≡ runs 16384 5 None (codes "--area") ([])
+row_14 : command_of (codes "run" ∷ codes "v" ∷ codes "a" ∷ codes "--" ∷ codes "b" ∷ []) ≡ runs 16384 (10 ^ 8) None (codes "a") (codes "b" ∷ [])
 row_14 = refl
 
-row_15 : command_of (codes "run" ∷ codes "v" ∷ codes "--" ∷ codes "--" ∷ []) ≡ runs 16384 (10 ^ 8) None (codes "--") ([])
+row_15 : command_of (codes "run" ∷ codes "v" ∷ codes "--turns" ∷ codes "1000000000000" ∷ codes "a" ∷ []) ≡ runs 16384 (10 ^ 12) None (codes "a") ([])
 row_15 = refl
 
-row_16 : command_of (codes "run" ∷ codes "v" ∷ codes "a" ∷ codes "--" ∷ codes "b" ∷ []) ≡ runs 16384 (10 ^ 8) None (codes "a") (codes "b" ∷ [])
+row_16 : command_of (codes "run" ∷ codes "v" ∷ codes "--turns" ∷ codes "0" ∷ codes "a" ∷ []) ≡ runs 16384 0 None (codes "a") ([])
 row_16 = refl
 
-row_17 : command_of (codes "run" ∷ codes "v" ∷ codes "a" ∷ codes "--" ∷ codes "--turns" ∷ codes "5" ∷ []) ≡ runs 16384 (10 ^ 8) None (codes "a") (codes "--turns" ∷ codes "5" ∷ [])
+row_17 : command_of (codes "run" ∷ codes "v" ∷ codes "--turns" ∷ codes "0000000000005" ∷ codes "a" ∷ []) ≡ runs 16384 5 None (codes "a") ([])
 row_17 = refl
 
-row_18 : command_of (codes "run" ∷ codes "v" ∷ codes "--turns" ∷ codes "1000000000000" ∷ codes "a" ∷ []) ≡ runs 16384 (10 ^ 12) None (codes "a") ([])
+row_18 : command_of (codes "run" ∷ codes "v" ∷ codes "--area" ∷ codes "1" ∷ codes "a" ∷ []) ≡ runs 1 (10 ^ 8) None (codes "a") ([])
 row_18 = refl
 
-row_19 : command_of (codes "run" ∷ codes "v" ∷ codes "--turns" ∷ codes "0" ∷ codes "a" ∷ []) ≡ runs 16384 0 None (codes "a") ([])
+row_19 : command_of (codes "run" ∷ codes "v" ∷ codes "--area" ∷ codes "262144" ∷ codes "a" ∷ []) ≡ runs 262144 (10 ^ 8) None (codes "a") ([])
 row_19 = refl
 
-row_20 : command_of (codes "run" ∷ codes "v" ∷ codes "--turns" ∷ codes "0000000000005" ∷ codes "a" ∷ []) ≡ runs 16384 5 None (codes "a") ([])
+row_20 : command_of (codes "run" ∷ codes "v" ∷ codes "--area" ∷ codes "000016" ∷ codes "a" ∷ []) ≡ runs 16 (10 ^ 8) None (codes "a") ([])
 row_20 = refl
 
-row_21 : command_of (codes "run" ∷ codes "v" ∷ codes "--area" ∷ codes "1" ∷ codes "a" ∷ []) ≡ runs 1 (10 ^ 8) None (codes "a") ([])
+row_21 : command_of (codes "run" ∷ codes "v" ∷ codes "--input" ∷ codes "-" ∷ codes "a" ∷ []) ≡ runs 16384 (10 ^ 8) (Some (codes "-")) (codes "a") ([])
 row_21 = refl
 
-row_22 : command_of (codes "run" ∷ codes "v" ∷ codes "--area" ∷ codes "262144" ∷ codes "a" ∷ []) ≡ runs 262144 (10 ^ 8) None (codes "a") ([])
+row_22 : command_of (codes "run" ∷ codes "v" ∷ codes "--input=" ∷ codes "a" ∷ []) ≡ runs 16384 (10 ^ 8) (Some (codes "")) (codes "a") ([])
 row_22 = refl
 
-row_23 : command_of (codes "run" ∷ codes "v" ∷ codes "--area" ∷ codes "000016" ∷ codes "a" ∷ []) ≡ runs 16 (10 ^ 8) None (codes "a") ([])
+row_23 : command_of (codes "run" ∷ codes "v" ∷ codes "--input" ∷ codes "" ∷ codes "a" ∷ []) ≡ runs 16384 (10 ^ 8) (Some (codes "")) (codes "a") ([])
 row_23 = refl
 
-row_24 : command_of (codes "run" ∷ codes "v" ∷ codes "--input" ∷ codes "-" ∷ codes "a" ∷ []) ≡ runs 16384 (10 ^ 8) (Some (codes "-")) (codes "a") ([])
+row_24 : command_of (codes "run" ∷ codes "v" ∷ codes "--input=a=b" ∷ codes "c" ∷ []) ≡ runs 16384 (10 ^ 8) (Some (codes "a=b")) (codes "c") ([])
 row_24 = refl
 
-row_25 : command_of (codes "run" ∷ codes "v" ∷ codes "--input=-x" ∷ codes "a" ∷ []) ≡ runs 16384 (10 ^ 8) (Some (codes "-x")) (codes "a") ([])
+row_25 : command_of (codes "run" ∷ codes "v" ∷ codes "--input" ∷ codes "a=b" ∷ codes "c" ∷ []) ≡ runs 16384 (10 ^ 8) (Some (codes "a=b")) (codes "c") ([])
 row_25 = refl
 
-row_26 : command_of (codes "run" ∷ codes "v" ∷ codes "--input=" ∷ codes "a" ∷ []) ≡ runs 16384 (10 ^ 8) (Some (codes "")) (codes "a") ([])
+row_26 : command_of (codes "run" ∷ codes "v" ∷ codes "--input" ∷ codes "help" ∷ codes "help" ∷ []) ≡ runs 16384 (10 ^ 8) (Some (codes "help")) (codes "help") ([])
 row_26 = refl
 
-row_27 : command_of (codes "run" ∷ codes "v" ∷ codes "--input" ∷ codes "" ∷ codes "a" ∷ []) ≡ runs 16384 (10 ^ 8) (Some (codes "")) (codes "a") ([])
+row_27 : command_of (codes "run" ∷ codes "v" ∷ codes "-" ∷ []) ≡ runs 16384 (10 ^ 8) None (codes "-") ([])
 row_27 = refl
 
-row_28 : command_of (codes "run" ∷ codes "v" ∷ codes "--input=a=b" ∷ codes "c" ∷ []) ≡ runs 16384 (10 ^ 8) (Some (codes "a=b")) (codes "c") ([])
+row_28 : command_of (codes "run" ∷ codes "v" ∷ codes "" ∷ []) ≡ runs 16384 (10 ^ 8) None (codes "") ([])
 row_28 = refl
 
-row_29 : command_of (codes "run" ∷ codes "v" ∷ codes "--input" ∷ codes "a=b" ∷ codes "c" ∷ []) ≡ runs 16384 (10 ^ 8) (Some (codes "a=b")) (codes "c") ([])
+row_29 : command_of (codes "run" ∷ codes "v" ∷ codes "5" ∷ []) ≡ runs 16384 (10 ^ 8) None (codes "5") ([])
 row_29 = refl
 
-row_30 : command_of (codes "run" ∷ codes "v" ∷ codes "--input" ∷ codes "help" ∷ codes "help" ∷ []) ≡ runs 16384 (10 ^ 8) (Some (codes "help")) (codes "help") ([])
+row_30 : command_of (codes "run" ∷ codes "v" ∷ codes "é.ps" ∷ []) ≡ runs 16384 (10 ^ 8) None (codes "é.ps") ([])
 row_30 = refl
 
-row_31 : command_of (codes "run" ∷ codes "v" ∷ codes "-" ∷ []) ≡ runs 16384 (10 ^ 8) None (codes "-") ([])
-row_31 = refl
-
-row_32 : command_of (codes "run" ∷ codes "v" ∷ codes "" ∷ []) ≡ runs 16384 (10 ^ 8) None (codes "") ([])
-row_32 = refl
-
-row_33 : command_of (codes "run" ∷ codes "v" ∷ codes "5" ∷ []) ≡ runs 16384 (10 ^ 8) None (codes "5") ([])
-row_33 = refl
-
-row_34 : command_of (codes "run" ∷ codes "v" ∷ codes "é.ps" ∷ []) ≡ runs 16384 (10 ^ 8) None (codes "é.ps") ([])
-row_34 = refl
-
 -- 64 texts
-row_35 : command_of (codes "run" ∷ codes "v" ∷ replicate 64 (codes "a")) ≡ runs 16384 (10 ^ 8) None (codes "a") (replicate 63 (codes "a"))
-row_35 = refl
+row_31 : command_of (codes "run" ∷ codes "v" ∷ replicate 64 (codes "a")) ≡ runs 16384 (10 ^ 8) None (codes "a") (replicate 63 (codes "a"))
+row_31 = refl

@@ -122,3 +122,19 @@ row_39 = refl
 
 row_40 : command_of (codes "run" ∷ codes "v" ∷ codes "a" ∷ codes "--turns=5" ∷ replicate 64 (codes "a")) ≡ None
 row_40 = refl
+
+-- names that begin with `-`, where no word is an option
+row_41 : command_of (codes "run" ∷ codes "v" ∷ codes "--" ∷ codes "-a" ∷ []) ≡ None
+row_41 = refl
+
+row_42 : command_of (codes "run" ∷ codes "v" ∷ codes "--turns" ∷ codes "5" ∷ codes "--" ∷ codes "--area" ∷ []) ≡ None
+row_42 = refl
+
+row_43 : command_of (codes "run" ∷ codes "v" ∷ codes "--" ∷ codes "--" ∷ []) ≡ None
+row_43 = refl
+
+row_44 : command_of (codes "run" ∷ codes "v" ∷ codes "a" ∷ codes "--" ∷ codes "--turns" ∷ codes "5" ∷ []) ≡ None
+row_44 = refl
+
+row_45 : command_of (codes "run" ∷ codes "v" ∷ codes "--input=-x" ∷ codes "a" ∷ []) ≡ None
+row_45 = refl

@@ -1,5 +1,5 @@
 -- Which words are a command: the table of commands.
-use Rattle.std.specs.Prelude.{ℕ, ◌^◌, Bool, true, not, ◌&&◌, List, [], ◌∷◌, length, map, Option, Some, None, option_map, option_and_then, String, string_bytes, nat_eq, nat_le, codes, if◌then◌else◌}
+use Rattle.std.specs.Prelude.{ℕ, ◌^◌, Bool, true, not, ◌&&◌, ◌||◌, List, [], ◌∷◌, length, map, Option, Some, None, option_map, option_and_then, String, string_bytes, nat_eq, nat_le, codes, if◌then◌else◌}
 use Rattle.std.specs.declared.alloc.Global.{Global}
 use Rattle.std.specs.List.{list_all}
 use Rattle.std.specs.Char.{is_ascii_digit}
@@ -51,16 +51,30 @@ abbrev pub turns_given : Option (List ℕ) → Option ℕ
 turns_given None = Some default_turns
 turns_given (Some digits) = turns_of digits
 
+-- a word that doesn't begin with `-`, as a volume's
+abbrev pub is_plain : List ℕ → Bool
+is_plain [] = true
+is_plain (byte ∷ bytes) = not (nat_eq byte 45)
+
 -- the most texts that a run has
 abbrev pub most_files : ℕ
 most_files = 64
+
+-- a word that begins with `-` is an option's, but for `-` alone: no name of a text
+abbrev pub is_name : List ℕ → Bool
+is_name word = is_plain word || bytes_eq word (codes "-")
+
+abbrev pub are_names : Option (List ℕ) → List (List ℕ) → Bool
+are_names None files = list_all is_name files
+are_names (Some input) files = is_name input && list_all is_name files
 
 abbrev pub run_with : Option ℕ → Option ℕ → Option (List ℕ) → List (List ℕ) → Option RunOf
 run_with None turns input files = None
 run_with (Some area) None input files = None
 run_with (Some area) (Some turns) input [] = None
 run_with (Some area) (Some turns) input (file ∷ further) =
-    if nat_le (length (file ∷ further)) most_files then Some (record { area = area; turns = turns; input = input; file = file; further = further }) else None
+    if nat_le (length (file ∷ further)) most_files && are_names input (file ∷ further)
+    then Some (record { area = area; turns = turns; input = input; file = file; further = further }) else None
 
 abbrev pub run_given : Given → Option RunOf
 run_given so_far = run_with (area_given (value_of (codes "area") so_far)) (turns_given (value_of (codes "turns") so_far)) (value_of (codes "input") so_far) so_far.own
@@ -94,11 +108,6 @@ pub data CommandOf : Type 0 where
   a_run : (run : RunOf) → CommandOf
   a_volume : (pages : ℕ) → CommandOf
   a_text : (text : List ℕ) → CommandOf
-
--- the volume doesn't begin with `-`
-abbrev pub is_plain : List ℕ → Bool
-is_plain [] = true
-is_plain (byte ∷ bytes) = not (nat_eq byte 45)
 
 -- the commands that there are: the one of this name, of the words behind the volume
 abbrev pub command_named : List ℕ → List (List ℕ) → Option CommandOf

@@ -14,7 +14,8 @@ commands:
   psalgol --version         the version
 
 Options stand anywhere behind VOLUME, once each, as --turns 5 or --turns=5.
-Behind the word -- no word is an option. VOLUME doesn't begin with -.
+Behind the word -- no word is an option. The name of a file doesn't begin
+with -, unless it is - alone; VOLUME never does.
 
 example:
   psalgol format my.vol 64

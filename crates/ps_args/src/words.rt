@@ -1,9 +1,9 @@
-ghost use Rattle.std.specs.Prelude.{◌≡◌, ◌≤◌, ◌+◌, ◌-◌, ◌*◌, [], codes, min, true, unwrap_or, IfOk, IfSome, map, option_map};
-ghost use Rattle.std.specs.List.{AllPass};
+ghost use Rattle.std.specs.Prelude.{◌≡◌, ◌≤◌, ◌+◌, ◌-◌, ◌*◌, [], codes, length, min, true, unwrap_or, IfOk, IfSome, map, option_map};
+ghost use Rattle.std.specs.List.{AllPass, list_all};
 ghost use Rattle.std.specs.Char.{is_ascii_digit};
 ghost use Rattle.ps_scan.specs.Class.{decimal};
 ghost use Rattle.clap.specs.Words.{all_of, first_of};
-ghost use Rattle.ps_args.specs.Words.{words_of, command_of, command_named, help_behind, pages_alone, run_of, run_with, text_named, area_given, turns_given, pages_given, is_plain, number_of};
+ghost use Rattle.ps_args.specs.Words.{words_of, command_of, command_named, help_behind, pages_alone, run_of, run_with, text_named, area_given, turns_given, pages_given, is_plain, is_name, are_names, number_of};
 ghost use Rattle.ps_args.specs.Simple.{pages_read, run_read};
 ghost use Rattle.ps_args.specs.Reading.{IsWithin, IsArea, ReadsAs, command_in, rows_in, run_in};
 
@@ -215,7 +215,7 @@ fn run_with<'a>(
     let Some(turns) = turns else {
         return Err(ArgsFault::Usage);
     };
-    if files.len() > MOST_FILES {
+    if files.len() > MOST_FILES || !are_names(input, files) {
         return Err(ArgsFault::Usage);
     }
     match files {
@@ -231,6 +231,35 @@ fn run_with<'a>(
         },
         [] => Err(ArgsFault::Usage),
     }
+}
+
+// Whether the input, where there is one, and the texts have names.
+fn are_names(input: Option<&str>, files: &[&str]) -> bool
+    requires { length files.now ≤ 64 }
+    ensures { result ≡ are_names (option_map (λ name. name.now) input.entry) (map (λ file. file.now) files.now) }
+{
+    match input {
+        Some(input) => is_name(input) && are_all_names(files),
+        None => are_all_names(files),
+    }
+}
+
+// Whether all these words, at most `MOST_FILES`, are names.
+fn are_all_names(words: &[&str]) -> bool
+    requires { length words.now ≤ 64 }
+    ensures { result ≡ list_all is_name (map (λ word. word.now) words.now) }
+{
+    match words {
+        [word, further @ ..] => is_name(word) && are_all_names(further),
+        [] => true,
+    }
+}
+
+// Whether a word doesn't begin with `-`, or is that alone.
+fn is_name(word: &str) -> bool
+    ensures { result ≡ is_name word.now }
+{
+    is_plain_word(word) || word == "-"
 }
 
 fn is_plain_word(word: &str) -> bool

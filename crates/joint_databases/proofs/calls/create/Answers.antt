@@ -37,7 +37,9 @@ returns-clause-run g c = λ names writing h n p asked none run name password.
     let after = g.V.Vault.outside c.create-created.new.vault in
     subst (λ (r : Result Creation SwizzleFault). Creating c.args.sw.now c.create-created.new.sw before after names writing c.args.directory h n p r) (sym c.answered.ensures)
     (creating c.args.sw.now c.table_new.new.sw c.create-created.new.sw before after c.in-Ok.root c.sound.ensures c.sound-2.ensures c.in-Ok.ensures.made names writing
-    c.args.directory h asked none run c.args.name c.args.password n p c.create-created.result name password c.create-created.ensures.created)
+    c.args.directory h asked none run c.args.name c.args.password n p c.create-created.result c.sound-3.ensures
+    (shaped-still c.args.sw.now c.table_new.new.sw c.args.directory (table-keeps c.args.sw.now c.table_new.new.sw c.in-Ok.root c.sound.ensures c.in-Ok.ensures.made) c.requires.directory)
+    c.create-created.ensures.fails c.create-created.ensures.tries name password c.create-created.ensures.created)
 
 pub returns-clause-made : goal.returns-clause-made
 returns-clause-made g c =

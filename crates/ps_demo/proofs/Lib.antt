@@ -1,0 +1,3 @@
+mod Rows
+pub mod Writing
+pub mod Length
