@@ -278,7 +278,7 @@ module _ (old new : Outside Space) (owed : List ℕ) (m m' : Machine) (quiet : L
         (d.0, d.1, (subst (λ (f : SwizzleFault). BreaksBy old new m.objects.size d.0 f) (sym blames) d.2, but-leaves old new owed quiet));
   }
 
-  module _ (last : Outside Space) (left : List ℕ) (sound : IsHeap m'.objects) (same : SameContents new last) where
+  module _ (last : Outside Space) (left : List ℕ) (same : SameContents new last) where
     pub advance_turned : (sent : Bool) → TakesStep old new m m' stepped.Turns → (sent ≡ false → left ≡ []) → SendsOn new last owed left sent
         → Advances old last owed left m m' (advanced_where sent)
     advance_turned true t cleared told = record {
@@ -292,7 +292,7 @@ module _ (old new : Outside Space) (owed : List ℕ) (m m' : Machine) (quiet : L
               Turn d.2.0 ∷ [],
               d.2.1,
               d.2.2,
-              put-holds m' new last d.2.1 sound same d.2.3,
+              put-holds m' new last d.2.1 same d.2.3,
               subst (λ (bs : List ℕ). TellsBut old last bs left) (sym (append-nil owed)) (leaves-but old new last owed left quiet told),
             ),
           );
@@ -328,7 +328,7 @@ module _ (old new : Outside Space) (owed : List ℕ) (m m' : Machine) (quiet : L
               out,
               d.2.0,
               d.2.1,
-              put-holds m' new last d.2.0 sound same d.2.3,
+              put-holds m' new last d.2.0 same d.2.3,
               subst (λ (bs : List ℕ). TellsBut old last (owed ++ bs) left) (sym (out_told bytes d.2.0.store.held.counted))
                   (leaves-but old new last (owed ++ bytes) left quiet told),
             ),

@@ -77,13 +77,13 @@ holds_after outside m c i next h is =
         callers_are = k.callers_are;
         input_is = k.input_is;
         turns_are = k.turns_are;
-        run = k.run;
+        world = k.world;
       };
     }
 
 -- it names what it named
 pub names_after : (m : Machine) (next : ℕ) → NamesObjects m → NamesObjects (record m { at = next })
-names_after m next n = record { code = n.code; scope = n.scope; own = n.own; below = n.below; callers = n.callers; item = n.item; databases = n.databases }
+names_after m next n = record { code = n.code; scope = n.scope; own = n.own; below = n.below; callers = n.callers; item = n.item }
 
 pub sound_after : (m : Machine) (next : ℕ) → IsSound m → IsSound (record m { at = next })
 sound_after m next s = record {

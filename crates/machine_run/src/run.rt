@@ -49,14 +49,8 @@ fn advance<V: Vault>(m: &mut Machine, vault: &mut V, output: &mut Output) -> Adv
     let own = m.at;
     match step(m, vault) {
         Stepped::Quiet => Advanced::On,
-        Stepped::Turns => {
-            m.objects.sound();
-            on_where(turned(vault, output))
-        }
-        Stepped::Writes => {
-            m.objects.sound();
-            on_where(wrote(m, vault, output))
-        }
+        Stepped::Turns => on_where(turned(vault, output)),
+        Stepped::Writes => on_where(wrote(m, vault, output)),
         Stepped::Halts => Advanced::Ended,
         Stepped::Breaks => Advanced::Broke,
         Stepped::Damaged => {

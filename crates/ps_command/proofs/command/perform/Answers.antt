@@ -1,9 +1,9 @@
 use Rattle.std.proofs.Common.{Some, sym, subst}
 use Rattle.ps_port.specs.ps_outside.Outside.{Rose}
-use Rattle.ps_causes.specs.Command.{WhyEnds, done_of}
+use Rattle.ps_causes.specs.Command.{WhyEnds}
 use Rattle.ps_causes.specs.ps_reports.declared.status.Status.TheVariants.{Done}
 use Rattle.ps_causes.specs.ps_volumes.Making.{Makes}
-use Rattle.ps_causes.specs.ps_args.Reading.{command_in}
+use Rattle.ps_causes.specs.ps_words.Reading.{command_in}
 use Rattle.std.specs.Prelude.{Ok, Err}
 use Rattle.ps_command.proofs.Causes.{ends_made, ends_not_made}
 use Rattle.ps_command.proofs.command.perform.Goals as goal
@@ -16,7 +16,7 @@ returns-in-Ok-clause-why g c =
     let rose = Rose (s.faults shelf) (s.faults shelf) in
     let old = o c.args.host in
     let new = o c.make_volume.new.host in
-    subst (λ k. WhyEnds old new (done_of (command_in k)) (s.holds shelf) (s.lacks shelf) (s.may_fail shelf) rose (Ok Done)) (sym c.in-Format.is)
+    subst (λ k. WhyEnds old new (Some (command_in k)) (s.holds shelf) (s.lacks shelf) (s.may_fail shelf) rose (Ok Done)) (sym c.in-Format.is)
     (ends_made (s.holds shelf) (s.lacks shelf) (s.may_fail shelf) rose old new c.in-Format.pages _
     (subst (λ a. Makes c.in-Format.pages old new a) c.in-Ok.is c.make_volume.ensures))
 
@@ -28,6 +28,6 @@ returns-in-Err-clause-why g c =
     let rose = Rose (s.faults shelf) (s.faults shelf) in
     let old = o c.args.host in
     let new = o c.make_volume.new.host in
-    subst (λ k. WhyEnds old new (done_of (command_in k)) (s.holds shelf) (s.lacks shelf) (s.may_fail shelf) rose (Err c.in-Err.report)) (sym c.in-Format.is)
+    subst (λ k. WhyEnds old new (Some (command_in k)) (s.holds shelf) (s.lacks shelf) (s.may_fail shelf) rose (Err c.in-Err.report)) (sym c.in-Format.is)
     (ends_not_made (s.holds shelf) (s.lacks shelf) (s.may_fail shelf) rose old new c.in-Format.pages c.in-Err.report
     (subst (λ a. Makes c.in-Format.pages old new a) c.in-Err.is c.make_volume.ensures))
