@@ -40,7 +40,7 @@ module _ (m : Machine) (outside : Outside Space) (c : Config) (h : Holds outside
       callers_are = h.held.callers_are;
       input_is = h.held.input_is;
       turns_are = h.held.turns_are;
-      run = h.held.run;
+      world = h.held.world;
     };
   }
 
@@ -69,7 +69,7 @@ module _ (m : Machine) (outside : Outside Space) (c : Config) (h : Holds outside
             callers_are = h.held.callers_are;
             input_is = h.held.input_is;
             turns_are = refl;
-            run = h.held.run;
+            world = h.held.world;
           };
         },
       )

@@ -1,5 +1,4 @@
 pub mod Rows
-pub mod RunLaws
 pub mod RefRows
 pub mod Words
 pub mod Naming

@@ -1,4 +1,3 @@
-pub mod Acting
 pub mod Loaded
 pub mod Ran
 pub mod inside

@@ -1,3 +1,4 @@
 pub mod Beginning
+pub mod Acting
 pub mod Advancing
 pub mod Blanks

@@ -11,7 +11,6 @@ ghost use Rattle.joint_ops.specs.Operands.{IsByObject, IsOfSort, IsSorted};
 mod code_bytes;
 mod field_forms;
 mod fields;
-mod lent;
 mod procedures;
 mod residence;
 mod row_makes;

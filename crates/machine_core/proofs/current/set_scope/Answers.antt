@@ -16,7 +16,6 @@ returns-clause-names g c = λ n held.
       below = n.below;
       callers = n.callers;
       item = n.item;
-      databases = n.databases;
     }
 
 pub returns-clause-enters : goal.returns-clause-enters
@@ -36,6 +35,6 @@ returns-clause-enters g c =
         callers_are = h.callers_are;
         input_is = h.input_is;
         turns_are = h.turns_are;
-        run = h.run;
+        world = h.world;
       };
     }
