@@ -1,4 +1,5 @@
 use memory_host::MemoryHost;
+use ps_command::ps_args::read_words;
 use ps_command::psalgol;
 use ps_port::MemoryShelf;
 use std::alloc::{AllocError, Global};
@@ -27,7 +28,7 @@ impl Answer {
         host: MemoryHost,
     ) -> Result<Answer, AllocError> {
         let mut shelf = shelf_of(alloc, texts)?;
-        let (status, host) = psalgol(alloc, words, host, &mut shelf);
+        let (status, host) = psalgol(alloc, read_words(alloc, words), host, &mut shelf);
         Ok(Answer { status, host })
     }
 

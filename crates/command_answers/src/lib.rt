@@ -8,5 +8,5 @@ mod volume;
 pub use answer::{Answer, Text};
 pub use command::Command;
 pub use memory_host;
-pub use ps_command::{obj_layout, obj_store};
+pub use ps_command::{obj_layout, obj_store, ps_args};
 pub use volume::{host_of, new_volume, volume_host};

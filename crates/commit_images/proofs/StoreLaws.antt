@@ -7,7 +7,7 @@ use Rattle.swizzle.specs.obj_layout.Stored.{Space, HasObject, IsHeaded, appended
 use Rattle.swizzle.proofs.of_obj_layout.StoredLaws.{HasObject-one, HasObject-within}
 use Rattle.swizzle.specs.Objects.{size_of, size_of_all}
 use Rattle.swizzle.proofs.ObjectLaws.{split, size_of_all-append}
-use Rattle.swizzle.specs.Heap.{Heap, IsHeap, IsHeld, object_at, header_at, local_of}
+use Rattle.swizzle.specs.Heap.{Heap, IsHeap, IsHeld, object_at, header_at, local_of, top_of}
 use Rattle.swizzle.specs.Image.{far_object, HasPids}
 use Rattle.swizzle.proofs.KeptLaws.{held_is}
 use Rattle.swizzle.proofs.ImageLaws.{image-far}
@@ -243,13 +243,12 @@ stores heap new changed space h c ready again whole also numbered stored there =
       ];
     }
 
--- an object is shorter than the area
-pub object-small : (heap : Heap) (x : ℕ) → IsHeap heap → IsHeld heap x → size_of (object_at heap x) < heap.size
+-- an object ends below the top
+pub object-small : (heap : Heap) (x : ℕ) → IsHeap heap → IsHeld heap x → size_of (object_at heap x) < top_of heap
 object-small heap x h held =
     let s = split 1 heap.objects x (object_at heap x) h.fit (held_is heap x held) in
     let whole : size_of_all heap.objects ≡ size_of_all s.front + (size_of (object_at heap x) + size_of_all s.back) = ap size_of_all s.is ∙ size_of_all-append s.front (object_at heap x ∷ s.back) in
-    let within = h.within in
-    omega (arith, whole, within)
+    omega (arith, whole)
 
 -- the directory is no object
 pub stores-directed : (heap : Heap) (new changed : List ℕ) (before after : Space) (directory : ℕ) → Stores heap new changed before after → Stores heap new changed before (directed directory after)

@@ -1,7 +1,7 @@
 //! The images of new objects, stored behind what a vault holds.
 ghost use Rattle.std.specs.Prelude.{◌≡◌, ◌+◌, ◌≤◌, [], ◌∷◌, filter, length, true, MatchResult, OnOk};
 ghost use Rattle.swizzle.specs.obj_layout.Storing.{DeadIfErr, SameUsers, LacksPages};
-ghost use Rattle.swizzle.specs.Heap.{IsHeld};
+ghost use Rattle.swizzle.specs.Heap.{IsHeld, top_of};
 ghost use Rattle.commit_images.specs.Images.{is_new, new_in};
 ghost use Rattle.commit_images.specs.Staging.{Stages, AreReady, Appends, FailsAppend};
 
@@ -30,7 +30,7 @@ fn append_one<V: Vault>(
     requires writable { (V.access vault.old).writes ≡ true }
     requires held { IsHeld sw.now object }
     requires ready { AreReady sw.now (filter (is_new sw.now first) (object ∷ [])) }
-    requires room { sw.now.size ≤ length buffer.old + 1 }
+    requires room { top_of sw.now ≤ length buffer.old + 1 }
     ensures stored { MatchResult result
         (λ stored. (stored ≡ is_new sw.now first object)
         × Appends sw.now (filter (is_new sw.now first) (object ∷ [])) (V.outside vault.old) (V.outside vault.new) (V.used_words vault.old) (V.used_words vault.new) (V.most_words vault.old))
@@ -63,7 +63,7 @@ pub fn append_all<V: Vault>(
     requires alive { V.alive vault.old }
     requires writable { (V.access vault.old).writes ≡ true }
     requires ready { AreReady sw.now (new_in sw.now first) }
-    requires room { sw.now.size ≤ length buffer.old + 1 }
+    requires room { top_of sw.now ≤ length buffer.old + 1 }
     ensures stored { MatchResult result
         (λ count. (count ≡ length (new_in sw.now first))
         × Appends sw.now (new_in sw.now first) (V.outside vault.old) (V.outside vault.new) (V.used_words vault.old) (V.used_words vault.new) (V.most_words vault.old))

@@ -3,7 +3,7 @@ ghost use Rattle.std.specs.Prelude.{◌≡◌, ◌+◌, ◌≤◌, length, take}
 ghost use Rattle.swizzle.specs.obj_layout.Header.{object_length};
 ghost use Rattle.swizzle.specs.obj_layout.Stored.{IsHeaded};
 ghost use Rattle.swizzle.specs.Objects.{size_of};
-ghost use Rattle.swizzle.specs.Heap.{IsHeld, object_at};
+ghost use Rattle.swizzle.specs.Heap.{IsHeld, object_at, top_of};
 ghost use Rattle.swizzle.specs.Image.{HasPids};
 ghost use Rattle.commit_images.specs.Images.{image_of};
 
@@ -13,7 +13,7 @@ use swizzle::swizzle::Swizzle;
 pub fn make_image(sw: &Swizzle, object: u32, buffer: &mut [u64]) -> usize
     requires held { IsHeld sw.now object }
     requires pids { HasPids sw.now object }
-    requires room { sw.now.size ≤ length buffer.old + 1 }
+    requires room { top_of sw.now ≤ length buffer.old + 1 }
     ensures count { result ≡ size_of (object_at sw.now object) }
     ensures within { result ≤ length buffer.new }
     ensures image { take result buffer.new ≡ image_of sw.now object }

@@ -2,7 +2,7 @@
 ghost use Rattle.std.specs.Prelude.{◌≡◌, ◌+◌, ◌≤◌, [], ◌∷◌, filter, length, true, MatchResult, OnOk, nat_eq, ◌&&◌};
 ghost use Rattle.swizzle.specs.obj_layout.Storing.{DeadIfErr, LacksPages, SameUsers};
 ghost use Rattle.swizzle.specs.obj_layout.Kind.{kind_number};
-ghost use Rattle.swizzle.specs.Heap.{IsHeld, header_at, object_at, is_reached};
+ghost use Rattle.swizzle.specs.Heap.{IsHeld, header_at, object_at, is_reached, top_of};
 ghost use Rattle.commit_images.specs.Images.{is_changed, changed_in};
 ghost use Rattle.commit_images.specs.Staging.{Stages, AreReady, Overwrites, FailsOverwrite};
 
@@ -53,7 +53,7 @@ fn overwrite_one<V: Vault>(
     requires writable { (V.access vault.old).writes ≡ true }
     requires held { IsHeld sw.now object }
     requires ready { AreReady sw.now (filter (is_changed sw.now first) (object ∷ [])) }
-    requires room { sw.now.size ≤ length buffer.old + 1 }
+    requires room { top_of sw.now ≤ length buffer.old + 1 }
     ensures stored { MatchResult result
         (λ stored. (stored ≡ is_changed sw.now first object) × Overwrites sw.now (filter (is_changed sw.now first) (object ∷ [])) (V.outside vault.old) (V.outside vault.new))
         (FailsOverwrite sw.now (filter (is_changed sw.now first) (object ∷ [])) (V.outside vault.old) (V.outside vault.new)) }
@@ -87,7 +87,7 @@ pub fn overwrite_all<V: Vault>(
     requires alive { V.alive vault.old }
     requires writable { (V.access vault.old).writes ≡ true }
     requires ready { AreReady sw.now (changed_in sw.now first) }
-    requires room { sw.now.size ≤ length buffer.old + 1 }
+    requires room { top_of sw.now ≤ length buffer.old + 1 }
     ensures stored { MatchResult result
         (λ count. (count ≡ length (changed_in sw.now first)) × Overwrites sw.now (changed_in sw.now first) (V.outside vault.old) (V.outside vault.new))
         (FailsOverwrite sw.now (changed_in sw.now first) (V.outside vault.old) (V.outside vault.new)) }

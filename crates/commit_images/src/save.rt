@@ -2,6 +2,7 @@
 ghost use Rattle.std.specs.Prelude.{◌≡◌, ◌+◌, ◌<◌, ◌≤◌, ℕ, true, length, IfOk, IfErr, OnOk};
 ghost use Rattle.swizzle.specs.obj_layout.Stored.{Space};
 ghost use Rattle.swizzle.specs.obj_layout.Storing.{Becomes, Settles, DeadIfErr, SameUsers, all_settled, LacksPages};
+ghost use Rattle.swizzle.specs.Heap.{top_of};
 ghost use Rattle.commit_images.specs.Images.{words_of, with_images, new_in, changed_in};
 ghost use Rattle.commit_images.specs.Staging.{AreReady, AreThere};
 ghost use Rattle.commit_images.specs.Saved.{saved, saving, FailsSave};
@@ -33,7 +34,7 @@ pub fn save<V: Vault>(
     requires new { AreReady sw.now (new_in sw.now first) }
     requires changed { AreReady sw.now (changed_in sw.now first) }
     requires directory { directory < V.used_words vault.old + words_of sw.now (new_in sw.now first) }
-    requires room { sw.now.size ≤ length buffer.old + 1 }
+    requires room { top_of sw.now ≤ length buffer.old + 1 }
     ensures counted { IfOk result (λ saved. (saved.fresh ≡ length (new_in sw.now first)) × (saved.rewritten ≡ length (changed_in sw.now first))) }
     ensures becomes { OnOk result (Becomes (V.outside vault.old) (V.outside vault.new) (saved sw.now (new_in sw.now first) (changed_in sw.now first) directory)) }
     ensures there { OnOk result ((space : Space) → (V.outside vault.old).contents space → AreThere sw.now (changed_in sw.now first) (with_images sw.now (new_in sw.now first) space)) }

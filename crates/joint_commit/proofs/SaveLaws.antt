@@ -40,7 +40,7 @@ use Rattle.joint_reach.specs.Meets.{DecidesAs, MeetsHomes}
 use Rattle.joint_reach.proofs.DecideLaws.{decides-as}
 use Rattle.joint_reach.proofs.HomeLaws.{meets-homes}
 use Rattle.joint_reach.proofs.NodeLaws.{meets-nodes}
-use Rattle.joint_commit.specs.Saving.{none_made, ContentsStand, ImagesStand, IsSaved, LeavesEither}
+use Rattle.joint_commit.specs.Saving.{none_made, ContentsStand, IsCompiledTo, LeavesEither, StandsFor}
 use Rattle.joint_commit.specs.Answers.{CommitsHeld}
 use Rattle.joint_commit.proofs.StoredLaws.{Setting, row, things-kept, space-keeps}
 use Rattle.joint_commit.proofs.HomeLaws.{homes-hold}
@@ -70,7 +70,7 @@ module _ (old new : Heap) (before after : Outside Space) (names : List Reference
     (meets : MeetsHomes old new names writing directory d)
     (asked : d.asked ≡ true)
     (heap : StoredHeap)
-    (is_saved : IsSaved d heap) where
+    (is_saved : IsCompiledTo (saved d) heap) where
   abbrev ρ : Reference → Reference
   ρ = (s.tells.moved s.holds.current.told).to
 
@@ -100,8 +100,8 @@ module _ (old new : Heap) (before after : Outside Space) (names : List Reference
       subst (λ (databases : Directory). IsDirectoryOf (SeenIn (without_file space)) (paired (map ρ names)) space.directory databases) parts.directory
       (directory-stands old new before after names writing directory d s space is asked)
 
-  pub contents-stand : ContentsStand after heap
-  contents-stand space is =
+  pub content-stands : (space : Space) → after.contents space → SpaceStands (without_file space) heap
+  content-stands space is =
       let cut = (s.tells.told s.holds.current.told).cut space is in
       let there = without_file space in
       subst (λ (of : meaning.Heap). (r : StandsRow (seen new after) of (map ρ names)) → IsKept (seen new after) there of (map ρ names) r.stands.tables.nodes → SpaceStands there heap)
@@ -110,31 +110,30 @@ module _ (old new : Heap) (before after : Outside Space) (names : List Reference
       (row old new before after names writing directory d s) (space-keeps old new before after names writing directory d s space is)
 
 -- What a crash leaves, of a commit that was answered.
-module _ (before after : Outside Space) (most : ℕ) (step : Space → Space) (heap : StoredHeap)
+module _ (before after : Outside Space) (most : ℕ) (step : Space → Space) (h : StoredHeap)
     (settles : Settles {T = Unit {0}} before after most step (Ok tt))
-    (stands : ContentsStand after heap) where
-  moments-stand : Becomes before after step → LeavesEither before after heap
-  moments-stand becomes start stood m image low high at =
+    (stands : ContentsStand after h) where
+  moments-stand : Becomes before after step → LeavesEither before after h
+  moments-stand becomes m image low high at =
       elim (settles.images.each m (without_file image) low high (record { from = image; was = at; by = refl })) [
-        | inl a ↦ inl (subst (λ (x : Space). SpaceStands x start) a.by (stood a.from a.was))
-        | inr k ↦ inr (subst (λ (x : Space). SpaceStands (without_file x) heap) k.2 (stands (step k.0) (becomes.told k.0 k.1)))
+        | inl a ↦ inl a
+        | inr k ↦ inr (subst (λ (x : Space). StandsFor (without_file x) h) k.2 (stands (step k.0) (becomes.told k.0 k.1)))
       ]
 
-  last-stands : (content : Space) → before.contents content → ImagesStand after after.clock heap
+  last-stands : (content : Space) → before.contents content → (image : Space) → after.images after.clock image → StandsFor (without_file image) h
   last-stands content is image at = stands (without_file image) (settles.durable content (without_file image) is (record { from = image; was = at; by = refl }))
 
 -- Of one that broke off: either it leaves what it left before, or what would be held stands.
-broken-stands : (old new : Heap) (writing : List Source) (directory : Option ℕ) (before after : Outside Space) (used most : ℕ) (fault : VaultFault) (heap : StoredHeap)
+broken-stands : (old new : Heap) (writing : List Source) (directory : Option ℕ) (before after : Outside Space) (used most : ℕ) (fault : VaultFault) (h : StoredHeap)
     (b : BreaksOff old new writing directory before after used most fault)
     → (Tells old new before (after_step before (stored_by new b.fresh b.changed (pid_of new directory))) b.fresh b.changed (pid_of new directory)
-    → ContentsStand (after_step before (stored_by new b.fresh b.changed (pid_of new directory))) heap) → LeavesEither before after heap
-broken-stands old new writing directory before after used most fault heap b stands start stood m image low high at =
+    → ContentsStand (after_step before (stored_by new b.fresh b.changed (pid_of new directory))) h) → LeavesEither before after h
+broken-stands old new writing directory before after used most fault h b stands m image low high at =
     elim b.whole [
       | inl same ↦
-          let a = same.each m (without_file image) low high (record { from = image; was = at; by = refl }) in
-          inl (subst (λ (x : Space). SpaceStands x start) a.by (stood a.from a.was))
+          inl (same.each m (without_file image) low high (record { from = image; was = at; by = refl }))
       | inr tells ↦ elim (b.settles.images.each m (without_file image) low high (record { from = image; was = at; by = refl })) [
-        | inl a ↦ inl (subst (λ (x : Space). SpaceStands x start) a.by (stood a.from a.was))
+        | inl a ↦ inl a
         | inr k ↦ inr (stands tells (without_file image) (record { from = k.0; was = k.1; by = k.2 }))
       ]
     ]
@@ -209,10 +208,10 @@ module _ (old new : Heap) (before after : Outside Space) (names : List Reference
       let asked = saves-asked old before names writing directory d saves holds in
       let step = stored_by new stores.fresh stores.changed (pid_of new directory) in (
         saves,
-        λ heap is_saved. broken-stands old new writing directory before after used most fault heap stores (λ tells.
-            contents-stand old new before (after_step before step) names writing directory d
+        broken-stands old new writing directory before after used most fault (saved d) stores (λ tells space is heap is_saved.
+            content-stands old new before (after_step before step) names writing directory d
             (setting (after_step before step) stores.fresh stores.changed told.0 (one-step before step only) stores.commits (held-step before step) tells)
-            (homes stores.fresh stores.changed told.0 stores.commits) asked heap is_saved),
+            (homes stores.fresh stores.changed told.0 stores.commits) asked heap is_saved space is),
       )
   commits-held (Ok (answer.Saved fresh rewritten)) told stores keeps =
       let saves = decides (Ok (answer.Saved fresh rewritten)) told in
@@ -230,12 +229,13 @@ module _ (old new : Heap) (before after : Outside Space) (names : List Reference
           values = λ at v e. m.values names at v e;
           scopes = λ at scope e. m.scopes names at scope e;
           units = m.units;
-          leaves = λ heap is_saved.
-              let stands = contents-stand old new before after names writing directory d s at_home asked heap is_saved in
+          leaves =
+              let stands : ContentsStand after (saved d) =
+              λ space is heap is_saved. content-stands old new before after names writing directory d s at_home asked heap is_saved space is in
               record {
                 contents = stands;
-                moments = moments-stand before after (saving new stores.fresh stores.changed now) step heap stores.settles stands stores.becomes;
-                last = last-stands before after (saving new stores.fresh stores.changed now) step heap stores.settles stands t.content t.is;
+                moments = moments-stand before after (saving new stores.fresh stores.changed now) step (saved d) stores.settles stands stores.becomes;
+                last = last-stands before after (saving new stores.fresh stores.changed now) step (saved d) stores.settles stands t.content t.is;
               };
         },
       )

@@ -2,6 +2,7 @@
 use Rattle.std.specs.Prelude.{◌≡◌, ◌⊎◌, ℕ, ◌≤◌, List, map, Option, None}
 use Rattle.joint_held.specs.joint_ops.ps_outside.Outside.{Outside}
 use Rattle.joint_held.specs.joint_ops.obj_layout.Stored.{Space, without_file}
+use Rattle.joint_held.specs.joint_ops.obj_layout.Storing.{unfiled}
 use Rattle.joint_held.specs.joint_ops.obj_layout.declared.reference.Reference.{Reference}
 use Rattle.joint_held.specs.joint_ops.swizzle.Heap as area
 use Rattle.joint_held.specs.joint_ops.heap_meaning.ps_base.CodeUnit.{UnitView}
@@ -20,30 +21,35 @@ use Rattle.space_meaning.specs.Stands.{SpaceStands}
 abbrev pub none_made : List Source → List Source
 none_made writing = map (λ source. record { number = source.number; root = None }) writing
 
--- what the vault holds stands for a heap
-abbrev pub ContentsStand : Outside Space → StoredHeap → Type 0
-ContentsStand outside heap = (space : Space) → outside.contents space → SpaceStands (without_file space) heap
-
--- and so does all that a crash may leave at a moment
-abbrev pub ImagesStand : Outside Space → ℕ → StoredHeap → Type 0
-ImagesStand outside moment heap = (image : Space) → outside.images moment image → SpaceStands (without_file image) heap
-
--- What a crash leaves at a moment of the way stands for the heap for which all stood at its start, or for this one, whole.
-abbrev pub LeavesEither : Outside Space → Outside Space → StoredHeap → Type 0
-LeavesEither old new heap = (start : StoredHeap) → ImagesStand old old.clock start → (m : ℕ) (image : Space) → old.clock ≤ m → m ≤ new.clock
-    → new.images m image → SpaceStands (without_file image) start ⊎ SpaceStands (without_file image) heap
-
--- A heap that the meaning saves where this run is held with its procedures compiled: it is fit, and its procedures have units.
-pub record IsSaved (d : Held) (heap : StoredHeap) : Type 0 where
-  pub made : saved d ≡ compiled_stored heap
+-- A heap of which this is the one with its procedures compiled: it is fit, and its procedures have units.
+pub record IsCompiledTo (h heap : StoredHeap) : Type 0 where
+  pub made : h ≡ compiled_stored heap
   pub fit : IsFitHeap heap
   pub units : HaveUnits heap.objects
 
--- The vault stands for a heap, at each moment of the way what a crash leaves stands for the heap before or for this one, and at the last moment for this one.
-pub record LeavesHeap (before after : Outside Space) (heap : StoredHeap) : Type 0 where
-  pub contents : ContentsStand after heap
-  pub moments : LeavesEither before after heap
-  pub last : ImagesStand after after.clock heap
+-- A space stands for a heap as a run holds it, its procedures compiled: for each fit heap of which it is the compiled one.
+abbrev pub StandsFor : Space → StoredHeap → Type 0
+StandsFor space h = (heap : StoredHeap) → IsCompiledTo h heap → SpaceStands space heap
+
+-- what the vault holds stands for a heap
+abbrev pub ContentsStand : Outside Space → StoredHeap → Type 0
+ContentsStand outside h = (space : Space) → outside.contents space → StandsFor (without_file space) h
+
+-- by its words and its directory an image is one that a crash left when the way began
+abbrev pub WasLeft : Outside Space → Space → Type 0
+WasLeft before image = (unfiled before).images before.clock (without_file image)
+
+-- What a crash leaves at a moment of the way is what it left at its start, or stands for this heap, whole.
+abbrev pub LeavesEither : Outside Space → Outside Space → StoredHeap → Type 0
+LeavesEither before after h = (m : ℕ) (image : Space) → before.clock ≤ m → m ≤ after.clock → after.images m image
+    → WasLeft before image ⊎ StandsFor (without_file image) h
+
+-- The vault stands for the heap, at each moment of the way what a crash leaves is what it left before or stands for this heap, and at the last moment it stands
+-- for it.
+pub record LeavesHeap (before after : Outside Space) (h : StoredHeap) : Type 0 where
+  pub contents : ContentsStand after h
+  pub moments : LeavesEither before after h
+  pub last : (image : Space) → after.images after.clock image → StandsFor (without_file image) h
 
 -- Area and vault hold the run after a commit that saved, under other names; what an index denotes it denotes still; and the vault stands for the heap that was
 -- saved.
@@ -53,4 +59,4 @@ pub record SavesRun (old new : area.Heap) (before after : Outside Space) (names 
   pub values : (at : Option ℕ) (v : Value) → DenotesIn old before names at v → DenotesIn new after more at v
   pub scopes : (at scope : Option ℕ) → DenotesScopeIn old before names at scope → DenotesScopeIn new after more at scope
   pub units : (code : ℕ) (u : UnitView) → IsUnitIn old before code u → IsUnitIn new after code u
-  pub leaves : (heap : StoredHeap) → IsSaved d heap → LeavesHeap before after heap
+  pub leaves : LeavesHeap before after (saved d)

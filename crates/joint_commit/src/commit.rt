@@ -2,7 +2,7 @@
 ghost use Rattle.std.specs.Prelude.{◌≡◌, ◌⊎◌, ◌+◌, ◌≤◌, List, [], true, false, length, IfSome, OnOk, OnErr};
 ghost use Rattle.swizzle.specs.obj_layout.declared.reference.Reference.{Reference};
 ghost use Rattle.swizzle.specs.obj_layout.Storing.{SameUsers};
-ghost use Rattle.swizzle.specs.Heap.{IsHeld};
+ghost use Rattle.swizzle.specs.Heap.{IsHeld, top_of};
 ghost use Rattle.reach_commit.specs.Becoming.{AreNewRoots};
 ghost use Rattle.reach_commit.specs.Answers.{Decides, LeavesAll, Stores, Lacks};
 ghost use Rattle.joint_held.specs.joint_ops.ps_heap.Held.{Held};
@@ -32,7 +32,7 @@ pub fn commit<V: Vault>(
     requires roots { AreNewRoots sw.old writing.now }
     requires directory { IfSome directory (IsHeld sw.old) }
     requires below { AreBelow sw.old (V.used_words vault.old) }
-    requires room { sw.old.size ≤ length buffer.old + 1 }
+    requires room { top_of sw.old ≤ length buffer.old + 1 }
     ensures held { (names : List Reference) (d : Held) → HoldsRun sw.old (V.outside vault.old) names writing.now directory d →
         CommitsHeld sw.old sw.new (V.outside vault.old) (V.outside vault.new) names writing.now directory d result }
     ensures decides { Decides sw.old writing.now result }

@@ -31,7 +31,7 @@ use Rattle.machine_core.specs.declared.machine.Machine.{Machine}
 use Rattle.machine_core.specs.declared.stepped.Stepped.{Stepped}
 use Rattle.machine_core.specs.declared.stepped.Stepped.TheVariants.{Breaks, Damaged}
 use Rattle.machine_core.specs.Calling.{Calls, HasBelow, call_popped}
-use Rattle.machine_core.specs.Holding.{HeldBy, IsSound, object_in, word_of, words_of}
+use Rattle.machine_core.specs.Holding.{HeldBy, IsSound, object_in, word_of, words_of, world_in}
 use Rattle.machine_core.specs.Stepped.{Takes, Does}
 use Rattle.machine_core.proofs.Carrying.{read-holds, size-behind, broken-off}
 use Rattle.machine_core.proofs.Naming.{word-named}
@@ -142,7 +142,7 @@ module _ (before after : Outside Space) (n : ℕ) (line : Line) (m : Machine) wh
         does = λ c h.
             let b = below h.names c h.held in
             let p = is.is h.names b.1 b.4 in
-            let a = got c.store.held.objects h.names p.unit p.scope h.held.world (denoted h.names b.1 p b.4) in
+            let a = got c.store.held.objects h.names p.unit p.scope (world_in h.held.run) (denoted h.names b.1 p b.4) in
             let frame = frame_in p.unit in
             let step : call n line c ≡ (if takes_refs n body.frame then call_popped n body.frame.num_params line p.unit p.scope c else Stuck) =
             b.3 (λ vs v e. unit_called v (following n line vs e))
@@ -162,7 +162,7 @@ module _ (before after : Outside Space) (n : ℕ) (line : Line) (m : Machine) wh
           (λ c h.
           let b = below h.names c h.held in
           let p = is.is h.names b.1 b.4 in
-          broken-off m.objects now before after (call n line c) fault (got c.store.held.objects h.names p.unit p.scope h.held.world (denoted h.names b.1 p b.4)))
+          broken-off m.objects now before after (call n line c) fault (got c.store.held.objects h.names p.unit p.scope (world_in h.held.run) (denoted h.names b.1 p b.4)))
 
 -- A body that was looked up.
 

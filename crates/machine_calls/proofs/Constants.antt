@@ -24,7 +24,7 @@ use Rattle.machine_core.specs.declared.machine.Machine.{Machine}
 use Rattle.machine_core.specs.declared.stepped.Stepped.{Stepped}
 use Rattle.machine_core.specs.declared.stepped.Stepped.TheVariants.{Breaks, Damaged}
 use Rattle.machine_core.specs.Full.{BreaksBy}
-use Rattle.machine_core.specs.Holding.{HeldBy, IsSound, words_of}
+use Rattle.machine_core.specs.Holding.{HeldBy, IsSound, words_of, world_in}
 use Rattle.machine_core.specs.Naming.{NamesObjects}
 use Rattle.machine_core.specs.Stepped.{Takes, Does, UnlessBroken}
 use Rattle.machine_core.proofs.Carrying.{read-holds, sound-kept, size-behind, broken-off}
@@ -94,7 +94,7 @@ module _ (before after : Outside Space) (m : Machine) (now : area.Heap) (k : ℕ
       names = λ n. names;
       size = size-behind r m.objects.size now.size new.objects.size keeps.size size;
       does = λ c h.
-          let s = kept c.unit h.held.unit_is c.store.held.objects h.names h.held.world in
+          let s = kept c.unit h.held.unit_is c.store.held.objects h.names (world_in h.held.run) in
           let a = text-given (Ok (Some at)) given c.unit h.held.unit_is in
           subst (λ (x : Step). Does before after m.objects.size x r new)
           (sym (ap (λ (o : Option ConstantView). text_in o (λ bytes. next bytes c)) (same-constant (constants_in c.unit) k ∙ a.1)))
@@ -130,7 +130,7 @@ module _ (before after : Outside Space) (m : Machine) (now : area.Heap) (k : ℕ
     names = λ n. made.names;
     size = size-behind r m.objects.size now.size new.objects.size keeps.size made.size;
     does = λ c h.
-        let s = kept c.unit h.held.unit_is c.store.held.objects h.names h.held.world in
+        let s = kept c.unit h.held.unit_is c.store.held.objects h.names (world_in h.held.run) in
         let a = literal-given (Ok (Some at)) given c.unit h.held.unit_is h.held.fit in
         subst (λ (x : Step). Does before after m.objects.size x r new)
         (sym (ap (λ (o : Option ConstantView). procedure_of o c) (same-constant (constants_in c.unit) k ∙ a.1)))

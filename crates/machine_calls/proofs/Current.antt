@@ -23,7 +23,7 @@ use Rattle.machine_core.specs.declared.machine.Machine.{Machine}
 use Rattle.machine_core.specs.declared.stepped.Stepped.{Stepped}
 use Rattle.machine_core.specs.declared.stepped.Stepped.TheVariants.{Quiet, Breaks, Damaged}
 use Rattle.machine_core.specs.Calling.{Enters}
-use Rattle.machine_core.specs.Holding.{HeldBy, IsSound, words_of}
+use Rattle.machine_core.specs.Holding.{HeldBy, IsSound, words_of, world_in}
 use Rattle.machine_core.specs.Naming.{NamesObjects}
 use Rattle.machine_core.specs.Stepped.{Takes}
 use Rattle.machine_core.proofs.Carrying.{read-holds, broken-off}
@@ -68,7 +68,7 @@ module _ (before after : Outside Space) (m : Machine) (now : area.Heap) (at : �
     names = λ n. names (names-kept m now keeps n);
     size = ap (λ (a : area.Heap). a.size) same ∙ keeps.size;
     does = λ c h.
-        let t = got c.store.held.objects h.names c.scope h.held.world (in_it h.names c h.held) in (
+        let t = got c.store.held.objects h.names c.scope (world_in h.held.run) (in_it h.names c h.held) in (
           [],
           record c { scope = t.parent },
           ap (λ (o : Option Object). of_scope o (λ of parent. on (record c { scope = parent }))) t.is.is,
@@ -84,4 +84,4 @@ module _ (before after : Outside Space) (m : Machine) (now : area.Heap) (at : �
       → Takes before after leave_scope m new r
   no-parent fault new r answer is sound got =
       breaks-takes before after m now leave_scope fault new r answer is sound
-      (λ c h. broken-off m.objects now before after (leave_scope c) fault (got c.store.held.objects h.names c.scope h.held.world (in_it h.names c h.held)))
+      (λ c h. broken-off m.objects now before after (leave_scope c) fault (got c.store.held.objects h.names c.scope (world_in h.held.run) (in_it h.names c h.held)))

@@ -31,10 +31,11 @@ use Rattle.joint_procedures.proofs.ScopeLaws.{out-none}
 use Rattle.machine_core.specs.declared.machine.Machine.{Machine}
 use Rattle.machine_core.specs.declared.stepped.Stepped.{Stepped}
 use Rattle.machine_core.specs.declared.stepped.Stepped.TheVariants.{Quiet, Breaks, Damaged}
-use Rattle.machine_core.specs.Holding.{IsSound, object_in, words_of}
+use Rattle.machine_core.specs.Holding.{IsSound, object_in, words_of, world_in}
 use Rattle.machine_core.specs.Naming.{IsNamed, NamesObjects}
 use Rattle.machine_core.specs.Stepped.{Takes, Does, UnlessBroken}
 use Rattle.machine_core.specs.inside.Taking.{Leaves, Taken, TakenRef}
+use Rattle.machine_core.proofs.RunLaws.{run-kept}
 use Rattle.machine_core.proofs.Carrying.{held-more, read-holds, touched-holds, sound-kept, size-behind, broken-off}
 use Rattle.machine_core.proofs.Naming.{names-last}
 use Rattle.machine_calls.specs.inside.Names.{number_kept, reference_kept, row_kept, name_put, number_pushed, PushesReference, WritesName}
@@ -192,7 +193,7 @@ module _ (before after : Outside Space) (up name : ℕ) (m : Machine) where
       names = λ n. push.names (names-kept m now keeps n);
       size = size-behind r m.objects.size now.size new.objects.size keeps.size push.size;
       does = λ c h.
-          let g = got c.store.held.objects h.names c.scope h.held.world (in_it h.names c h.held) in
+          let g = got c.store.held.objects h.names c.scope (world_in h.held.run) (in_it h.names c h.held) in
           let v = kept_name c.store.held.objects c.scope up name in
           subst (λ (s : Step). Does before after m.objects.size s r new)
           (sym (number-formed up name c g.0 g.1 (push_num (word_of v) (name_read up name c)) ∙ number-read now after h.names k g.0 v (name_read up name c) g.2 g.3))
@@ -206,7 +207,7 @@ module _ (before after : Outside Space) (up name : ℕ) (m : Machine) where
         breaks-takes before after m now (kept_num up name) fault new r answer is sound
         (λ c h.
         let s = push_num (word_of (kept_name c.store.held.objects c.scope up name)) (name_read up name c) in
-        elim (got c.store.held.objects h.names c.scope h.held.world (in_it h.names c h.held)) [
+        elim (got c.store.held.objects h.names c.scope (world_in h.held.run) (in_it h.names c h.held)) [
           | inl a ↦ damage-breaks before after m.objects.size (kept_num up name c) fault (number-none up name c s (λ f n. absurd (a.0 f n))) a.1
           | inr b ↦ broken-off m.objects now before after (kept_num up name c) fault b
         ])
@@ -220,7 +221,7 @@ module _ (before after : Outside Space) (up name : ℕ) (m : Machine) where
       names = λ n. push.names (names-kept m now keeps n);
       size = size-behind r m.objects.size now.size new.objects.size keeps.size push.size;
       does = λ c h.
-          let g = got c.store.held.objects h.names c.scope h.held.world (in_it h.names c h.held) in
+          let g = got c.store.held.objects h.names c.scope (world_in h.held.run) (in_it h.names c h.held) in
           let s = push_ref (kept_name c.store.held.objects c.scope up name) (name_read up name c) in
           subst (λ (x : Step). Does before after m.objects.size x r new) (sym (reference-formed up name c g.0 g.1 s ∙ row g.0 g.2 s))
           (done-behind before after m now Stuck new r left keeps
@@ -234,7 +235,7 @@ module _ (before after : Outside Space) (up name : ℕ) (m : Machine) where
       names = λ n. push.names (names-kept m now keeps n) (near-held now to near);
       size = size-behind r m.objects.size now.size new.objects.size keeps.size push.size;
       does = λ c h.
-          let g = got c.store.held.objects h.names c.scope h.held.world (in_it h.names c h.held) in
+          let g = got c.store.held.objects h.names c.scope (world_in h.held.run) (in_it h.names c h.held) in
           let v = kept_name c.store.held.objects c.scope up name in
           subst (λ (s : Step). Does before after m.objects.size s r new)
           (sym (reference-formed up name c g.0 g.1 (push_ref v (name_read up name c)) ∙ row g.0 g.2 (push_ref v (name_read up name c))))
@@ -265,7 +266,7 @@ module _ (before after : Outside Space) (up name : ℕ) (m : Machine) where
         breaks-takes before after m now (kept_ref up name) fault new r answer is sound
         (λ c h.
         let s = push_ref (kept_name c.store.held.objects c.scope up name) (name_read up name c) in
-        elim (got c.store.held.objects h.names c.scope h.held.world (in_it h.names c h.held)) [
+        elim (got c.store.held.objects h.names c.scope (world_in h.held.run) (in_it h.names c h.held)) [
           | inl a ↦ damage-breaks before after m.objects.size (kept_ref up name c) fault (reference-none up name c s (λ f n. absurd (a.0 f n))) a.1
           | inr b ↦ broken-off m.objects now before after (kept_ref up name c) fault b
         ])
@@ -314,13 +315,17 @@ module _ (before after : Outside Space) (up name : ℕ) (m : Machine) where
       names = names-last m.objects now stand (words_of m) m.writing.item names;
       size = size;
       does = λ ns c v h for.
-          let w = put c.store.held.objects ns c.scope v h.world (in_it ns c h) int for in
+          let w = put c.store.held.objects ns c.scope v (world_in h.run) (in_it ns c h) int for in
           let store = on_held (assigned_name c.scope up name v c.store.held) c.store in (
             [],
             record c { store = store },
             row-formed to w.0 c w.2 w.1 (name_put up name v c),
             refl,
-            record { names = ns; held = held-more m.objects now before after ns ns (words_of m) c store w.3.2.carries h w.3.2.world refl refl },
+            record {
+              names = ns;
+              held = held-more m.objects now before after ns ns (words_of m) c store w.3.2.carries h
+                  (run-kept ns (words_of m).writing (words_of m).asked (words_of m).directory c.store.held m.objects now before after c.scope up name v w.3.0 w.3.1 w.3.2 h.run) refl refl;
+            },
           );
     }
 
@@ -334,7 +339,7 @@ module _ (before after : Outside Space) (up name : ℕ) (m : Machine) where
           size = tt;
           does = λ ns c v h for.
               let s = name_put up name v c in
-              elim (put c.store.held.objects ns c.scope v h.world (in_it ns c h) int for) [
+              elim (put c.store.held.objects ns c.scope v (world_in h.run) (in_it ns c h) int for) [
                 | inl a ↦ damage-breaks before after m.objects.size (row_kept to up name c s) fault (row-none to c a.0 s) a.1
                 | inr b ↦ broken-off m.objects now before after (row_kept to up name c s) fault b
               ];

@@ -28,10 +28,11 @@ use Rattle.machine_core.specs.declared.stepped.Stepped.{Stepped}
 use Rattle.machine_core.specs.declared.stepped.Stepped.TheVariants.{Quiet, Breaks, Damaged}
 use Rattle.machine_core.specs.Calling.{Enters}
 use Rattle.machine_core.specs.Full.{a_scope, a_procedure}
-use Rattle.machine_core.specs.Holding.{IsSound, words_of}
+use Rattle.machine_core.specs.Holding.{IsSound, words_of, world_in}
 use Rattle.machine_core.specs.Naming.{NamesObjects}
 use Rattle.machine_core.specs.inside.Taking.{TakesRef}
 use Rattle.machine_core.proofs.Carrying.{held-more, sound-kept, size-behind, short-full}
+use Rattle.machine_core.proofs.RunLaws.{run-counting, run-gained, run-made}
 use Rattle.machine_core.proofs.Popping.{refs_taken}
 use Rattle.machine_calls.specs.inside.Making.{MakesScopeOf, MakesProcedureOf, in_scope, with_procedure}
 use Rattle.machine_calls.proofs.Current.{IsCurrent}
@@ -54,10 +55,13 @@ module _ (outside : Outside Space) (m : Machine) (now : area.Heap) (within : Opt
       size = ap (λ (a : area.Heap). a.size) same ∙ keeps.size;
       does = λ ns c bytes h d.
           let object = new_scope bytes c.scope in
-          let made = make c.store.held.objects ns bytes c.scope h.world d (in_it ns c h) in
+          let made = make c.store.held.objects ns bytes c.scope (world_in h.run) d (in_it ns c h) in
           let store = and_object object c.store in
           let more = and_name ns (name_at now at) in
-          let held = held-more m.objects now outside outside ns more (words_of m) c store made.carries h made.world refl refl in (
+          let w = words_of m in
+          let run = run-made ns w.writing w.asked w.directory c.store.held m.objects now outside object at made.gains
+          (record { held = made.held; unstored = made.unstored; fresh = made.fresh; world = made.world }) h.run in
+          let held = held-more m.objects now outside outside ns more w c store made.carries h run refl refl in (
             [],
             record c { store = store; scope = Some (new_number c.store.held.objects) },
             refl,
@@ -76,7 +80,7 @@ module _ (outside : Outside Space) (m : Machine) (now : area.Heap) (within : Opt
           size = tt;
           does = λ ns c bytes h d.
               let object = new_scope bytes c.scope in
-              let short = make c.store.held.objects ns bytes c.scope h.world d (in_it ns c h) in
+              let short = make c.store.held.objects ns bytes c.scope (world_in h.run) d (in_it ns c h) in
               let next : Config = record c { store = and_object object c.store; scope = Some (new_number c.store.held.objects) } in
               short-full m.objects now outside outside (in_scope bytes c) c.store next (own_weight object) fault refl (a_scope object refl refl) short;
         } in
@@ -96,9 +100,12 @@ module _ (outside : Outside Space) (m : Machine) (now : area.Heap) (within : Opt
       names = push.names names there;
       size = size-behind r m.objects.size now.size new.objects.size keeps.size push.size;
       does = λ ns c u h is fit.
-          let made = make c.store.held.objects ns u c.scope h.world is fit (in_it ns c h) in
+          let made = make c.store.held.objects ns u c.scope (world_in h.run) is fit (in_it ns c h) in
           let store = and_closure c.store in
-          let held = held-more m.objects now outside outside ns ns (words_of m) c store made.stands.carries h made.stands.world refl refl in
+          let w = words_of m in
+          let read = run-gained ns w.writing w.asked w.directory c.store.held m.objects now outside outside made.stands.gains h.run in
+          let run = run-counting ns w.writing w.asked w.directory c.store.held now outside closure_weight read in
+          let held = held-more m.objects now outside outside ns ns w c store made.stands.carries h run refl refl in
           done-behind outside outside m now (with_procedure u c) new r (leaves-none outside) keeps
           (push.does ns (Procedure (as_compiled u) c.scope) (record c { store = store }) held made.denotes);
     }
@@ -112,7 +119,7 @@ module _ (outside : Outside Space) (m : Machine) (now : area.Heap) (within : Opt
           names = tt;
           size = tt;
           does = λ ns c u h is fit.
-              let short = make c.store.held.objects ns u c.scope h.world is fit (in_it ns c h) in
+              let short = make c.store.held.objects ns u c.scope (world_in h.run) is fit (in_it ns c h) in
               let next : Config = record c { store = and_closure c.store; refs = Procedure (as_compiled u) c.scope ∷ c.refs } in
               short-full m.objects now outside outside (with_procedure u c) c.store next closure_weight fault
               (ap (λ (b : Bool). if b then on next else Stuck)

@@ -35,6 +35,8 @@ use Rattle.machine_core.proofs.RefRows.{ref_length}
 use Rattle.machine_core.proofs.Callers.{as-many}
 use Rattle.machine_core.proofs.Arguments.{args-popped, too-few-nums, args-row, Below, below-popped, too-few-refs, refs-row}
 use Rattle.machine_core.proofs.Words.{nil-denoted}
+use Rattle.machine_core.proofs.RunLaws.{run-touching}
+use Rattle.ps_stepping.specs.ps_heap.References.{scope_ids}
 
 -- all that is on top from a word on, and the words below it
 parted : (xs : List ℕ) (n k : ℕ) (w d : ℕ) → n + 1 + k ≡ length xs → get_or xs n d ≡ w → xs ≡ (take n xs ++ w ∷ []) ++ drop (n + 1) xs
@@ -196,5 +198,5 @@ module _ (m : Machine) (outside : Outside Space) (names : List Reference) (c : C
               callers_are = (last, waits, h.callers_are);
               input_is = h.input_is;
               turns_are = refl;
-              world = h.world;
+              run = run-touching names m.databases.writing.items m.databases.asked m.databases.directory c.store.held m.objects outside (scope_ids scope) h.run;
             }

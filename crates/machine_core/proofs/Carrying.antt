@@ -18,16 +18,17 @@ use Rattle.ps_stepping.specs.ps_meaning.Meaning.{Store}
 use Rattle.ps_stepping.specs.Config.{Config}
 use Rattle.ps_stepping.specs.Steps.{Step, Goes, Stuck}
 use Rattle.ps_stepping.specs.Objects.{having}
-use Rattle.joint_ops.specs.World.{IsWorld, Carries, Stands, BreaksOff}
+use Rattle.joint_ops.specs.World.{Carries, Stands, BreaksOff}
 use Rattle.joint_ops.specs.Made.{IsShort}
 use Rattle.machine_core.specs.declared.machine.Machine.{Machine}
 use Rattle.machine_core.specs.declared.stepped.Stepped.{Stepped}
 use Rattle.machine_core.specs.declared.stepped.Stepped.TheVariants.{Quiet, Turns, Writes, Halts, Breaks, Damaged}
-use Rattle.machine_core.specs.Holding.{Held, IsSound, Words}
+use Rattle.machine_core.specs.Holding.{Held, HoldsStore, IsSound, Words}
 use Rattle.machine_core.specs.Full.{Makes, StoresOne, BreaksBy}
 use Rattle.machine_core.specs.Stepped.{Does, UnlessBroken}
 use Rattle.machine_core.proofs.RefRows.{row_more}
 use Rattle.machine_core.proofs.Callers.{all-waiting}
+use Rattle.machine_core.proofs.RunLaws.{run-touching, run-gained}
 
 -- What objects are touched says nothing of the words.
 pub touched-held : (here : area.Heap) (outside : Outside Space) (names : List Reference) (w : Words) (c : Config) (ids : List ℕ)
@@ -43,15 +44,15 @@ touched-held here outside names w c ids h = record {
   callers_are = h.callers_are;
   input_is = h.input_is;
   turns_are = h.turns_are;
-  world = h.world;
+  run = run-touching names w.writing w.asked w.directory c.store.held here outside ids h.run;
 }
 
 module _ (here now : area.Heap) (before after : Outside Space) where
   -- What stands for a configuration stands for one with another store, where area and vault stand for its heap and carry what was denoted.
   pub held-more : (names more : List Reference) (w : Words) (c : Config) (store : Store) → Carries here now before after names more
-      → Held here before names w c → IsWorld now after store.held.objects more → store.turns ≡ c.store.turns → store.input ≡ c.store.input
-      → Held now after more w (record c { store = store })
-  held-more names more w c store k h world turns input = record {
+      → Held here before names w c → HoldsStore now after more w.writing w.asked w.directory store.held
+      → store.turns ≡ c.store.turns → store.input ≡ c.store.input → Held now after more w (record c { store = store })
+  held-more names more w c store k h run turns input = record {
     unit_is = k.units w.code c.unit h.unit_is;
     fit = h.fit;
     frame_is = h.frame_is;
@@ -62,13 +63,14 @@ module _ (here now : area.Heap) (before after : Outside Space) where
     callers_are = all-waiting here now before after names more k w.callers w.nums.below w.refs.below c.callers h.callers_are;
     input_is = h.input_is ∙ sym input;
     turns_are = turns ∙ h.turns_are;
-    world = world;
+    run = run;
   }
 
   -- after an operation that read, the words stand for the same configuration
   pub read-holds : (names : List Reference) (w : Words) (c : Config) → Held here before names w c → Stands here now before after c.store.held.objects names
       → Held now after names w c
-  read-holds names w c h s = held-more names names w c c.store s.carries h s.world refl refl
+  read-holds names w c h s =
+      held-more names names w c c.store s.carries h (run-gained names w.writing w.asked w.directory c.store.held here now before after s.gains h.run) refl refl
 
   -- and where objects are touched then
   pub touched-holds : (names : List Reference) (w : Words) (c : Config) (ids : List ℕ) → Held here before names w c

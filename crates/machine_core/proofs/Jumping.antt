@@ -40,7 +40,7 @@ module _ (m : Machine) (outside : Outside Space) (c : Config) (h : Holds outside
       callers_are = h.held.callers_are;
       input_is = h.held.input_is;
       turns_are = h.held.turns_are;
-      world = h.held.world;
+      run = h.held.run;
     };
   }
 
@@ -69,7 +69,7 @@ module _ (m : Machine) (outside : Outside Space) (c : Config) (h : Holds outside
             callers_are = h.held.callers_are;
             input_is = h.held.input_is;
             turns_are = refl;
-            world = h.held.world;
+            run = h.held.run;
           };
         },
       )

@@ -1,4 +1,5 @@
 pub mod Rows
+pub mod RunLaws
 pub mod RefRows
 pub mod Words
 pub mod Naming

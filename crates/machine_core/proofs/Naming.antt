@@ -7,6 +7,9 @@ use Rattle.joint_ops.specs.swizzle.Heap.{IsHeld, Stands as AllStand}
 use Rattle.joint_ops.specs.proc_values.declared.reading.CodePlace.{CodePlace}
 use Rattle.joint_ops.specs.proc_values.Reading.{IsPlaceOf}
 use Rattle.frame_stack.specs.Frames.{Frames}
+use Rattle.joint_held.specs.db_dir.Directories.{HasPlaces, IsShaped}
+use Rattle.joint_held.specs.reach_commit.Becoming.{IsNewRoot}
+use Rattle.joint_held.specs.reach_commit.commit_walk.declared.homes.Source.{Source}
 use Rattle.machine_core.specs.declared.body.Body.{Body}
 use Rattle.machine_core.specs.declared.caller.Caller.{Caller}
 use Rattle.machine_core.specs.declared.machine.Machine.{Machine}
@@ -16,7 +19,7 @@ use Rattle.machine_core.specs.Items.{IsItem}
 use Rattle.machine_core.specs.Rows.{object_in, word_of}
 use Rattle.machine_core.specs.Words.{Words}
 use Rattle.machine_core.specs.Calling.{IsThere}
-use Rattle.machine_core.specs.Naming.{IsNamed, IsKept, NamesIn, NamesObjects}
+use Rattle.machine_core.specs.Naming.{IsNamed, IsKept, NamesDatabases, NamesIn, NamesObjects, naming}
 use Rattle.machine_core.specs.inside.Handing.{IsEntered, caller_of}
 
 module _ (old new : area.Heap) (stand : AllStand old new) where
@@ -43,6 +46,27 @@ module _ (old new : area.Heap) (stand : AllStand old new) where
   item-last (item.Flag b) is = tt
   item-last (item.Text at) is = let s = stand at is.0 in (s.held, s.kind ∙ is.1)
 
+  shaped-last : (directory : Option ℕ) → IfSome directory (IsShaped old) → IfSome directory (IsShaped new)
+  shaped-last None is = tt
+  shaped-last (Some at) is =
+      let s = stand at is.held in
+      record {
+        held = s.held;
+        kind_is = s.kind ∙ is.kind_is;
+        home = s.nums ∙ is.home;
+        count = is.count;
+        places = subst (λ (n : ℕ). HasPlaces n is.count) (sym s.refs) is.places;
+      }
+
+  root-last : (writing : List Source) (place at : ℕ) → IsNewRoot old writing place at → IsNewRoot new writing place at
+  root-last writing place at is =
+      let s = stand at is.held in
+      record { held = s.held; unstored = s.pid ∙ is.unstored; kind = s.kind ∙ is.kind; only = is.only }
+
+  pub databases-last : (writing : List Source) (directory : Option ℕ) (places : ℕ) → NamesDatabases old writing directory places → NamesDatabases new writing directory places
+  databases-last writing directory places (naming shaped roots room) =
+      naming (shaped-last directory shaped) (λ place at below is. root-last writing place at (roots place at below is)) room
+
   -- so do all that a machine's words name
   pub names-last : (w : Words) (it : Item) → NamesIn old w it → NamesIn new w it
   names-last w it n = record {
@@ -52,6 +76,7 @@ module _ (old new : area.Heap) (stand : AllStand old new) where
     below = All-weaker (λ word. IsNamed old word) (λ word. IsNamed new word) (λ word. held-last (object_in word)) w.refs.below n.below;
     callers = All-weaker (λ caller. IsKept old caller) (λ caller. IsKept new caller) kept-last w.callers n.callers;
     item = item-last it n.item;
+    databases = databases-last w.writing w.directory w.places n.databases;
   }
 
 module _ (here : area.Heap) where
@@ -71,6 +96,7 @@ module _ (here : area.Heap) where
     below = subst (λ (ws : List ℕ). All (λ word. IsNamed here word) ws) (sym same) n.below;
     callers = n.callers;
     item = n.item;
+    databases = n.databases;
   }
 
   -- one more is pushed, or the top is popped, or one is written
@@ -99,8 +125,8 @@ module _ (here : area.Heap) where
 
   -- the last body that waits goes on with some of the words below
   pub names-resumed : (w v : Words) (it : Item) (last : Caller) → NamesIn here w it → w.callers ≡ v.callers ++ last ∷ [] → v.code ≡ last.code → v.place ≡ last.place
-      → v.scope ≡ last.scope → (own from low : ℕ) → v.refs.own ≡ take own (drop from w.refs.below) → v.refs.below ≡ take low w.refs.below → NamesIn here v it
-  names-resumed w v it last n split code place scope own from low own_are below_are =
+      → v.scope ≡ last.scope → v.writing ≡ w.writing → v.directory ≡ w.directory → v.places ≡ w.places → (own from low : ℕ) → v.refs.own ≡ take own (drop from w.refs.below) → v.refs.below ≡ take low w.refs.below → NamesIn here v it
+  names-resumed w v it last n split code place scope writing directory places own from low own_are below_are =
       let all = All-pop (λ caller. IsKept here caller) w.callers v.callers (Some last) split n.callers in
       let words = n.below in
       record {
@@ -112,6 +138,9 @@ module _ (here : area.Heap) where
         below = subst (λ (ws : List ℕ). All (λ word. IsNamed here word) ws) (sym below_are) (All-take (λ word. IsNamed here word) low w.refs.below words);
         callers = all.0;
         item = n.item;
+        databases = subst (λ (d : Option ℕ). NamesDatabases here v.writing d v.places) (sym directory)
+            (subst (λ (n : ℕ). NamesDatabases here v.writing w.directory n) (sym places)
+            (subst (λ (ds : List Source). NamesDatabases here ds w.directory w.places) (sym writing) n.databases));
       }
 
 -- the body that ran waits, and another one begins with its arguments
@@ -132,4 +161,5 @@ names-entered body args old new e n there =
           subst (λ (cs : List Caller). All (λ caller. IsKept old.objects caller) cs) (sym e.callers_are)
           (All-push (λ caller. IsKept old.objects caller) old.callers.items own n.callers (record { code = n.code; scope = n.scope }));
       item = n.item;
+      databases = n.databases;
     })

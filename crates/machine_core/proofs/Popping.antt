@@ -105,7 +105,7 @@ module _ (m : Machine) (outside : Outside Space) (c : Config) (names : List Refe
     callers_are = subst (λ (xs : List ℤ). AreWaiting m.objects outside names m.callers.items xs m.refs.below c.callers) (sym same) held.callers_are;
     input_is = held.input_is;
     turns_are = held.turns_are;
-    world = held.world;
+    run = held.run;
   }
 
   -- a number is popped
@@ -199,7 +199,7 @@ module _ (m : Machine) (outside : Outside Space) (c : Config) (names : List Refe
     callers_are = subst (λ (xs : List ℕ). AreWaiting m.objects outside names m.callers.items m.nums.below xs c.callers) (sym same) held.callers_are;
     input_is = held.input_is;
     turns_are = held.turns_are;
-    world = held.world;
+    run = held.run;
   }
 
   -- a reference is popped

@@ -98,7 +98,7 @@ module _ (m : Machine) (outside : Outside Space) (names : List Reference) (c : C
                 callers_are = others;
                 input_is = h.input_is;
                 turns_are = h.turns_are;
-                world = h.world;
+                run = h.run;
               },
             )
 

@@ -1,5 +1,5 @@
 -- A machine in code, over the objects of an area and of a vault, and the configuration that it stands for under a row of names.
-use Rattle.std.specs.Prelude.{◌≡◌, ℕ, ◌≤◌, ◌*◌, List, length, vec_capacity}
+use Rattle.std.specs.Prelude.{◌≡◌, ℕ, ◌≤◌, ◌*◌, Bool, List, Option, length, vec_capacity}
 use Rattle.joint_ops.specs.ps_outside.Outside.{Outside}
 use Rattle.joint_ops.specs.obj_layout.Stored.{Space}
 use Rattle.joint_ops.specs.obj_layout.declared.reference.Reference.{Reference}
@@ -7,6 +7,9 @@ use Rattle.joint_ops.specs.swizzle.Heap as area
 use Rattle.joint_ops.specs.proc_values.Loaded.{IsFitUnit}
 use Rattle.ps_stepping.specs.Config.{Config, frame_words, frame_in}
 use Rattle.joint_ops.specs.World.{IsWorld, DenotesScopeIn, IsUnitIn}
+use Rattle.joint_ops.specs.ps_heap.Held.{Held as Meant}
+use Rattle.joint_held.specs.reach_commit.commit_walk.declared.homes.Source.{Source}
+use Rattle.joint_held.specs.Held.{HoldsRun}
 use Rattle.machine_core.specs.declared.machine.Machine.{Machine}
 pub use Rattle.machine_core.specs.Rows.{object_in, word_of, AreDenoted, IsRow, IsRefRow}
 use Rattle.machine_core.specs.Waiting.{AreWaiting, IsOrderly}
@@ -16,7 +19,21 @@ pub use Rattle.machine_core.specs.Words.{Words, words_of}
 abbrev pub most_values : ℕ
 most_values = 2 * frame_words
 
--- These words stand for the configuration, and area and vault for its heap.
+-- What code knows of databases is so of what the run holds, and area and vault hold that. This is no record, so that searches for proofs don't go into it.
+pub data HoldsStore (here : area.Heap) (outside : Outside Space) (names : List Reference) (writing : List Source) (asked : Bool) (directory : Option ℕ) (h : Meant) : Type 0 where
+  holding : h.asked ≡ asked → HoldsRun here outside names writing directory h → HoldsStore here outside names writing asked directory h
+
+module _ {here : area.Heap} {outside : Outside Space} {names : List Reference} {writing : List Source} {asked : Bool} {directory : Option ℕ} {h : Meant} where
+  abbrev pub asked_in : HoldsStore here outside names writing asked directory h → h.asked ≡ asked
+  asked_in (holding is run) = is
+
+  abbrev pub run_in : HoldsStore here outside names writing asked directory h → HoldsRun here outside names writing directory h
+  run_in (holding is run) = run
+
+  abbrev pub world_in : HoldsStore here outside names writing asked directory h → IsWorld here outside h.objects names
+  world_in held = (run_in held).world
+
+-- These words stand for the configuration, and with area and vault for what it holds of its heap and of databases.
 pub record Held (here : area.Heap) (outside : Outside Space) (names : List Reference) (w : Words) (c : Config) : Type 0 where
   pub unit_is : IsUnitIn here outside w.code c.unit
   pub fit : IsFitUnit c.unit
@@ -28,7 +45,7 @@ pub record Held (here : area.Heap) (outside : Outside Space) (names : List Refer
   pub callers_are : AreWaiting here outside names w.callers w.nums.below w.refs.below c.callers
   pub input_is : w.input ≡ c.store.input
   pub turns_are : c.store.turns ≡ w.turns
-  pub world : IsWorld here outside c.store.held.objects names
+  pub run : HoldsStore here outside names w.writing w.asked w.directory c.store.held
 
 -- under some row of names
 pub record Standing (here : area.Heap) (outside : Outside Space) (w : Words) (c : Config) : Type 0 where

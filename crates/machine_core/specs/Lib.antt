@@ -22,5 +22,6 @@ pub use Rattle.joint_ops.specs.heap_places as heap_places
 pub use Rattle.joint_ops.specs.heap_ops as heap_ops
 pub use Rattle.joint_ops.specs.proc_values as proc_values
 pub use Rattle.joint_ops.specs as joint_ops
+pub use Rattle.joint_held.specs as joint_held
 pub use Rattle.objects.specs as objects
 pub use Rattle.frame_stack.specs as frame_stack

@@ -1,4 +1,5 @@
 use crate::caller::Caller;
+use crate::databases::Databases;
 use crate::input::Input;
 use crate::run_end::RunEnd;
 use crate::stepped::Writing;
@@ -22,8 +23,8 @@ pub const MOST_CALLERS: usize = 2_000;
 pub const ALL_WORDS: usize = (MOST_CALLERS + 1) * FRAME_WORDS;
 
 /// A run of a unit: the objects of its area, and values that an object is made of; the body that runs, by its code object with the place of its bytes and
-/// its frame, its scope, the offset of its next instruction in bytes; the two stacks; the bodies that wait, the last at the end; the input, and the turns
-/// that are left. Each stack has the words of the bodies that wait, one body after the other, and then those of the body that runs: its locals first, and
+/// its frame, its scope, the offset of its next instruction in bytes; the two stacks; the bodies that wait, the last at the end; the input, the turns
+/// that are left, and the databases. Each stack has the words of the bodies that wait, one body after the other, and then those of the body that runs: its locals first, and
 /// above them what is pushed, its top at the end. A number is an int, or a bool as 0 or 1. On the stack of references 0 is nil, and each other word is the
 /// index of an object in the area; so is the scope, which is 0 for none. After all that stand what the last write was, the end that the run came to, and
 /// the fault that it broke off with; each means something only where a step was answered that says so, and a text of a write lies in the area all the
@@ -41,6 +42,7 @@ pub struct Machine {
     pub callers: Vec<Caller>,
     pub input: Input,
     pub turns: u64,
+    pub databases: Databases,
     pub writing: Writing,
     pub end: RunEnd,
     pub fault: SwizzleFault,
@@ -61,6 +63,7 @@ impl Drop for Machine {
             callers: _,
             input: _,
             turns: _,
+            databases: _,
             writing: _,
             end: _,
             fault: _,

@@ -29,7 +29,7 @@ use Rattle.machine_core.specs.ps_heap.Weights.{text_weight, own_weight}
 use Rattle.machine_core.specs.ps_stepping.Config.{Config, frame_words, frame_in}
 use Rattle.machine_core.specs.ps_stepping.Steps.{Step, Goes, Stuck, on, attempted, push_num, push_ref}
 use Rattle.machine_core.specs.ps_stepping.Objects.{make_text, make, having, changed, when_number, when_reference}
-use Rattle.machine_core.specs.joint_ops.World.{Answers, Writes, IsForIn, IsOfForm, Stands}
+use Rattle.machine_core.specs.joint_ops.World.{Answers, Writes, IsForIn, IsOfForm, Rewritten, Stands}
 use Rattle.machine_core.specs.joint_ops.Made.{IsShort, Makes, MakesText}
 use Rattle.machine_core.specs.objects.Classes.{MakesLater}
 use Rattle.machine_core.specs.declared.machine.Machine.{Machine}
@@ -42,6 +42,7 @@ use Rattle.machine_core.specs.Stepped.{Does, Takes}
 use Rattle.machine_core.specs.inside.Taking.{TakesRef}
 use Rattle.machine_core.proofs.Carrying.{held-more, read-holds, touched-holds, short-full, does-behind, size-behind}
 use Rattle.machine_core.proofs.Popping.{refs_taken}
+use Rattle.machine_core.proofs.RunLaws.{run-counting, run-gained, run-made, run-written}
 use Rattle.machine_operands.specs.Giving.{failed_of, failed_in, broken_of, broken_in, IsNaming, structures, vectors, EndsSoundly, GivesText, GivesObject, GivesStructure, GivesNumber, GivesReference, GivesBound, GivesFlag, Changes}
 use Rattle.machine_operands.proofs.Breaking.{does-same, damaged-goes, failed-making, failed-soundly, broken-soundly, trap-does, off-does, failed-code, broken-code}
 
@@ -89,7 +90,10 @@ module _ (outside : Outside Space) (line : Line) (m new : Machine) (r : Stepped)
     does = λ here names c attempt h made.
         let text = made.2 in
         let store = and_text made.0 c.store in
-        let now = held-more here m.objects outside outside names names (words_of m) c store text.stands.carries h text.stands.world refl refl in
+        let w = words_of m in
+        let read = run-gained names w.writing w.asked w.directory c.store.held here m.objects outside outside text.stands.gains h.run in
+        let run = run-counting names w.writing w.asked w.directory c.store.held m.objects outside (text_weight made.0) read in
+        let now = held-more here m.objects outside outside names names w c store text.stands.carries h run refl refl in
         does-same outside outside here.size m.objects.size (make_text made.0 c) (attempted line attempt (λ bytes. make_text bytes c)) r new text.stands.carries.size
         (ap (λ (a : Attempt (List ℕ)). attempted line a (λ bytes. make_text bytes c)) made.1)
         (push.does names (Text made.0) (record c { store = store }) now text.denotes);
@@ -116,7 +120,10 @@ module _ (outside : Outside Space) (line : Line) (m new : Machine) (r : Stepped)
         let it = made.2 in
         let store = and_object made.0 c.store in
         let more = and_name names (name_at m.objects at) in
-        let now = held-more here m.objects outside outside names more (words_of m) c store it.carries h it.world refl refl in
+        let w = words_of m in
+        let run = run-made names w.writing w.asked w.directory c.store.held here m.objects outside made.0 at it.gains
+        (record { held = it.held; unstored = it.unstored; fresh = it.fresh; world = it.world }) h.run in
+        let now = held-more here m.objects outside outside names more w c store it.carries h run refl refl in
         does-same outside outside here.size m.objects.size (make denoting made.0 c) (attempted line attempt (λ object. make denoting object c)) r new it.carries.size
         (ap (λ (a : Attempt Object). attempted line a (λ object. make denoting object c)) made.1)
         (push.does more (denoting (new_number c.store.held.objects)) (record c { store = store }) now it.denotes);
@@ -388,9 +395,11 @@ module _ (before after : Outside Space) (m : Machine) (line : Line) (sound : IsS
   change-done unit = record {
     ends = record { sound = sound; names = λ n held. n; size = λ k is. is; breaks = quiet-goes };
     does = λ here names c place operand attempt same h did.
-        let stands = did.2 in
+        let written = subst (λ (id : ℕ). Rewritten here m.objects before after id c.store.held.objects did.0 names) (sym same) did.2 in
+        let w = words_of m in
+        let run = run-written names w.writing w.asked w.directory c.store.held here m.objects before after place did.0 written h.run in
         let store = on_held (assigning place did.0 c.store.held) c.store in
-        let now = held-more here m.objects before after names names (words_of m) c store stands.carries h stands.world refl refl in
+        let now = held-more here m.objects before after names names w c store written.carries h run refl refl in
         ([], record c { store = store }, ap (λ (a : Attempt Heap). attempted line a (λ heap. changed place heap c)) did.1, refl, record { names = names; held = now });
     damaged = λ here at s stuck by. absurd by;
   }

@@ -15,7 +15,7 @@ use Rattle.machine_core.specs.joint_ops.declared.values.Sort.{Sort}
 use Rattle.machine_core.specs.joint_ops.declared.values.Sort.TheVariants as sort
 use Rattle.machine_core.proofs.of_joint_ops.SeenLaws.{vector-at, vector-denoted}
 use Rattle.machine_core.specs.declared.machine.Machine.{Machine}
-use Rattle.machine_core.specs.Holding.{object_in}
+use Rattle.machine_core.specs.Holding.{object_in, world_in}
 use Rattle.machine_core.specs.inside.Taking.{TakenRef}
 use Rattle.machine_operands.specs.Popping.{PopsText, PopsAny, PopsObject, PopsDenoting, PopsVector}
 
@@ -217,7 +217,7 @@ module _ (outside : Outside Space) (old new : Machine) (w : ℕ) (s : Sort) (hea
         let g = p.gives names c h in
         let it = vector-of_sort g.1 (subst (IsOfSort g.1) vector (sorted names g.1 g.4)) in
         let denotes = subst (λ (to : Option ℕ). DenotesIn new.objects outside names to (Vector it.0)) is (subst (DenotesIn new.objects outside names (object_in w)) it.1 g.4) in
-        let v = vector-at new.objects outside g.0.store.held.objects names at it.0 heap g.3.world (vector-denoted new.objects outside names at it.0 heap denotes) in
+        let v = vector-at new.objects outside g.0.store.held.objects names at it.0 heap (world_in g.3.run) (vector-denoted new.objects outside names at it.0 heap denotes) in
         let typed : type_of g.0.store.held.objects (Vector it.0) ≡ Some v.ty = ap type_of_object v.means in
         (g.0, it.0, v.ty, (λ next. g.2 (λ v d. of_type (type_of d.store.held.objects v) (λ ty. next ty v d)) ∙ ap (λ (x : Value). of_type (type_of g.0.store.held.objects x) (λ ty. next ty x g.0)) it.1 ∙ ap (λ (t : Option (List ℕ)). of_type t (λ ty. next ty (Vector it.0) g.0)) typed), typed, g.3, denotes);
   }

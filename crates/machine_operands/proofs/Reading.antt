@@ -21,7 +21,7 @@ use Rattle.joint_procedures.specs.Units.{AnswersText}
 use Rattle.machine_core.specs.declared.machine.Machine.{Machine}
 use Rattle.machine_core.specs.declared.stepped.Stepped.{Stepped}
 use Rattle.machine_core.specs.declared.stepped.Stepped.TheVariants.{Quiet, Turns, Writes, Halts, Breaks, Damaged}
-use Rattle.machine_core.specs.Holding.{HeldBy, IsSound, words_of}
+use Rattle.machine_core.specs.Holding.{HeldBy, IsSound, words_of, world_in}
 use Rattle.machine_core.specs.Naming.{NamesObjects}
 use Rattle.machine_core.specs.Stepped.{Does, UnlessBroken}
 use Rattle.machine_core.proofs.Carrying.{read-holds, sound-kept}
@@ -71,7 +71,7 @@ module _ (before after : Outside Space) (m : Machine) (now : area.Heap) where
     constant-read at g kept = record {
       gives = λ names c h.
           let a = given-of (Ok (Some at)) g c names h in
-          (a.0, same-constant (constants_in c.unit) k ∙ a.1, still-holds names c h (kept c.unit h.unit_is c.store.held.objects names h.world), a.2 names);
+          (a.0, same-constant (constants_in c.unit) k ∙ a.1, still-holds names c h (kept c.unit h.unit_is c.store.held.objects names (world_in h.run)), a.2 names);
     }
 
     pub constant-none : Given (Ok None) → ReadsConstant before after k m (record m { objects = now }) (Err Damaged)

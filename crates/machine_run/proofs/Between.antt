@@ -73,14 +73,14 @@ abbrev pub IsWithin : ℕ → ℕ → Config → Type 0
 IsWithin turns steps c = (c.store.turns < turns) ⊎ ((c.store.turns ≡ turns) × (steps_left (left c) < steps))
 
 -- the bodies that wait are few, and the code of the one that runs is small
-record IsSmall (c : Config) : Type 0 where
-  few : length c.callers ≤ 2000
-  small : length (code_in c.unit) < 2 ^ 32
+pub record IsSmall (c : Config) : Type 0 where
+  pub few : length c.callers ≤ 2000
+  pub small : length (code_in c.unit) < 2 ^ 32
 
-small-within : (c : Config) → IsSmall c → IsWithin c.store.turns (2 ^ 43) c
+pub small-within : (c : Config) → IsSmall c → IsWithin c.store.turns (2 ^ 43) c
 small-within c s = inr (refl, omega (arith, s.few, s.small))
 
-goes-within : (turns steps : ℕ) (c next : Config) → IsSmall next → IsNearer (left c) (left next) → IsWithin turns (steps + 1) c → IsWithin turns steps next
+pub goes-within : (turns steps : ℕ) (c next : Config) → IsSmall next → IsNearer (left c) (left next) → IsWithin turns (steps + 1) c → IsWithin turns steps next
 goes-within turns steps c next s (by_turns t) (inl low) = inl (omega (arith, t, low))
 goes-within turns steps c next s (by_turns t) (inr same) = inl (let is = same.0 in omega (arith, t, is))
 goes-within turns steps c next s (by_callers t k) (inl low) = inl (omega (arith, t, low))
@@ -90,11 +90,11 @@ goes-within turns steps c next s (by_bytes t k r) (inl low) = inl (omega (arith,
 goes-within turns steps c next s (by_bytes t k r) (inr same) = inr (t ∙ same.0, let low = same.1 in omega (arith, k, r, low))
 
 -- where no steps are left, a turn was taken
-taken-turn : (turns : ℕ) (c : Config) → IsWithin turns 0 c → c.store.turns < turns
+pub taken-turn : (turns : ℕ) (c : Config) → IsWithin turns 0 c → c.store.turns < turns
 taken-turn turns c (inl low) = low
 taken-turn turns c (inr same) = let low = same.1 in omega (arith, low)
 
-is-small : (outside : Outside Space) (m : Machine) (c : Config) → IsHeap m.objects → IsSound m → Holds outside m c → IsSmall c
+pub is-small : (outside : Outside Space) (m : Machine) (c : Config) → IsHeap m.objects → IsSound m → Holds outside m c → IsSmall c
 is-small outside m c heap sound h =
     let k = h.held in
     let many = as-many m.objects outside h.names m.callers.items m.nums.below m.refs.below c.callers k.callers_are in
@@ -278,7 +278,7 @@ module _ (old new : Outside Space) (owed : List ℕ) (m m' : Machine) (quiet : L
         (d.0, d.1, (subst (λ (f : SwizzleFault). BreaksBy old new m.objects.size d.0 f) (sym blames) d.2, but-leaves old new owed quiet));
   }
 
-  module _ (last : Outside Space) (left : List ℕ) (same : SameContents new last) where
+  module _ (last : Outside Space) (left : List ℕ) (sound : IsHeap m'.objects) (same : SameContents new last) where
     pub advance_turned : (sent : Bool) → TakesStep old new m m' stepped.Turns → (sent ≡ false → left ≡ []) → SendsOn new last owed left sent
         → Advances old last owed left m m' (advanced_where sent)
     advance_turned true t cleared told = record {
@@ -292,7 +292,7 @@ module _ (old new : Outside Space) (owed : List ℕ) (m m' : Machine) (quiet : L
               Turn d.2.0 ∷ [],
               d.2.1,
               d.2.2,
-              put-holds m' new last d.2.1 same d.2.3,
+              put-holds m' new last d.2.1 sound same d.2.3,
               subst (λ (bs : List ℕ). TellsBut old last bs left) (sym (append-nil owed)) (leaves-but old new last owed left quiet told),
             ),
           );
@@ -328,7 +328,7 @@ module _ (old new : Outside Space) (owed : List ℕ) (m m' : Machine) (quiet : L
               out,
               d.2.0,
               d.2.1,
-              put-holds m' new last d.2.0 same d.2.3,
+              put-holds m' new last d.2.0 sound same d.2.3,
               subst (λ (bs : List ℕ). TellsBut old last (owed ++ bs) left) (sym (out_told bytes d.2.0.store.held.counted))
                   (leaves-but old new last (owed ++ bytes) left quiet told),
             ),

@@ -27,7 +27,7 @@ use Rattle.machine_core.proofs.of_swizzle.ReadingLaws.{leaves-none}
 use Rattle.machine_core.proofs.of_joint_ops.SeenLaws.{seen-is}
 use Rattle.machine_core.proofs.of_joint_ops.CodeLaws.{code-bytes}
 use Rattle.machine_core.specs.joint_ops.heap_meaning.Units.{IsUnitSeen, shown_code}
-use Rattle.machine_run.specs.inside.Acting.{ActsAs}
+use Rattle.machine_run.specs.Acting.{ActsAs}
 
 module _ (before after : Outside Space) {i j : Instr} {own : ℕ} {old new : Machine} {answer : Stepped} (is : i ≡ j) where
   -- an instruction that may fetch
@@ -60,7 +60,7 @@ pub code_of : (outside : Outside Space) (m : Machine) (c : Config) → IsHeap m.
 code_of outside m c heap h = unit_code m.objects outside m.code c.unit heap h.held.unit_is
 
 -- the machine after the instruction
-holds_after : (outside : Outside Space) (m : Machine) (c : Config) (i : Instr) (next : ℕ) → Holds outside m c → next ≡ m.at + width_of i
+pub holds_after : (outside : Outside Space) (m : Machine) (c : Config) (i : Instr) (next : ℕ) → Holds outside m c → next ≡ m.at + width_of i
     → Holds outside (record m { at = next }) (behind i c)
 holds_after outside m c i next h is =
     let k = h.held in
@@ -77,13 +77,13 @@ holds_after outside m c i next h is =
         callers_are = k.callers_are;
         input_is = k.input_is;
         turns_are = k.turns_are;
-        world = k.world;
+        run = k.run;
       };
     }
 
 -- it names what it named
 pub names_after : (m : Machine) (next : ℕ) → NamesObjects m → NamesObjects (record m { at = next })
-names_after m next n = record { code = n.code; scope = n.scope; own = n.own; below = n.below; callers = n.callers; item = n.item }
+names_after m next n = record { code = n.code; scope = n.scope; own = n.own; below = n.below; callers = n.callers; item = n.item; databases = n.databases }
 
 pub sound_after : (m : Machine) (next : ℕ) → IsSound m → IsSound (record m { at = next })
 sound_after m next s = record {
@@ -99,7 +99,7 @@ sound_after m next s = record {
 
 module _ (before after : Outside Space) (m : Machine) (heap : IsHeap m.objects) where
   -- an instruction is spelled at the machine's offset exactly where it is at the configuration's
-  at_offset : (c : Config) (i : Instr) (next : ℕ) → Holds before m c → IsSpelled (text_at m.objects m.code) m.at i next → IsAt (code_in c.unit) c.at i
+  pub at_offset : (c : Config) (i : Instr) (next : ℕ) → Holds before m c → IsSpelled (text_at m.objects m.code) m.at i next → IsAt (code_in c.unit) c.at i
   at_offset c i next h at =
       let same = sym (ap (λ (n : ℕ). drop n (code_in c.unit)) h.held.at_is) in
       record {
@@ -108,7 +108,7 @@ module _ (before after : Outside Space) (m : Machine) (heap : IsHeap m.objects) 
         spelled = sym same ∙ ap (λ (code : List ℕ). drop m.at code) (sym (code_of before m c heap h)) ∙ at.spelled;
       }
 
-  at_machine : (c : Config) (i : Instr) → Holds before m c → IsAt (code_in c.unit) c.at i → IsSpelled (text_at m.objects m.code) m.at i (m.at + width_of i)
+  pub at_machine : (c : Config) (i : Instr) → Holds before m c → IsAt (code_in c.unit) c.at i → IsSpelled (text_at m.objects m.code) m.at i (m.at + width_of i)
   at_machine c i h at = record {
     is_instr = at.is_instr;
     rest = at.rest;

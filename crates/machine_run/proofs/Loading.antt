@@ -1,6 +1,7 @@
 -- A machine at the start of a unit.
-use Rattle.std.proofs.Common.{◌≡◌, ℕ, ◌≤◌, ℤ, pos, List, [], length, replicate, None, sym, ap, ◌∙◌, subst, arith, rules}
-use Rattle.std.specs.Prelude.{All, reverse}
+use Rattle.std.proofs.Common.{◌≡◌, ℕ, ◌≤◌, ℤ, pos, List, [], length, replicate, Option, None, false, sym, ap, ◌∙◌, subst, arith, rules}
+use Rattle.std.specs.Prelude.{All, reverse, vec_capacity}
+use Rattle.machine_core.specs.ps_heap.ps_base.Limits.{most_databases}
 use Rattle.std.proofs.lemmas.List.{get_or-replicate, drop_all, length-replicate}
 use Rattle.std.proofs.lemmas.List.Elements.{All-nil, All-replicate}
 use Rattle.ps_base.specs.CodeUnit.{UnitView, unit, no_constants, constants_view}
@@ -20,14 +21,18 @@ use Rattle.machine_core.specs.heap_texts.Texts.{wanted_of}
 use Rattle.machine_core.specs.proc_values.Units.{IsCut, unit_objects}
 use Rattle.machine_core.specs.proc_values.Reading.{IsPlaceOf}
 use Rattle.machine_core.specs.proc_values.declared.reading.CodePlace.{CodePlace}
-use Rattle.machine_core.specs.joint_ops.World.{IsWorld, IsUnitIn, DenotesIn, DenotesScopeIn}
+use Rattle.machine_core.specs.joint_ops.World.{IsUnitIn, DenotesIn, DenotesScopeIn}
+use Rattle.machine_core.specs.joint_held.reach_commit.commit_walk.declared.homes.Source.{Source}
+use Rattle.machine_core.specs.joint_held.Held.{HoldsRun}
+use Rattle.machine_core.specs.Holding.{holding, run_in}
+use Rattle.machine_core.proofs.RunLaws.{run-gained}
 use Rattle.machine_core.specs.joint_ops.Code as code
 use Rattle.machine_core.specs.joint_ops.Code.{unit_weight}
 use Rattle.machine_core.specs.declared.machine.Machine.{Machine}
 use Rattle.machine_core.specs.Items.{IsItem}
 use Rattle.machine_core.specs.Rows.{IsRow, IsRefRow, AreDenoted, object_in}
 use Rattle.machine_core.specs.declared.caller.Caller.{Caller}
-use Rattle.machine_core.specs.Naming.{IsNamed, IsKept}
+use Rattle.machine_core.specs.Naming.{IsNamed, IsKept, NamesDatabases, naming}
 use Rattle.machine_core.proofs.Words.{nil-denoted}
 use Rattle.machine_run.specs.Loaded.{IsRoomy, IsFrame, IsLoaded, EndsBefore, HasNoRoom, no_locals}
 use Rattle.machine_run.specs.inside.Beginning.{IsBegun}
@@ -90,6 +95,13 @@ module _ (outside : Outside Space) (u : UnitView) (turns : ℕ) (input : List �
   abbrev here : area.Heap
   here = new.objects
 
+  -- no database is open, and none is known
+  none-open : most_databases ≤ vec_capacity new.databases.writing → NamesDatabases here new.databases.writing.items new.databases.directory (vec_capacity new.databases.writing)
+  none-open room =
+      subst (λ (ds : List Source). NamesDatabases here ds new.databases.directory (vec_capacity new.databases.writing)) (sym b.writing)
+      (subst (λ (d : Option ℕ). NamesDatabases here [] d (vec_capacity new.databases.writing)) (sym b.directory)
+      (naming tt (λ place at below is. absurd (omega (arith, below))) room))
+
   -- the machine begins
   pub begins : IsLoaded outside u turns input old new
   begins =
@@ -127,12 +139,15 @@ module _ (outside : Outside Space) (u : UnitView) (turns : ℕ) (input : List �
           below = subst (λ (xs : List ℕ). All (λ word. IsNamed here word) xs) (sym b.refs_below) (All-nil (λ word. IsNamed here word));
           callers = subst (λ (cs : List Caller). All (λ caller. IsKept here caller) cs) (sym b.callers) (All-nil (λ caller. IsKept here caller));
           item = subst (IsItem here) (sym b.item) tt;
+          databases = none-open b.roomy.databases_room;
         };
         roomy = b.roomy;
         size = ap (λ (h : area.Heap). h.size) objects ∙ keeps ∙ ap (λ (h : area.Heap). h.size) empty;
         top = let top = is.top in let was = ap top_of empty in let now = ap top_of objects in omega (arith, top, was, now);
-        starts = λ store g.
-            let world = (is.stands store.held.objects g.names (subst (λ (h : area.Heap). IsWorld h outside store.held.objects g.names) (sym empty) g.world)).world in
+        starts = λ constants store g.
+            let was = subst (λ (h : area.Heap). HoldsRun h outside g.names [] None store.held) (sym empty) g.run in
+            let run = run-gained g.names [] false None store.held fresh mid.objects outside outside (is.gains constants) (holding g.unasked was) in
+            let here_run = subst (λ (h : area.Heap). HoldsRun h outside g.names [] None store.held) (sym objects) (run_in run) in
             record {
               names = g.names;
               held = record {
@@ -148,7 +163,9 @@ module _ (outside : Outside Space) (u : UnitView) (turns : ℕ) (input : List �
                 callers_are = (b.callers, b.nums_below, b.refs_below);
                 input_is = b.input ∙ read ∙ sym g.input_is;
                 turns_are = g.turns_are ∙ sym b.turns_are;
-                world = subst (λ (h : area.Heap). IsWorld h outside store.held.objects g.names) (sym objects) world;
+                run = holding (g.unasked ∙ sym b.asked)
+                    (subst (λ (ss : List Source). HoldsRun here outside g.names ss new.databases.directory store.held) (sym b.writing)
+                    (subst (λ (to : Option ℕ). HoldsRun here outside g.names [] to store.held) (sym b.directory) here_run));
               };
             };
       }

@@ -1,3 +1,4 @@
+pub mod Acting
 pub mod Loaded
 pub mod Ran
 pub mod inside

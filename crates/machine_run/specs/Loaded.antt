@@ -1,9 +1,10 @@
 -- A machine that was loaded with a unit, or why none was.
-use Rattle.std.specs.Prelude.{◌≡◌, ℕ, ◌+◌, ◌*◌, ◌<◌, ◌≤◌, List, [], ◌∷◌, ◌++◌, Result, Ok, Err, vec_capacity}
+use Rattle.std.specs.Prelude.{◌≡◌, ℕ, ◌+◌, ◌*◌, ◌<◌, ◌≤◌, false, List, [], ◌∷◌, ◌++◌, None, Result, Ok, Err, vec_capacity}
 use Rattle.ps_base.specs.CodeUnit.{UnitView, unit, no_constants}
 use Rattle.ps_base.specs.declared.code_unit.Frame.{Frame}
 use Rattle.vault_output.specs.obj_layout.Stored.{Space}
 use Rattle.vault_output.specs.obj_layout.declared.reference.Reference.{Reference}
+use Rattle.machine_core.specs.ps_heap.ps_base.Limits.{most_databases}
 use Rattle.machine_core.specs.ps_outside.Outside.{Outside}
 use Rattle.machine_core.specs.ps_meaning.Meaning.{Store}
 use Rattle.machine_core.specs.ps_stepping.Config.{frame_words, frame_in, start}
@@ -12,18 +13,20 @@ use Rattle.machine_core.specs.swizzle.Objects.{Object, size_of, size_of_all}
 use Rattle.machine_core.specs.swizzle.declared.fault.SwizzleFault.{SwizzleFault}
 use Rattle.machine_core.specs.swizzle.declared.fault.SwizzleFault.TheVariants.{AreaFull}
 use Rattle.machine_core.specs.heap_texts.Texts.{wanted_of}
-use Rattle.machine_core.specs.proc_values.Units.{unit_objects}
-use Rattle.machine_core.specs.joint_ops.World.{IsWorld}
+use Rattle.machine_core.specs.proc_values.Units.{HasConstants, unit_objects}
 use Rattle.machine_core.specs.joint_ops.Code.{unit_weight}
+use Rattle.machine_core.specs.joint_held.Held.{HoldsRun}
 use Rattle.machine_core.specs.declared.machine.Machine.{Machine}
 use Rattle.machine_core.specs.Holding.{most_values, Holds, IsSound}
 use Rattle.machine_core.specs.Naming.{NamesObjects}
 use Rattle.machine_core.specs.Waiting.{HasRoom}
 
--- there is memory for the bodies that wait, for the words of those and of the body that runs, and for the values of an object
+-- there is memory for the bodies that wait, for the words of those and of the body that runs, for the values of an object, and for all databases that may be
+-- open for writing
 pub record IsRoomy (m : Machine) : Type 0 where
   pub room : HasRoom m.callers m.nums m.refs
   pub values_room : most_values ≤ vec_capacity m.values
+  pub databases_room : most_databases ≤ vec_capacity m.databases.writing
 
 -- so there is in a new machine, whose area has this size
 pub record IsNew (size : ℕ) (m : Machine) : Type 0 where
@@ -35,14 +38,15 @@ pub record IsFrame (frame : Frame) : Type 0 where
   pub nums_fit : frame.nums ≤ frame_words
   pub refs_fit : frame.refs ≤ frame_words
 
--- A store with so many turns and this input, for whose heap an empty area stands beside the vault.
+-- A store with so many turns and this input, which holds a run that begins: an empty area beside the vault holds it.
 pub record IsGiven (size : ℕ) (outside : Outside Space) (turns : ℕ) (input : List ℕ) (store : Store) : Type 0 where
   pub names : List Reference
-  pub world : IsWorld (fresh_heap size) outside store.held.objects names
+  pub run : HoldsRun (fresh_heap size) outside names [] None store.held
+  pub unasked : store.held.asked ≡ false
   pub turns_are : store.turns ≡ turns
   pub input_is : store.input ≡ input
 
--- The machine is at the start of the unit, from whatever the vault stands for.
+-- The machine is at the start of the unit, from whatever the vault stands for, where each unit has a constant.
 pub record IsLoaded (outside : Outside Space) (u : UnitView) (turns : ℕ) (input : List ℕ) (old new : Machine) : Type 0 where
   pub frame : IsFrame (frame_in u)
   pub sound : IsSound new
@@ -50,7 +54,7 @@ pub record IsLoaded (outside : Outside Space) (u : UnitView) (turns : ℕ) (inpu
   pub roomy : IsRoomy new
   pub size : new.objects.size ≡ old.objects.size
   pub top : 8 * top_of new.objects ≡ 8 + unit_weight u
-  pub starts : (store : Store) → IsGiven old.objects.size outside turns input store → Holds outside new (start u store)
+  pub starts : HasConstants u → (store : Store) → IsGiven old.objects.size outside turns input store → Holds outside new (start u store)
 
 -- of objects that lie from word 1 on the first end at this word, and the next one has so many words
 pub record EndsBefore (objects : List Object) (top wanted : ℕ) : Type 0 where

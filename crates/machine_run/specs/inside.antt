@@ -1,4 +1,3 @@
 pub mod Beginning
-pub mod Acting
 pub mod Advancing
 pub mod Blanks

@@ -11,6 +11,6 @@ mod steps;
 mod tell;
 
 pub use machine_core::{Machine, RunEnd, ps_code, swizzle};
-pub use steps::step;
+pub use steps::{act, step};
 pub use vault_output;
 pub use vault_output::obj_layout;

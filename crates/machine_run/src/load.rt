@@ -13,7 +13,8 @@ use machine_core::objects::objects::Objects;
 use machine_core::proc_values::reading::CodePlace;
 use machine_core::swizzle::fault::SwizzleFault;
 use machine_core::{
-    ALL_WORDS, FRAME_WORDS, Input, Item, MOST_CALLERS, MOST_VALUES, Machine, RunEnd, Writing,
+    ALL_WORDS, Databases, FRAME_WORDS, Input, Item, MOST_CALLERS, MOST_DATABASES, MOST_VALUES,
+    Machine, RunEnd, Writing,
 };
 use ps_base::bytes::Bytes;
 use ps_base::code_unit::{CodeUnit, Frame};
@@ -45,8 +46,8 @@ const NO_FAULT: SwizzleFault = SwizzleFault::AreaFull {
 };
 
 /// A machine without a unit, over an area of so many words. It takes all the memory that its runs will use but for their input: the area, the two stacks
-/// with 512 words each for the body that runs and for 2,000 bodies that wait, and room for the values of one object; of all these no page is touched
-/// before it is used.
+/// with 512 words each for the body that runs and for 2,000 bodies that wait, and room for the values of one object and for 256 databases that are open for
+/// writing; of all these no page is touched before it is used.
 pub fn machine(alloc: Global, words: u32) -> Result<Machine, AllocError>
     requires low { 5 ≤ words }
     requires high { words ≤ 2 ^ 25 }
@@ -66,6 +67,11 @@ pub fn machine(alloc: Global, words: u32) -> Result<Machine, AllocError>
         callers: Vec::with_capacity(alloc, MOST_CALLERS)?,
         input: Input::new(Vec::new(alloc)),
         turns: 0,
+        databases: Databases {
+            writing: Vec::with_capacity(alloc, MOST_DATABASES)?,
+            asked: false,
+            directory: None,
+        },
         writing: NO_WRITING,
         end: RunEnd::Done,
         fault: NO_FAULT,
@@ -136,7 +142,7 @@ fn load_fitting<V: Vault>(
     }
 }
 
-// Stands at the start of a code object with this frame: the locals are 0 and nil, and nothing is pushed, and nothing was written.
+// Stands at the start of a code object with this frame: the locals are 0 and nil, nothing is pushed, nothing was written, and no database was asked for.
 fn begin(m: &mut Machine, code: u32, place: CodePlace, frame: Frame, turns: u64)
     requires roomy { IsRoomy m.old }
     requires nums { frame.nums ≤ frame_words }
@@ -151,6 +157,9 @@ fn begin(m: &mut Machine, code: u32, place: CodePlace, frame: Frame, turns: u64)
     m.turns = turns;
     m.writing = NO_WRITING;
     m.callers.clear();
+    m.databases.writing.clear();
+    m.databases.asked = false;
+    m.databases.directory = None;
     m.nums.restart(frame.nums as usize, 0);
     m.refs.restart(frame.refs as usize, 0);
 }

@@ -49,8 +49,14 @@ fn advance<V: Vault>(m: &mut Machine, vault: &mut V, output: &mut Output) -> Adv
     let own = m.at;
     match step(m, vault) {
         Stepped::Quiet => Advanced::On,
-        Stepped::Turns => on_where(turned(vault, output)),
-        Stepped::Writes => on_where(wrote(m, vault, output)),
+        Stepped::Turns => {
+            m.objects.sound();
+            on_where(turned(vault, output))
+        }
+        Stepped::Writes => {
+            m.objects.sound();
+            on_where(wrote(m, vault, output))
+        }
         Stepped::Halts => Advanced::Ended,
         Stepped::Breaks => Advanced::Broke,
         Stepped::Damaged => {
@@ -60,9 +66,9 @@ fn advance<V: Vault>(m: &mut Machine, vault: &mut V, output: &mut Output) -> Adv
     }
 }
 
-// The machine's fault is that the code that runs is damaged at this offset. It stands apart so that a step clears no memory for it.
+/// The machine's fault is that the code that runs is damaged at this offset. It stands apart so that a step clears no memory for it.
 #[inline(never)]
-fn blame_code(m: &mut Machine, at: u32)
+pub fn blame_code(m: &mut Machine, at: u32)
     requires { NamesObjects m.old }
     ensures fault { BlamesCode m.old at m.new.fault }
     ensures rest { m.new ≡ record m.old { fault = m.new.fault } }
@@ -70,9 +76,9 @@ fn blame_code(m: &mut Machine, at: u32)
     m.fault = code_damage(m, at);
 }
 
-// The code that runs is damaged at this offset: the fault has its PID, which is 0 where it has none, the offset, and how many bytes the code has.
+/// The code that runs is damaged at this offset: the fault has its PID, which is 0 where it has none, the offset, and how many bytes the code has.
 #[inline(never)]
-fn code_damage(m: &Machine, at: u32) -> SwizzleFault
+pub fn code_damage(m: &Machine, at: u32) -> SwizzleFault
     requires { NamesObjects m.now }
     ensures { BlamesCode m.now at result }
 {
@@ -91,9 +97,9 @@ fn on_where(sent: bool) -> Advanced
     if sent { Advanced::On } else { Advanced::Failed }
 }
 
-// What is pending goes out at a turn; mostly nothing is. False where the output failed.
+/// What is pending goes out at a turn; mostly nothing is. False where the output failed.
 #[inline(always)]
-fn turned<V: Vault>(vault: &mut V, output: &mut Output) -> bool
+pub fn turned<V: Vault>(vault: &mut V, output: &mut Output) -> bool
     requires { V.alive vault.old }
     ensures sends { SendsOn (V.outside vault.old) (V.outside vault.new) output.old output.new result }
     ensures leaves { LeavesAll (V.outside vault.old) (V.outside vault.new) }
@@ -123,9 +129,9 @@ fn let_go<V: Vault>(vault: &mut V, output: &mut Output) -> bool
     }
 }
 
-// Writes the machine's write. False where the output failed.
+/// Writes the machine's write. False where the output failed.
 #[inline(never)]
-fn wrote<V: Vault>(m: &Machine, vault: &mut V, output: &mut Output) -> bool
+pub fn wrote<V: Vault>(m: &Machine, vault: &mut V, output: &mut Output) -> bool
     requires alive { V.alive vault.old }
     requires item { IsItem m.now.objects m.now.writing.item }
     ensures sends { SendsOn (V.outside vault.old) (V.outside vault.new) (output.old ++ text_of m.now.objects m.now.writing) output.new result }
@@ -140,8 +146,12 @@ fn wrote<V: Vault>(m: &Machine, vault: &mut V, output: &mut Output) -> bool
     }
 }
 
-// Writes the report of an end, after what is pending.
-fn finish<V: Vault>(end: RunEnd, vault: &mut V, output: &mut Output) -> Result<RunEnd, SwizzleFault>
+/// Writes the report of an end, after what is pending.
+pub fn finish<V: Vault>(
+    end: RunEnd,
+    vault: &mut V,
+    output: &mut Output,
+) -> Result<RunEnd, SwizzleFault>
     requires { V.alive vault.old }
     ensures reports { Reports (V.outside vault.old) (V.outside vault.new) output.old output.new end result }
     ensures leaves { LeavesAll (V.outside vault.old) (V.outside vault.new) }

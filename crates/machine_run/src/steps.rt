@@ -6,7 +6,7 @@ ghost use Rattle.machine_core.specs.Failing.{FailsAsReading};
 ghost use Rattle.machine_core.specs.Holding.{IsSound};
 ghost use Rattle.machine_core.specs.Naming.{NamesObjects};
 ghost use Rattle.machine_core.specs.Stepped.{TakesStep, UnlessBroken};
-ghost use Rattle.machine_run.specs.inside.Acting.{ActsAs};
+ghost use Rattle.machine_run.specs.Acting.{ActsAs};
 
 use crate::library::library;
 use machine_calls::blocks::{enter_scope, leave_scope};
@@ -60,9 +60,10 @@ pub fn step<V: Vault>(m: &mut Machine, vault: &mut V) -> Stepped
     }
 }
 
-// Does what an instruction says, whose own offset this is. The machine stands after it already.
+/// Does what an instruction says, whose own offset this is. The machine stands after it already. At a call on databases, of which this machine has none, it
+/// answers `Damaged`.
 #[inline(always)]
-fn act<V: Vault>(m: &mut Machine, vault: &mut V, own: u32, instr: Instr) -> Stepped
+pub fn act<V: Vault>(m: &mut Machine, vault: &mut V, own: u32, instr: Instr) -> Stepped
     requires sound { IsSound m.old }
     requires names { NamesObjects m.old }
     requires alive { V.alive vault.old }

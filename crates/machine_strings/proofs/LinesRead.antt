@@ -60,7 +60,7 @@ module _ (m : Machine) (input : List ℕ) where
     };
     objects = refl;
     values = refl;
-    names = λ n. record { code = n.code; scope = n.scope; own = n.own; below = n.below; callers = n.callers; item = n.item };
+    names = λ n. record { code = n.code; scope = n.scope; own = n.own; below = n.below; callers = n.callers; item = n.item; databases = n.databases };
   }
 
   pub held-passed : (out : Outside Space) (names : List Reference) (c : Config) → HeldBy out names m c → input ≡ behind_line m.input
@@ -76,5 +76,5 @@ module _ (m : Machine) (input : List ℕ) where
     callers_are = h.callers_are;
     input_is = is ∙ ap behind_line h.input_is;
     turns_are = h.turns_are;
-    world = h.world;
+    run = h.run;
   }

@@ -21,7 +21,7 @@ use Rattle.machine_core.specs.objects.Classes.{BreaksByCode, LacksClass, NamesCl
 use Rattle.machine_core.proofs.of_heap_ops.ClassLaws.{stands-kept}
 use Rattle.machine_core.specs.declared.machine.Machine.{Machine}
 use Rattle.machine_core.specs.declared.stepped.Stepped.{Stepped}
-use Rattle.machine_core.specs.Holding.{HeldBy}
+use Rattle.machine_core.specs.Holding.{HeldBy, world_in}
 use Rattle.machine_core.specs.Stepped.{Does, Takes}
 use Rattle.machine_core.specs.inside.Taking.{Leaves}
 use Rattle.machine_operands.specs.Giving.{GivesFlag}
@@ -56,7 +56,7 @@ module _ (k : ℕ) where
               class-follows c.unit k f (tests c) ∙ p.2 (λ o e. push_num (number_of (is_class e.store.held.objects o f.class)) e) in
               subst (λ (s : Step). Does before after mid.objects.size s r new) (sym same)
               (give.does mid.objects names d (is_class d.store.held.objects v f.class) leaves p.3
-              (got d.store.held.objects names f.class v p.3.world (names-class mid.objects before old.code k c.unit (code-there names c h) f) p.4))
+              (got d.store.held.objects names f.class v (world_in p.3.run) (names-class mid.objects before old.code k c.unit (code-there names c h) f) p.4))
           | inr none ↦
               give.damaged mid.objects old.code (is_of_class k c) (no-class c.unit k none (tests c))
               (lacked (lacks-class mid.objects before old.code k c.unit (code-there names c h) none))

@@ -1,4 +1,5 @@
 -- Nil that is pushed, and references that are compared.
+use Rattle.machine_core.specs.Holding.{world_in}
 use Rattle.std.proofs.Common.{◌≡◌, ℕ, Bool, List, Option, Some, None, sym, ap, ◌∙◌, subst}
 use Rattle.ps_base.specs.declared.operator.Relation.{Relation}
 use Rattle.machine_core.specs.ps_outside.Outside.{Outside}
@@ -41,7 +42,7 @@ objects-compared outside op old mid last new b a are_one stands r first second p
     let y = p.gives names c h in
     let x = q.gives names y.0 y.3 in
     let right = subst (λ (here : area.Heap). DenotesIn here outside names b y.1) (sym second.objects) y.4 in
-    let same : object_relation op x.1 y.1 ≡ stands = related x.1 y.1 (sym (one x.0.store.held.objects names x.1 y.1 x.3.world x.4 right x.5 y.5)) in (
+    let same : object_relation op x.1 y.1 ≡ stands = related x.1 y.1 (sym (one x.0.store.held.objects names x.1 y.1 (world_in x.3.run) x.4 right x.5 y.5)) in (
       x.0,
       y.2 (λ w d. pop_denoting d (λ v e. push_num (number_of (object_relation op v w)) e))
           ∙ x.2 (λ v e. push_num (number_of (object_relation op v y.1)) e)

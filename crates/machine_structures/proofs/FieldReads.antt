@@ -30,7 +30,7 @@ use Rattle.machine_core.specs.objects.Classes.{BreaksByCode, LacksField, NamesCl
 use Rattle.machine_core.specs.declared.machine.Machine.{Machine}
 use Rattle.machine_core.specs.declared.stepped.Stepped.{Stepped}
 use Rattle.machine_core.specs.declared.stepped.Stepped.TheVariants.{Breaks}
-use Rattle.machine_core.specs.Holding.{HeldBy, HeldIn}
+use Rattle.machine_core.specs.Holding.{HeldBy, HeldIn, world_in}
 use Rattle.machine_core.specs.Stepped.{Does, Takes}
 use Rattle.machine_core.specs.inside.Taking.{Leaves}
 use Rattle.machine_core.proofs.Carrying.{does-behind, size-behind}
@@ -111,7 +111,7 @@ module _ (row : Row) (push : Value → Config → Step) (k n : ℕ) (line : Line
           (field_of (pops.gives names c h).0.store.held.objects (pops.gives names c h).1 f.named.class n) got
       got-there got clause f =
           let p = pops.gives names c h in
-          clause p.0.store.held.objects names f.named.class f.located p.1 p.3.world (names-class mid.objects before old.code k c.unit code-there f.named) f.place p.4
+          clause p.0.store.held.objects names f.named.class f.located p.1 (world_in p.3.run) (names-class mid.objects before old.code k c.unit code-there f.named) f.place p.4
 
       value-read : (value : code.Value) (new : Machine) (r : Stepped) → Got (Ok value) → Lacked (Ok value)
           → ((c : Config) (f : Form) (attempt : Attempt Value) → HeldIn mid.objects before names (record mid { objects = now }) c

@@ -36,11 +36,12 @@ use Rattle.machine_core.specs.objects.Putting.{IsOfRow, LacksPlace}
 use Rattle.machine_core.specs.declared.machine.Machine.{Machine}
 use Rattle.machine_core.specs.declared.stepped.Stepped.{Stepped}
 use Rattle.machine_core.specs.declared.stepped.Stepped.TheVariants.{Quiet, Breaks}
-use Rattle.machine_core.specs.Holding.{HeldBy, IsSound, words_of}
+use Rattle.machine_core.specs.Holding.{HeldBy, IsSound, words_of, world_in}
 use Rattle.machine_core.specs.Naming.{NamesObjects}
 use Rattle.machine_core.specs.Stepped.{Does, Takes, UnlessBroken}
 use Rattle.machine_core.specs.inside.Taking.{Leaves, Taken}
 use Rattle.machine_core.proofs.Carrying.{does-behind, held-more, size-behind, sound-kept}
+use Rattle.machine_core.proofs.RunLaws.{run-written}
 use Rattle.machine_operands.specs.Giving.{BreaksWith}
 use Rattle.machine_operands.specs.Popping.{PopsAny}
 use Rattle.machine_operands.proofs.Parts.{after-trap, does-earlier}
@@ -105,7 +106,7 @@ module _ (field : Field) (to : code.Value) (line : Line) where
           (with_field (pops.gives names c h).0.store.held.objects (pops.gives names c h).1 class field.number w) set
       written set clause =
           let p = pops.gives names c h in
-          clause p.0.store.held.objects names class l p.1 v p.3.world
+          clause p.0.store.held.objects names class l p.1 v (world_in p.3.run)
           (subst (λ (here : area.Heap). NamesClass here before field.code field.constant class) (sym left.objects) named) place row p.4
           (subst (λ (here : area.Heap). IsForIn here before names to v) (sym left.objects) for)
 
@@ -122,7 +123,12 @@ module _ (field : Field) (to : code.Value) (line : Line) where
                 ∙ written-object d.store.held.objects a.0 o class field.number w a.1 d (puts class w)
                 ∙ ap (λ (x : Attempt Heap). attempted line x (λ heap. changed (Part (id_of o) field.number) heap d)) a.1,
             refl,
-            record { names = names; held = held-more mid.objects now before after names names (words_of mid) d store a.2.carries p.3 a.2.world refl refl },
+            record {
+              names = names;
+              held = held-more mid.objects now before after names names (words_of mid) d store a.2.carries p.3
+                  (run-written names (words_of mid).writing (words_of mid).asked (words_of mid).directory d.store.held mid.objects now before after (Part (id_of o) field.number) a.0 a.2 p.3.run)
+                  refl refl;
+            },
           )
 
       put-trapped : (t : Trap) (new : Machine) (r : Stepped) → Set (Err (op.Trap t)) → LeavesOutside before after

@@ -40,7 +40,7 @@ use Rattle.machine_core.proofs.of_heap_ops.ClassLaws.{stands-kept}
 use Rattle.machine_core.specs.declared.machine.Machine.{Machine}
 use Rattle.machine_core.specs.declared.stepped.Stepped.{Stepped}
 use Rattle.machine_core.specs.declared.stepped.Stepped.TheVariants.{Damaged}
-use Rattle.machine_core.specs.Holding.{HeldBy, IsSound, words_of}
+use Rattle.machine_core.specs.Holding.{HeldBy, IsSound, words_of, world_in}
 use Rattle.machine_core.specs.Stepped.{Does, Takes}
 use Rattle.machine_core.proofs.Carrying.{does-behind, read-holds, size-behind}
 use Rattle.machine_operands.specs.Constants.{EndsReading, ReadsConstant}
@@ -137,7 +137,7 @@ module _ (outside : Outside Space) (m : Machine) (class : ClassRows) (has : HasR
               subst (λ (s : Step). Does outside outside m.objects.size s r new) (sym (p.pops (made_of bytes)))
               (give.does m.objects h.names d Pointer (Yields (Structure bytes vs)) structures
               (held-popped m now m.values nums refs i j nums_are refs_are nums_below refs_below outside h.names c p.nums p.refs h.held p.row p.ref_row)
-              (did c.store.held.objects h.names vs h.held.world rows));
+              (did c.store.held.objects h.names vs (world_in h.held.run) rows));
         }
 
 -- The class of a constant was read before.
@@ -171,7 +171,7 @@ module _ (before mid after : Outside Space) (k : ℕ) (m : Machine) (now : area.
         (does-behind before mid mid m.objects.size now.size (structure_of (text_at now class.text) c) r new left keeps.size
         (t.does c (record {
           names = h.names;
-          held = read-holds m.objects now before mid h.names (words_of m) c h.held (kept c.unit h.held.unit_is c.store.held.objects h.names h.held.world);
+          held = read-holds m.objects now before mid h.names (words_of m) c h.held (kept c.unit h.held.unit_is c.store.held.objects h.names (world_in h.held.run));
         })));
   }
 
@@ -186,7 +186,7 @@ module _ (before mid after : Outside Space) (k : ℕ) (m : Machine) (now : area.
         does-behind before mid after m.objects.size now.size (make_structure k c) r new left keeps.size
         (t.does c (record {
           names = h.names;
-          held = read-holds m.objects now before mid h.names (words_of m) c h.held (kept c.unit h.held.unit_is c.store.held.objects h.names h.held.world);
+          held = read-holds m.objects now before mid h.names (words_of m) c h.held (kept c.unit h.held.unit_is c.store.held.objects h.names (world_in h.held.run));
         }));
   }
 
@@ -257,5 +257,5 @@ module _ (before mid : Outside Space) (k : ℕ) (old m : Machine) where
             (does-behind before mid after old.objects.size m.objects.size (make Pointer (Structure bytes vs) d) r new left ends.size
             (give.does m.objects h.names d (Structure bytes vs) leaves
             (held-popped m now values nums refs i j nums_are refs_are nums_below refs_below mid h.names c p.nums p.refs g.held p.row p.ref_row)
-            (did c.store.held.objects h.names bytes vs g.held.world g.named are)));
+            (did c.store.held.objects h.names bytes vs (world_in g.held.run) g.named are)));
       }

@@ -134,7 +134,7 @@ module _ (m : Machine) (now : area.Heap) (values : Vec code.Value Global) (nums 
         (subst (λ (l : List ℕ). AreWaiting m.objects outside names m.callers.items m.nums.below l c.callers) (sym refs_below) h.callers_are);
     input_is = h.input_is;
     turns_are = h.turns_are;
-    world = h.world;
+    run = h.run;
   }
 
   -- its words name objects of the area still
@@ -143,7 +143,7 @@ module _ (m : Machine) (now : area.Heap) (values : Vec code.Value Global) (nums 
       let last = names-last m.objects now stand (words_of m) m.writing.item n in
       let kept = names-own now (words_of m) m.writing.item refs last refs_below
       (subst (λ (ws : List ℕ). All (λ word. IsNamed now word) ws) (sym refs_are) (All-take (λ word. IsNamed now word) j m.refs.own last.own)) in
-      record { code = kept.code; scope = kept.scope; own = kept.own; below = kept.below; callers = kept.callers; item = kept.item }
+      record { code = kept.code; scope = kept.scope; own = kept.own; below = kept.below; callers = kept.callers; item = kept.item; databases = kept.databases }
 
 -- The fields of these forms are popped off the tops of both stacks.
 module _ (outside : Outside Space) (names : List Reference) (m : Machine) (fs : List Form) (i j : ℕ) where

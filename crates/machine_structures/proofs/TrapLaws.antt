@@ -1,5 +1,5 @@
 -- Traps of operations on fields, as an instruction has them.
-use Rattle.std.proofs.Common.{◌≡◌, ◌≢◌, ◌⊎◌, inl, inr, ℕ, true, List, Option, Some, refl, sym, ap, ◌∙◌, subst}
+use Rattle.std.proofs.Common.{false, ◌≡◌, ◌≢◌, ◌⊎◌, inl, inr, ℕ, true, List, Option, Some, refl, sym, ap, ◌∙◌, subst}
 use Rattle.std.specs.Prelude.{Result, Ok}
 use Rattle.ps_base.specs.CodeUnit.{ConstantsView, unit, text}
 use Rattle.ps_base.specs.declared.code_unit.Frame.{Frame}
@@ -17,7 +17,7 @@ use Rattle.machine_core.specs.text_forms.declared.forms.Located.{Located}
 use Rattle.machine_core.specs.text_forms.Forms.{forms_of, located_in}
 use Rattle.machine_core.specs.ps_heap.Ends.{Trapped}
 use Rattle.machine_core.specs.ps_heap.Values.{Value}
-use Rattle.machine_core.specs.ps_stepping.Steps.{Step, Stops}
+use Rattle.machine_core.specs.ps_stepping.Steps.{Step, Stops, Stuck}
 use Rattle.machine_core.specs.joint_ops.World.{DenotesIn, IsUnitIn}
 use Rattle.machine_core.specs.joint_ops.Operands.{IsOfSort}
 use Rattle.machine_core.specs.joint_ops.declared.values.Sort.{Sort}
@@ -31,6 +31,7 @@ use Rattle.machine_core.specs.Holding.{IsSound}
 use Rattle.machine_core.specs.Naming.{NamesObjects}
 use Rattle.machine_core.specs.Stepped.{Does, UnlessBroken, end_of, ended}
 use Rattle.machine_operands.proofs.Popping.{nil-object, pointer-object, other-object}
+use Rattle.machine_core.proofs.Carrying.{sound-kept}
 use Rattle.machine_operands.proofs.Reading.{names-kept}
 use Rattle.machine_structures.specs.declared.traps.Field.{Field}
 use Rattle.machine_structures.specs.declared.traps.Row.{Row}
@@ -56,6 +57,15 @@ in-row-follows Numbers form.Reference is s = absurd (cc)
 in-row-follows References form.Number is s = absurd (cc)
 in-row-follows References form.Flag is s = absurd (cc)
 in-row-follows References form.Reference is s = refl
+
+-- by a form in the other row there is no step
+pub other-row-stuck : (row : Row) (f : Form) → IsInRow row f false → (s : Step) → when_in_row row (Some f) s ≡ Stuck
+other-row-stuck Numbers form.Number is s = absurd (cc)
+other-row-stuck Numbers form.Flag is s = absurd (cc)
+other-row-stuck Numbers form.Reference is s = refl
+other-row-stuck References form.Number is s = refl
+other-row-stuck References form.Flag is s = refl
+other-row-stuck References form.Reference is s = absurd (cc)
 
 -- The machine with its answer.
 so-halted : (P : Machine → Type 0) (r : Stepped) (new m : Machine) → r ≡ Halts → new ≡ m → P m → UnlessBroken r (P new)
@@ -122,4 +132,16 @@ module _ (before after : Outside Space) (field : Field) (row : Row) (object : Op
           (ap (λ (g : Form). when_in_row row (Some g) (trap_at v trap line c)) (sym (told-form f told class l named place))
           ∙ in-row-follows row f in_it (trap_at v trap line c)
           ∙ is ns v d c (λ o e. Stops (Trapped trap line) 0));
+    }
+
+    -- a field of the other row
+    pub other-row : (f : Form) → IsSound m → NamesObjects m → Keeps m.objects now → Told (Ok f) → IsInRow row f false
+        → TrapsAt before after field row object trap line m over Damaged
+    other-row f sound names keeps told other = record {
+      sound = sound-kept m now sound;
+      names = names-kept m now keeps names;
+      size = keeps.size;
+      does = λ ns c v class l named place d.
+          ap (λ (g : Form). when_in_row row (Some g) (trap_at v trap line c)) (sym (told-form f told class l named place))
+          ∙ other-row-stuck row f other (trap_at v trap line c);
     }

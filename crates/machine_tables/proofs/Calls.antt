@@ -1,9 +1,9 @@
 -- What the calls on tables give, by what the heap has.
-use Rattle.std.proofs.Common.{◌≡◌, ℕ, ℤ, [], ◌∷◌, Option, refl, ap, ◌∙◌}
+use Rattle.std.proofs.Common.{◌≡◌, ℕ, ℤ, [], ◌∷◌, Option, refl, ap, ◌∙◌, subst}
 use Rattle.ps_base.specs.declared.line.Line.{Line}
 use Rattle.ps_base.specs.declared.trap.Trap.{Trap}
 use Rattle.machine_core.specs.ps_heap.Calls.{Answer, answer_of, cardinality_call, enter_call, lookup_call, number_answered, table_put, then_try}
-use Rattle.machine_core.specs.ps_heap.Held.{Held, reading}
+use Rattle.machine_core.specs.ps_heap.Held.{Held, Place, Under, assigning, counting, reading}
 use Rattle.machine_core.specs.ps_heap.Library.{Cardinality, MakeTable, heap_call}
 use Rattle.machine_core.specs.ps_heap.Objects.{Heap, Keyed, id_of, object_of_value, table_of, value_of_object, with_object}
 use Rattle.machine_core.specs.ps_heap.Tables.{Key, Table, without_keys, by_ints, by_strings, cardinality, entered, int_key, looked_up, on_yield, string_key}
@@ -62,48 +62,51 @@ pub int-put : (line : Line) (key : ℤ) (of : TableAndEntry) (c : Config) → in
 unfolding heap_call
 int-put line key of c = refl
 
--- What is held after an enter has the heap in which the pair was entered; and both end in the same trap.
-abbrev pub AreAlike : Attempt Held → Attempt Heap → Type 0
-AreAlike (Yields h) (Yields later) = h.objects ≡ later
-AreAlike (Fails t) (Fails u) = t ≡ u
-AreAlike (Yields h) (Fails u) = ⊥
-AreAlike (Fails t) (Yields later) = ⊥
+-- What is held after an enter has the heap in which the pair was entered, with its place assigned, and some bytes counted; and both end in the same trap.
+abbrev pub IsPut : Held → Place → Held → Heap → Type 0
+IsPut was place h later = (n : ℕ) × (h ≡ counting n (assigning place later was))
+
+abbrev pub AreAlike : Held → Place → Attempt Held → Attempt Heap → Type 0
+AreAlike was place (Yields h) (Yields later) = IsPut was place h later
+AreAlike was place (Fails t) (Fails u) = t ≡ u
+AreAlike was place (Yields h) (Fails u) = ⊥
+AreAlike was place (Fails t) (Yields later) = ⊥
 
 alike-in : (key : Key) (table v : Value) (h : Held) (t : Table)
-    → AreAlike
+    → AreAlike h (Under (id_of table) key)
     (then_try (looked_up key t) (λ before. on_yield (entered key (object_of_value v) t) (λ new. table_put table key before (object_of_value v) new h)))
     (on_yield (entered key (object_of_value v) t) (λ new. with_object h.objects (id_of table) (Keyed new)))
 unfolding looked_up entered
-alike-in (string_key bytes) table v h without_keys = refl
-alike-in (string_key bytes) table v h (by_strings entries) = refl
+alike-in (string_key bytes) table v h without_keys = (_, refl)
+alike-in (string_key bytes) table v h (by_strings entries) = (_, refl)
 alike-in (string_key bytes) table v h (by_ints entries) = refl
-alike-in (int_key value) table v h without_keys = refl
+alike-in (int_key value) table v h without_keys = (_, refl)
 alike-in (int_key value) table v h (by_strings entries) = refl
-alike-in (int_key value) table v h (by_ints entries) = refl
+alike-in (int_key value) table v h (by_ints entries) = (_, refl)
 
-pub enters-alike : (key : Key) (table v : Value) (h : Held) → AreAlike (enter_call key table v h) (with_entry h.objects table key v)
+pub enters-alike : (key : Key) (table v : Value) (h : Held) → AreAlike h (Under (id_of table) key) (enter_call key table v h) (with_entry h.objects table key v)
 unfolding enter_call
 enters-alike key table v h = of (table_of h.objects table)
   where
     of : (t : Attempt Table)
-        → AreAlike
+        → AreAlike h (Under (id_of table) key)
         (then_try t (λ u. then_try (looked_up key u) (λ before. on_yield (entered key (object_of_value v) u) (λ new. table_put table key before (object_of_value v) new h))))
         (then_try t (λ u. on_yield (entered key (object_of_value v) u) (λ new. with_object h.objects (id_of table) (Keyed new))))
     of (Yields t) = alike-in key table v h t
     of (Fails trap) = refl
 
-pub alike-yields : (a : Attempt Held) (b : Attempt Heap) (later : Heap) → AreAlike a b → b ≡ Yields later
-    → (h : Held) × (a ≡ Yields h) × (h.objects ≡ later)
-alike-yields (Yields h) (Yields l) later same is = (h, refl, same ∙ (cc))
-alike-yields (Yields h) (Fails t) later same is = absurd same
-alike-yields (Fails t) (Yields l) later same is = absurd same
-alike-yields (Fails t) (Fails u) later same is = absurd (cc)
+pub alike-yields : (was : Held) (place : Place) (a : Attempt Held) (b : Attempt Heap) (later : Heap) → AreAlike was place a b → b ≡ Yields later
+    → (h : Held) × (a ≡ Yields h) × IsPut was place h later
+alike-yields was place (Yields h) (Yields l) later same is = let e : l ≡ later = cc in (h, refl, subst (IsPut was place h) e same)
+alike-yields was place (Yields h) (Fails t) later same is = absurd same
+alike-yields was place (Fails t) (Yields l) later same is = absurd same
+alike-yields was place (Fails t) (Fails u) later same is = absurd (cc)
 
-pub alike-fails : (a : Attempt Held) (b : Attempt Heap) (t : Trap) → AreAlike a b → b ≡ Fails t → a ≡ Fails t
-alike-fails (Yields h) (Yields l) t same is = absurd (cc)
-alike-fails (Yields h) (Fails u) t same is = absurd same
-alike-fails (Fails s) (Yields l) t same is = absurd same
-alike-fails (Fails s) (Fails u) t same is = let e : u ≡ t = cc in ap Fails (same ∙ e)
+pub alike-fails : (was : Held) (place : Place) (a : Attempt Held) (b : Attempt Heap) (t : Trap) → AreAlike was place a b → b ≡ Fails t → a ≡ Fails t
+alike-fails was place (Yields h) (Yields l) t same is = absurd (cc)
+alike-fails was place (Yields h) (Fails u) t same is = absurd same
+alike-fails was place (Fails s) (Yields l) t same is = absurd same
+alike-fails was place (Fails s) (Fails u) t same is = let e : u ≡ t = cc in ap Fails (same ∙ e)
 
 -- The pairs of a table are counted, and their number is pushed.
 counted-in : (h : Held) (t : Attempt Table)

@@ -15,10 +15,10 @@ use Rattle.machine_core.specs.heap_places.declared.value.Value.TheVariants as he
 use Rattle.machine_core.specs.heap_texts.declared.fault.OpFault.{OpFault}
 use Rattle.machine_core.specs.heap_texts.declared.fault.OpFault.TheVariants as op
 use Rattle.machine_core.specs.ps_heap.Calls.{answer_of, enter_call, number_answered, then_try}
-use Rattle.machine_core.specs.ps_heap.Held.{Held, reading}
+use Rattle.machine_core.specs.ps_heap.Held.{Held, Under, assigning, reading}
 use Rattle.ps_base.specs.declared.trap.Trap.TheVariants.{Overflow}
 use Rattle.machine_core.specs.ps_heap.Operators.{is_int}
-use Rattle.machine_core.specs.ps_heap.Objects.{Heap, value_of_object}
+use Rattle.machine_core.specs.ps_heap.Objects.{Heap, id_of, value_of_object}
 use Rattle.machine_core.specs.ps_heap.Tables.{Key, on_yield}
 use Rattle.machine_core.specs.ps_heap.Texts.{Attempt, Yields, Fails}
 use Rattle.machine_core.specs.ps_heap.Values.{Value, Nothing, Num}
@@ -27,14 +27,15 @@ use Rattle.machine_core.specs.ps_stepping.Config.{Config}
 use Rattle.machine_core.specs.ps_stepping.Steps.{Goes, attempted, push_num, push_ref}
 use Rattle.machine_core.specs.ps_stepping.Objects.{having, when_reference}
 use Rattle.machine_core.specs.ps_stepping.Library.{gives_nothing, gives_num}
-use Rattle.machine_core.specs.joint_ops.World.{BreaksOff, DenotesIn, IsForIn, IsOfForm, IsWorld, Answers}
+use Rattle.machine_core.specs.joint_ops.World.{BreaksOff, DenotesIn, IsForIn, IsOfForm, Answers}
 use Rattle.machine_core.specs.declared.machine.Machine.{Machine}
 use Rattle.machine_core.specs.declared.stepped.Stepped.{Stepped}
 use Rattle.machine_core.specs.declared.stepped.Stepped.TheVariants.{Quiet, Breaks}
 use Rattle.machine_core.specs.Full.{BreaksBy}
-use Rattle.machine_core.specs.Holding.{IsSound, words_of}
+use Rattle.machine_core.specs.Holding.{HoldsStore, IsSound, asked_in, holding, words_of}
 use Rattle.machine_core.specs.Stepped.{Does, Takes, UnlessBroken}
 use Rattle.machine_core.proofs.Carrying.{held-more, node-full, unless-broken}
+use Rattle.machine_core.proofs.RunLaws.{run-counting}
 use Rattle.machine_operands.specs.Giving.{EndsSoundly, GivesReference, failed_in, failed_of}
 use Rattle.machine_operands.proofs.Breaking.{failed-soundly, off-does, trap-does}
 use Rattle.joint_tables.specs.Tables.{LacksNode, with_entry}
@@ -89,18 +90,22 @@ module _ (before after : Outside Space) (m : Machine) (line : Line) where
   pub enter-done : IsSound m → EndsEnter before after m m Quiet line (Ok tt)
   enter-done sound = record {
     ends = record { sound = sound; names = λ n lies. n; size = λ size is. is; breaks = λ bad. absurd (cc) };
-    does = λ here names c key operand table v h pntr done left.
-        let e = alike-yields (enter_call key table v c.store.held) (with_entry c.store.held.objects table key v) done.0
-        (enters-alike key table v c.store.held) done.1 in
-        let store = on_held e.0 c.store in (
+    does = λ here names c key table v h done left.
+        let was = c.store.held in
+        let place = Under (id_of table) key in
+        let e = alike-yields was place (enter_call key table v was) (with_entry was.objects table key v) done.0 (enters-alike key table v was) done.1 in
+        let store = on_held e.0 c.store in
+        let w = words_of m in
+        let assigned = assigning place done.0 was in
+        let counted = run-counting names w.writing w.asked w.directory assigned m.objects after e.2.0 (holding (asked_in h.run) done.2.run) in
+        let run = subst (λ (held : Held). HoldsStore m.objects after names w.writing w.asked w.directory held) (sym e.2.1) counted in (
           [],
           record c { store = store },
           entered-goes key table v c e.0 e.1,
           refl,
           record {
             names = names;
-            held = held-more here m.objects before after names names (words_of m) c store done.2.carries h
-                (subst (λ (of : Heap). IsWorld m.objects after of names) (sym e.2) done.2.world) refl refl;
+            held = held-more here m.objects before after names names w c store done.2.carries h run refl refl;
           },
         );
   }
@@ -117,14 +122,15 @@ module _ (before after : Outside Space) (m new : Machine) (r : Stepped) (line : 
   pub enter-failed : (fault : OpFault) → IsSound new → r ≡ failed_of fault true → new ≡ failed_in fault line true m → EndsEnter before after m new r line (Err fault)
   enter-failed (op.Trap t) sound answer left = record {
     ends = failed-soundly m new r (λ unit. Unit {0}) line (op.Trap t) sound answer left;
-    does = λ here names c key operand table v h pntr done leaves.
+    does = λ here names c key table v h done leaves.
         trap-does m new r before after line here.size t (on_yield (enter_call key table v c.store.held) (answer_of Nothing)) (λ a. gives_nothing a c) answer left
         (ap (λ (a : Attempt Held). on_yield a (answer_of Nothing))
-        (alike-fails (enter_call key table v c.store.held) (with_entry c.store.held.objects table key v) t (enters-alike key table v c.store.held) done.0));
+        (alike-fails c.store.held (Under (id_of table) key) (enter_call key table v c.store.held) (with_entry c.store.held.objects table key v) t
+        (enters-alike key table v c.store.held) done.0));
   }
   enter-failed (op.Swizzle fault) sound answer left = record {
     ends = failed-soundly m new r (λ unit. Unit {0}) line (op.Swizzle fault) sound answer left;
-    does = λ here names c key operand table v h pntr done leaves. broke here c key table v done.1;
+    does = λ here names c key table v h done leaves. broke here c key table v done;
   }
     where
       broke : (here : area.Heap) (c : Config) (key : Key) (table v : Value)
@@ -132,7 +138,8 @@ module _ (before after : Outside Space) (m new : Machine) (r : Stepped) (line : 
           → Does before after here.size (pair_entered line key table v c) r new
       broke here c key table v (inl off) = off-does m new r before after here (pair_entered line key table v c) fault answer left off
       broke here c key table v (inr (lacks, (later, is))) =
-          let e = alike-yields (enter_call key table v c.store.held) (with_entry c.store.held.objects table key v) later (enters-alike key table v c.store.held) is in
+          let e = alike-yields c.store.held (Under (id_of table) key) (enter_call key table v c.store.held) (with_entry c.store.held.objects table key v) later
+          (enters-alike key table v c.store.held) is in
           let s = pair_entered line key table v c in
           subst (λ (x : Stepped). Does before after here.size s x new) (sym answer)
           (subst (λ (n : Machine). BreaksBy before after here.size s n.fault) (sym left) (lacks-node here c key table v e.0 e.1 fault lacks))

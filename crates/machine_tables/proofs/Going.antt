@@ -33,7 +33,7 @@ use Rattle.machine_core.specs.declared.machine.Machine.{Machine}
 use Rattle.machine_core.specs.declared.run_end.RunEnd.TheVariants as in_code
 use Rattle.machine_core.specs.declared.stepped.Stepped.{Stepped}
 use Rattle.machine_core.specs.declared.stepped.Stepped.TheVariants.{Halts, Breaks}
-use Rattle.machine_core.specs.Holding.{HeldBy, Holds, IsSound, words_of}
+use Rattle.machine_core.specs.Holding.{HeldBy, Holds, IsSound, words_of, world_in}
 use Rattle.machine_core.specs.Naming.{NamesObjects}
 use Rattle.machine_core.specs.Stepped.{Does, Takes, UnlessBroken, end_of, ended}
 use Rattle.machine_core.specs.inside.Taking.{Becomes, Leaves}
@@ -77,7 +77,7 @@ module _ (strings : Bool) (scan : Scan) (before after : Outside Space) (m new : 
     names = f.names;
     size = same-size (λ (size : ℕ). UnlessBroken r (new.objects.size ≡ size)) f.size;
     does = λ names c a h d.
-        let got = next c.store.held.objects names a h.world d in
+        let got = next c.store.held.objects names a (world_in h.run) d in
         does-behind before after after m.objects.size now.size (of a c) r new left keeps.size
         (does-as after after now.size (of a c) (goes_on_with strings scan got.0 c) r new
         (ap (λ (x : Attempt (Option Found)). attempted scan.line x (λ f. goes_on_with strings scan f c)) got.1)
@@ -95,7 +95,7 @@ module _ (strings : Bool) (scan : Scan) (before after : Outside Space) (m new : 
         subst (λ (x : Machine). UnlessBroken r (x.objects.size ≡ m.objects.size)) (sym is) (so-of r Halts (now.size ≡ m.objects.size) answer keeps.size);
     does = λ names c a h d.
         trap-does over new r before after scan.line m.objects.size t (next_key strings c.store.held.objects (table a) (key a))
-        (λ f. goes_on_with strings scan f c) answer is (next c.store.held.objects names a h.world d).0;
+        (λ f. goes_on_with strings scan f c) answer is (next c.store.held.objects names a (world_in h.run) d).0;
   }
 
   pub scan-broken : (fault : SwizzleFault) → Next (Err (op.Swizzle fault)) → r ≡ Breaks → BreaksWith before after over new r fault
@@ -104,7 +104,7 @@ module _ (strings : Bool) (scan : Scan) (before after : Outside Space) (m new : 
     sound = broke.sound;
     names = so-of r Breaks (NamesObjects new) answer tt;
     size = so-of r Breaks (new.objects.size ≡ m.objects.size) answer tt;
-    does = λ names c a h d. broke.off m.objects (of a c) (next c.store.held.objects names a h.world d);
+    does = λ names c a h d. broke.off m.objects (of a c) (next c.store.held.objects names a (world_in h.run) d);
   }
 
 -- The least string above the empty one is the least of all, unless that is the empty one.
@@ -283,7 +283,7 @@ empty-follows scan before mid after m new now r table key object left keeps told
   names = f.names;
   size = subst (λ (size : ℕ). UnlessBroken r (new.objects.size ≡ size)) keeps.size f.size;
   does = λ names c v h d.
-      let t = told c.store.held.objects names v h.world d.table_is in
+      let t = told c.store.held.objects names v (world_in h.run) d.table_is in
       does-behind before mid after m.objects.size now.size (after_empty scan v c) r new left keeps.size
       (f.does names c (record { table = v; key = Some (string_key []) })
       (read-holds m.objects now before mid names (words_of m) c h (stands names c v t))

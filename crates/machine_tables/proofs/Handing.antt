@@ -198,7 +198,7 @@ sound-by m refs nums sound below_refs below_nums room_refs room_nums more_refs m
 -- its words name what they named
 pub names-by : (m : Machine) (refs : Frames ℕ) (nums : Frames ℤ) → NamesIn m.objects (record (words_of m) { refs = refs }) m.writing.item
     → NamesObjects (record m { refs = refs; nums = nums })
-names-by m refs nums n = record { code = n.code; scope = n.scope; own = n.own; below = n.below; callers = n.callers; item = n.item }
+names-by m refs nums n = record { code = n.code; scope = n.scope; own = n.own; below = n.below; callers = n.callers; item = n.item; databases = n.databases }
 
 pub names-string : (m : Machine) (slot a w o : ℕ) (one two three four : Frames ℕ) → NamesObjects m → one.below ≡ m.refs.below → one.own ≡ set m.refs.own slot w
     → two.below ≡ one.below → two.own ≡ one.own ++ a ∷ [] → three.below ≡ two.below → three.own ≡ two.own ++ w ∷ []

@@ -1,4 +1,5 @@
 -- What follows the operands of a call on tables, once the operation was done.
+use Rattle.machine_core.specs.Holding.{world_in, run_in}
 use Rattle.std.proofs.Common.{◌≡◌, ℕ, List, Option, ◌∙◌}
 use Rattle.std.specs.Prelude.{Result, Ok, Err, IfOk, IfSome}
 use Rattle.ps_base.specs.declared.line.Line.{Line}
@@ -31,7 +32,10 @@ use Rattle.machine_core.proofs.Carrying.{unless-broken}
 use Rattle.machine_operands.specs.Giving.{GivesObject, structures}
 use Rattle.machine_operands.proofs.Parts.{unless-fault}
 use Rattle.machine_operands.proofs.Reading.{names-kept, names-stand}
-use Rattle.joint_tables.specs.Tables.{EntersKey, IsPntr, LooksUp, under_key}
+use Rattle.joint_tables.specs.Tables.{LooksUp, under_key}
+use Rattle.machine_core.specs.ps_heap.Held.{Held}
+use Rattle.machine_core.specs.joint_held.Held.{HoldsRun}
+use Rattle.machine_core.specs.objects.Entering.{EntersRun}
 use Rattle.machine_tables.specs.inside.Operands.{Follows}
 use Rattle.machine_tables.specs.inside.Ends.{EndsEnter, GivesFound, found_given, pair_entered}
 use Rattle.machine_tables.proofs.Calls.{table-made}
@@ -52,24 +56,23 @@ module _ (before after : Outside Space) (m new : Machine) (now : area.Heap) (r :
     does = λ names c a h d.
         does-as before after m.objects.size (of a c) (attempted line (under_key c.store.held.objects (table a) (key a)) (λ found. found_given found c)) r new
         (same a c)
-        (g.does m.objects names c (under_key c.store.held.objects (table a) (key a)) left h (looked c.store.held.objects names a h.world d));
+        (g.does m.objects names c (under_key c.store.held.objects (table a) (key a)) left h (looked c.store.held.objects names a (world_in h.run) d));
   }
 
   -- A pair was entered.
-  pub follows-entered : (entry : A → Value) (operand : Option ℕ) (done : Result (Unit {0}) OpFault) → UnlessFault done (AllStand m.objects now)
+  pub follows-entered : (entry : A → Value) (done : Result (Unit {0}) OpFault) → UnlessFault done (AllStand m.objects now)
       → UnlessFault done (now.size ≡ m.objects.size)
       → ((a : A) (c : Config) → of a c ≡ pair_entered line (key a) (table a) (entry a) c)
-      → ((names : List Reference) (a : A) → denotes names a → IsPntr (entry a))
-      → ((heap : Heap) (names : List Reference) (a : A) → IsWorld m.objects before heap names → denotes names a
-      → EntersKey m.objects now before after heap names operand (table a) (key a) (entry a) done)
+      → ((names : List Reference) (h : Held) (a : A) → HoldsRun m.objects before names m.databases.writing.items m.databases.directory h → denotes names a
+      → EntersRun m.objects now before after names m.databases.writing.items m.databases.directory h (table a) (key a) (entry a) done)
       → EndsEnter before after (record m { objects = now }) new r line done → Follows before after denotes of m new r
-  follows-entered entry operand done stand size same pntr entered g = record {
+  follows-entered entry done stand size same entered g = record {
     sound = g.ends.sound;
     names = g.ends.names (unless-fault done (λ s. names-stand m now s n) stand) (whatever done);
     size = g.ends.size m.objects.size size;
     does = λ names c a h d.
         does-as before after m.objects.size (of a c) (pair_entered line (key a) (table a) (entry a) c) r new (same a c)
-        (g.does m.objects names c (key a) operand (table a) (entry a) h (pntr names a d) (entered c.store.held.objects names a h.world d) left);
+        (g.does m.objects names c (key a) (table a) (entry a) h (entered names c.store.held a (run_in h.run) d) left);
   }
     where
       whatever : (done : Result (Unit {0}) OpFault) → IfOk done (λ unit. Unit {0})
@@ -88,7 +91,7 @@ table-given out m new now r line made n keeps held makes g = record {
   size = unless-broken r (λ e. e ∙ keeps.size) g.ends.size;
   does = λ c h.
       does-as out out m.objects.size (call_on_heap MakeTable line c) (make Pointer (Keyed without_keys) c) r new (table-made line c)
-      (g.does m.objects h.names c Pointer (Yields (Keyed without_keys)) structures h.held (makes c.store.held.objects h.names h.held.world));
+      (g.does m.objects h.names c Pointer (Yields (Keyed without_keys)) structures h.held (makes c.store.held.objects h.names (world_in h.held.run)));
 }
 
 -- what is so is so unless an operation failed as a whole

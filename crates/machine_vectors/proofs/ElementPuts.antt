@@ -37,7 +37,7 @@ use Rattle.machine_core.specs.joint_ops.Operands.{form_in}
 use Rattle.machine_core.specs.declared.machine.Machine.{Machine}
 use Rattle.machine_core.specs.declared.stepped.Stepped.{Stepped}
 use Rattle.machine_core.specs.declared.stepped.Stepped.TheVariants.{Breaks, Damaged}
-use Rattle.machine_core.specs.Holding.{HeldBy, IsSound, words_of}
+use Rattle.machine_core.specs.Holding.{HeldBy, IsSound, words_of, world_in}
 use Rattle.machine_core.specs.Naming.{NamesObjects}
 use Rattle.machine_core.specs.Stepped.{Does, Takes, UnlessBroken}
 use Rattle.machine_core.specs.inside.Taking.{Leaves, Taken}
@@ -109,7 +109,7 @@ module _ (before after : Outside Space) (m new : Machine) (now : area.Heap) (r :
         let heap = c.store.held.objects in
         let same = typed-form heap id ty typed in
         let s = number-fits (form_in heap id) z (ap is_number_form same ∙ row) in
-        let wrote = kept heap names id (Num z) s.0 h.world d int s.1 refl in
+        let wrote = kept heap names id (Num z) s.0 (world_in h.run) d int s.1 refl in
         let attempt = with_element heap (Vector id) at (kept_as (Some (element_of ty)) (Num z)) in
         does-as before after m.objects.size (number_put line at z ty (Vector id) c) (attempted line attempt (λ heap. changed (element_place c.store.held.objects (Vector id) at) heap c)) r new
         (attempted-then line attempt (λ heap. when_number (Some (element_of ty)) (changed (element_place c.store.held.objects (Vector id) at) heap c)) (λ heap. changed (element_place c.store.held.objects (Vector id) at) heap c)
@@ -136,7 +136,7 @@ module _ (before after : Outside Space) (m new : Machine) (now : area.Heap) (r :
         (attempted-then line attempt (λ heap. when_reference (Some (element_of ty)) (changed (element_place c.store.held.objects (Vector id) at) heap c)) (λ heap. changed (element_place c.store.held.objects (Vector id) at) heap c)
         (λ later. reference-row (element_of ty) row (changed (element_place c.store.held.objects (Vector id) at) later c)))
         (g.does m.objects names c (element_place c.store.held.objects (Vector id) at) (Vector id) attempt refl h
-        (put heap names id w h.world d (reference-fits (form_in heap id) to (ap is_number_form same ∙ row)) denotes));
+        (put heap names id w (world_in h.run) d (reference-fits (form_in heap id) to (ap is_number_form same ∙ row)) denotes));
   }
 
 -- What was to be written is refused.
@@ -153,7 +153,7 @@ module _ (before after : Outside Space) (m : Machine) (now : area.Heap) (vector 
     names = names-kept m now keeps n;
     size = keeps.size;
     does = λ names c id w h d.
-        let a = found c.store.held.objects names id h.world d in
+        let a = found c.store.held.objects names id (world_in h.run) d in
         ap (λ (x : Attempt Heap). attempted line x (λ heap. Stuck)) (put-yields c.store.held.objects id at a.0 w a.1).1;
   }
 
@@ -165,7 +165,7 @@ module _ (before after : Outside Space) (m : Machine) (now : area.Heap) (vector 
     names = stop.names (names-kept m now keeps n);
     size = size-behind r m.objects.size now.size new.objects.size keeps.size stop.size;
     does = λ names c id w h d.
-        let a = found c.store.held.objects names id h.world d in
+        let a = found c.store.held.objects names id (world_in h.run) d in
         does-as before after m.objects.size (refused line at w (Vector id) c) (Stops (Trapped t line) 0) r new
         (ap (λ (x : Attempt Heap). attempted line x (λ heap. Stuck)) (put-fails c.store.held.objects id at t w a.0))
         (does-behind before after after m.objects.size now.size (Stops (Trapped t line) 0) r new left keeps.size
@@ -179,7 +179,7 @@ module _ (before after : Outside Space) (m : Machine) (now : area.Heap) (vector 
     sound = off.sound;
     names = unless-breaks r (NamesObjects new) answer;
     size = unless-breaks r (new.objects.size ≡ m.objects.size) answer;
-    does = λ names c id w h d. off.off m.objects (refused line at w (Vector id) c) (found c.store.held.objects names id h.world d);
+    does = λ names c id w h d. off.off m.objects (refused line at w (Vector id) c) (found c.store.held.objects names id (world_in h.run) d);
   }
 
 -- The form of the elements was told first.
@@ -193,7 +193,7 @@ module _ (before : Outside Space) (m : Machine) (vector : ℕ) where
       → HeldBy before names m c → DenotesIn m.objects before names (Some vector) (Vector id) → type_of c.store.held.objects (Vector id) ≡ Some ty
       → (element_of ty ≡ f) × Stands m.objects now before mid c.store.held.objects names
   told-row mid now f told names c id ty h d typed =
-      let a = told c.store.held.objects names id h.world d in
+      let a = told c.store.held.objects names id (world_in h.run) d in
       let same : form_in c.store.held.objects id ≡ a.0 = let e : Yields (form_in c.store.held.objects id) ≡ Yields a.0 = a.1 in cc in
       (sym (typed-form c.store.held.objects id ty typed) ∙ same ∙ sym a.2, a.3)
 
@@ -269,7 +269,7 @@ module _ (before : Outside Space) (m : Machine) (vector : ℕ) where
       sound = off.sound;
       names = unless-breaks r (NamesObjects new) answer;
       size = unless-breaks r (new.objects.size ≡ m.objects.size) answer;
-      does = λ names c id ty h d typed such. off.off m.objects (number_put line at z ty (Vector id) c) (told c.store.held.objects names id h.world d);
+      does = λ names c id ty h d typed such. off.off m.objects (number_put line at z ty (Vector id) c) (told c.store.held.objects names id (world_in h.run) d);
     }
 
     pub reference-untold : (to : Option ℕ) → PutsReference before after anything line at to vector m new r
@@ -277,7 +277,7 @@ module _ (before : Outside Space) (m : Machine) (vector : ℕ) where
       sound = off.sound;
       names = unless-breaks r (NamesObjects new) answer;
       size = unless-breaks r (new.objects.size ≡ m.objects.size) answer;
-      does = λ names c id ty w h d typed such denotes. off.off m.objects (reference_put line at w ty (Vector id) c) (told c.store.held.objects names id h.world d);
+      does = λ names c id ty w h d typed such denotes. off.off m.objects (reference_put line at w ty (Vector id) c) (told c.store.held.objects names id (world_in h.run) d);
     }
 
   -- Its telling has no trap.
@@ -292,7 +292,7 @@ module _ (before : Outside Space) (m : Machine) (vector : ℕ) where
       sound = sound-kept m now sound;
       names = names-kept m now keeps n;
       size = keeps.size;
-      does = λ names c id ty h d typed such. absurd (told-traps after now t told c.store.held.objects names id h.world d);
+      does = λ names c id ty h d typed such. absurd (told-traps after now t told c.store.held.objects names id (world_in h.run) d);
     }
 
     pub reference-never : (to : Option ℕ) → PutsReference before after anything line at to vector m (record m { objects = now }) Damaged
@@ -300,7 +300,7 @@ module _ (before : Outside Space) (m : Machine) (vector : ℕ) where
       sound = sound-kept m now sound;
       names = names-kept m now keeps n;
       size = keeps.size;
-      does = λ names c id ty w h d typed such denotes. absurd (told-traps after now t told c.store.held.objects names id h.world d);
+      does = λ names c id ty w h d typed such denotes. absurd (told-traps after now t told c.store.held.objects names id (world_in h.run) d);
     }
 
 -- The vector is known, so that its elements are of this form.
@@ -309,7 +309,7 @@ module _ (out after : Outside Space) (m new : Machine) (r : Stepped) (vector : �
     → f ≡ form_in of id) where
   known-row : (names : List Reference) (c : Config) (id : ℕ) (ty : List ℕ) → HeldBy out names m c → DenotesIn m.objects out names (Some vector) (Vector id)
       → type_of c.store.held.objects (Vector id) ≡ Some ty → element_of ty ≡ f
-  known-row names c id ty h d typed = sym (known c.store.held.objects names id h.world d ∙ typed-form c.store.held.objects id ty typed)
+  known-row names c id ty h d typed = sym (known c.store.held.objects names id (world_in h.run) d ∙ typed-form c.store.held.objects id ty typed)
 
   pub number-put-known : (z : ℤ) → is_number_form f ≡ true → TakesVector out after OfNumbers (number_put line at z) vector m new r
       → TakesVector out after anything (number_put line at z) vector m new r

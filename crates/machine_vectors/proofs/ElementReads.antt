@@ -29,7 +29,7 @@ use Rattle.machine_core.specs.objects.Vectors.{IsNumber}
 use Rattle.machine_core.specs.declared.machine.Machine.{Machine}
 use Rattle.machine_core.specs.declared.stepped.Stepped.{Stepped}
 use Rattle.machine_core.specs.declared.stepped.Stepped.TheVariants.{Damaged}
-use Rattle.machine_core.specs.Holding.{HeldBy, words_of}
+use Rattle.machine_core.specs.Holding.{HeldBy, words_of, world_in}
 use Rattle.machine_core.specs.Naming.{NamesObjects}
 use Rattle.machine_core.specs.Stepped.{Takes}
 use Rattle.machine_core.specs.inside.Taking.{Leaves}
@@ -107,7 +107,7 @@ number-known out m new r vector line at place z number same_at same_z n known pu
   names = push.names n;
   size = push.size;
   does = λ names c id ty h d typed such.
-      let k = known c.store.held.objects names id h.world d in
+      let k = known c.store.held.objects names id (world_in h.run) d in
       let f = element_of ty in
       let row : is_number_form f ≡ true = ap is_number_form (sym (typed-form c.store.held.objects id ty typed)) ∙ k.row in
       let read = having (reading k.value) c in
@@ -130,7 +130,7 @@ module _ (before after : Outside Space) (m new : Machine) (now : area.Heap) (r :
       (element_at c.store.held.objects (Vector id) at) got
   typed-got found names c id ty h d typed =
       subst (λ (f : Form). Answers m.objects now before after (λ k v. IsOfForm f k × IsForIn now after names k v) c.store.held.objects names
-      (element_at c.store.held.objects (Vector id) at) got) (typed-form c.store.held.objects id ty typed) (found c.store.held.objects names id h.world d)
+      (element_at c.store.held.objects (Vector id) at) got) (typed-form c.store.held.objects id ty typed) (found c.store.held.objects names id (world_in h.run) d)
 
   pub number-found : Got → GivesNumber before after (record m { objects = now }) new r line got
       → TakesVector before after anything (number_read line at) vector m new r
@@ -166,5 +166,5 @@ bound-found before after m new now r vector of n left got keeps found g = record
   names = g.ends.names (names-after m now got n keeps) (whatever got);
   size = g.ends.size m.objects.size (size-after m now got keeps);
   does = λ names c id ty h d typed such.
-      g.does m.objects names c (of c.store.held.objects (Vector id)) left h (found c.store.held.objects names id h.world d);
+      g.does m.objects names c (of c.store.held.objects (Vector id)) left h (found c.store.held.objects names id (world_in h.run) d);
 }

@@ -1,4 +1,5 @@
 -- Vectors whose elements are all the same.
+use Rattle.machine_core.specs.Holding.{world_in}
 use Rattle.std.proofs.Common.{◌≡◌, ℕ, ℤ, true, false, List, Option, Some, None, sym, ap, ◌∙◌, subst}
 use Rattle.std.specs.Prelude.{Result, IfOk}
 use Rattle.ps_base.specs.declared.line.Line.{Line}
@@ -73,7 +74,7 @@ module _ (out : Outside Space) (ty : ℕ) (to : code.Value) (line : Line) (m one
               let i = p.gives names c h in
               let j = q.gives names i.0 i.2 in
               let s = attempted line (filled_vector text low high v) (λ object. make Vector object j.0) in
-              let did = makes j.0.store.held.objects names text v j.2.world (denotes-there m two left.objects out names (Some ty) (Text text) d) form
+              let did = makes j.0.store.held.objects names text v (world_in j.2.run) (denotes-there m two left.objects out names (Some ty) (Text text) d) form
               (subst (λ (here : area.Heap). IsForIn here out names to v) (sym left.objects) for) in
               let did = subst (λ (x : ℤ). Makes two.objects now out j.0.store.held.objects names Vector (filled_vector text x high v) made) same_low
               (subst (λ (x : ℤ). Makes two.objects now out j.0.store.held.objects names Vector (filled_vector text lower x v) made) same_high did) in

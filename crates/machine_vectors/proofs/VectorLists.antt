@@ -1,4 +1,5 @@
 -- Vectors of what was popped at once.
+use Rattle.machine_core.specs.Holding.{world_in}
 use Rattle.std.proofs.Common.{◌≡◌, ℕ, ℤ, true, false, suc, List, [], ◌∷◌, Some, None, length, replicate, refl, sym, ap, ◌∙◌, subst}
 use Rattle.std.specs.Prelude.{Result, IfOk}
 use Rattle.std.proofs.lemmas.List.{length-replicate}
@@ -82,7 +83,7 @@ module _ (out : Outside Space) (ty : ℕ) (line : Line) (m one : Machine) (left 
         let are_there = subst (λ (here : area.Heap). AreForIn here out names (replicate (length one.values.items) (element_of text)) one.values.items elements)
         (sym left.objects) are_values in
         let did = subst (λ (x : ℤ). Makes one.objects now out i.0.store.held.objects names Vector (vector_of text x elements) made) same
-        (makes i.0.store.held.objects names text elements i.2.world (denotes-there m one left.objects out names (Some ty) (Text text) d) are_there) in
+        (makes i.0.store.held.objects names text elements (world_in i.2.run) (denotes-there m one left.objects out names (Some ty) (Text text) d) are_there) in
         does-as out out m.objects.size (listed line text elements c) s r new
         (i.1 (λ low e. attempted line (vector_of text low elements) (λ object. make Vector object e)))
         (does-there m one left.objects out out s r new (g.does one.objects names i.0 Vector (vector_of text low elements) vectors i.2 did));

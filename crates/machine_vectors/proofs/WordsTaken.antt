@@ -145,7 +145,7 @@ module _ (m : Machine) (out : Outside Space) (n : ℕ) where
             callers_are = subst (λ (xs : List ℤ). AreWaiting m.objects out names m.callers.items xs m.refs.below c.callers) (sym below) h.callers_are;
             input_is = h.input_is;
             turns_are = h.turns_are;
-            world = h.world;
+            run = h.run;
           },
           subst (λ (k : ℕ). AreForIn m.objects out names (replicate k f) w.items (kept_values f high)) many (laid names),
         );
@@ -201,7 +201,7 @@ module _ (m : Machine) (out : Outside Space) (n : ℕ) where
             callers_are = subst (λ (xs : List ℕ). AreWaiting m.objects out names m.callers.items m.nums.below xs c.callers) (sym below) h.callers_are;
             input_is = h.input_is;
             turns_are = h.turns_are;
-            world = h.world;
+            run = h.run;
           },
           subst (λ (ks : List code.Value). AreForIn m.objects out names (replicate n form.Reference) ks args) (sym laid)
               (subst (λ (k : ℕ). AreForIn m.objects out names (replicate k form.Reference) (map named high) args) many

@@ -11,6 +11,7 @@ ghost use Rattle.joint_ops.specs.Operands.{IsByObject, IsOfSort, IsSorted};
 mod code_bytes;
 mod field_forms;
 mod fields;
+mod lent;
 mod procedures;
 mod residence;
 mod row_makes;

@@ -1,6 +1,7 @@
 //! The command from its words to its status.
 
 use command_answers::Command;
+use command_answers::ps_args::{FORMAT_HELP, HELP, RUN_HELP, VERSION};
 use std::alloc::{AllocError, Global};
 
 /// The words of a run without options, before the name of its text.
@@ -149,15 +150,15 @@ static NO_COMMANDS: [(&[&str], &str); 26] = [
     (&["run", "v.vol", "--turns", "+5"], "x.ps"),
     (&["run", "v.vol", "--turns", "1000000000001"], "x.ps"),
     (&["run", "v.vol", "--turns", "00000000000005"], "x.ps"),
-    (&["run", "v.vol", "x.ps", "--turns"], "5"),
+    (&["run", "v.vol", "--turns=5", "x.ps", "--turns"], "5"),
     (&["run", "v.vol", "--area", "0"], "x.ps"),
     (&["run", "v.vol", "--area", "262145"], "x.ps"),
     (&["run", "v.vol", "--area", "00000064"], "x.ps"),
     (&["run", "v.vol", "--area", ""], "x.ps"),
-    (&["run", "v.vol", "--turns", "5", "--area", "64"], "x.ps"),
+    (&["run", "v.vol", "--help"], "x.ps"),
     (&["run", "v.vol", "--area", "64", "--turns"], "x.ps"),
     (&["run", "v.vol", "--input"], "x.ps"),
-    (&["run", "v.vol", "x.ps", "--input"], "x.ps"),
+    (&["help"], "run"),
     (
         &[
             "run", "v.vol", "--area", "64", "--turns", "5", "--input", "x.ps",
@@ -181,6 +182,53 @@ fn are_no_command<'a>(alloc: Global, words: &'a [&'a str], last: &'a str) -> boo
 fn other_words_are_no_command(rt: HostRuntime) {
     for (place, (words, last)) in NO_COMMANDS.iter().enumerate() {
         assert!(rt; are_no_command(rt.alloc(), words, last), "row {place}");
+    }
+}
+
+static TEXTS: [(&[&str], &str, &str); 5] = [
+    (&[], "--help", HELP),
+    (&[], "help", HELP),
+    (&[], "--version", VERSION),
+    (&["run"], "--help", RUN_HELP),
+    (&["format"], "--help", FORMAT_HELP),
+];
+
+fn is_told<'a>(alloc: Global, words: &'a [&'a str], last: &'a str, text: &str) -> bool {
+    let command = Command {
+        words,
+        last,
+        texts: &[],
+    };
+    command.is_answered(alloc, &[], text.as_bytes(), 0)
+}
+
+#[test]
+fn the_program_tells_of_itself(rt: HostRuntime) {
+    for (words, last, text) in &TEXTS {
+        assert!(rt; is_told(rt.alloc(), words, last, text));
+    }
+}
+
+static OPTIONS_ANYWHERE: [(&[&str], &str); 4] = [
+    (&["run", "v.vol", "x.ps", "--turns"], "5"),
+    (&["run", "v.vol", "--turns=5", "--area", "64"], "x.ps"),
+    (&["run", "v.vol", "x.ps"], "--input=x.ps"),
+    (&["run", "v.vol", "--turns", "5", "--"], "x.ps"),
+];
+
+fn is_run<'a>(alloc: Global, words: &'a [&'a str], last: &'a str) -> bool {
+    let command = Command {
+        words,
+        last,
+        texts: &[("x.ps", b"write 1")],
+    };
+    command.is_answered(alloc, &[], b"1", 0)
+}
+
+#[test]
+fn options_stand_anywhere(rt: HostRuntime) {
+    for (words, last) in &OPTIONS_ANYWHERE {
+        assert!(rt; is_run(rt.alloc(), words, last));
     }
 }
 

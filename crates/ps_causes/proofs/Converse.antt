@@ -4,9 +4,9 @@ use Rattle.ps_port.specs.ps_outside.Outside.{Outside, Rose}
 use Rattle.ps_meaning.specs.ps_base.Limits.{most_text_bytes as LONGEST_TEXT}
 use Rattle.ps_built.specs.ps_program.Node.{BodyNode}
 use Rattle.ps_meaning.specs.ps_base.declared.line.Line.{Line}
-use Rattle.ps_words.specs.ps_scan.declared.token.Token.{Token}
-use Rattle.ps_words.specs.ps_scan.Fault as scanning
-use Rattle.ps_words.proofs.of_ps_scan.Laws.{same_tokens, same_fault, never_both}
+use Rattle.ps_args.specs.ps_scan.declared.token.Token.{Token}
+use Rattle.ps_args.specs.ps_scan.Fault as scanning
+use Rattle.ps_args.proofs.of_ps_scan.Laws.{same_tokens, same_fault, never_both}
 use Rattle.ps_parse.specs.ps_tree.Phrase.{Phrase}
 use Rattle.ps_parse.specs.ps_tree.declared.fault.ParseFault.{ParseFault}
 use Rattle.ps_parse.specs.ps_tree.Fault as parsing
@@ -23,14 +23,14 @@ use Rattle.ps_volumes.specs.volume_parts.Making.{IsNone}
 use Rattle.ps_volumes.specs.paged_volume.declared.damage.Damage.{Damage}
 use Rattle.ps_volumes.specs.volume_parts.declared.open_fault.OpenFault.{OpenFault}
 use Rattle.ps_volumes.specs.volume_parts.declared.open_fault.OpenFault.TheVariants as cause
-use Rattle.ps_words.specs.Words.{RunOf, CommandOf, a_run, a_volume}
+use Rattle.ps_args.specs.Words.{RunOf, CommandOf, a_run, a_text, a_volume}
 use Rattle.ps_volumes.specs.ps_reports.Reports.{usage_line, memory_line, unreadable_line, too_long_line, fault_line, not_a_volume_line, damaged_line, already_line}
 use Rattle.ps_volumes.specs.ps_reports.Answering.{Answers, whole, cut}
 use Rattle.ps_volumes.specs.Attaching.{HasVolume, KeepsVolume, IsWhyNone, line_of as line_of_cause, status_of as status_of_cause}
 use Rattle.ps_volumes.specs.Making.{IsMakingDue, IsOpen}
 use Rattle.ps_volumes.specs.Making as making
 use Rattle.ps_causes.specs.Source.{IsProgram, number_of, line_of, IsCheckFault, mistyped, unbuilt_call, IsSourceFault, in_scan, in_parse, in_check}
-use Rattle.ps_causes.specs.Command.{Gives, GivesTooLong, GivesInput, HoldsInput, GivesProgram, RunsTo, IsUnread, Unready, Due, IsRead, Gets, GetsOrFails, GetsRun}
+use Rattle.ps_causes.specs.Command.{Gives, GivesTooLong, GivesInput, HoldsInput, GivesProgram, RunsTo, IsUnread, Unready, Due, IsRead, Gets, GetsOrLacks, GetsOrFails, GetsRun}
 
 not_both : {A : Type 0} (x : Option A) (v : A) → x ≡ None → x ≡ Some v → ⊥
 not_both x v none some = let e : None ≡ Some v = sym none ∙ some in cc
@@ -131,6 +131,16 @@ same_run asked r run one two = let e : Some (a_run r) ≡ Some (a_run run) = sym
 run_or_volume : (asked : Option CommandOf) (run : RunOf) (pages : ℕ) → asked ≡ Some (a_run run) → asked ≡ Some (a_volume pages) → ⊥
 run_or_volume asked run pages one two = let e : Some (a_run run) ≡ Some (a_volume pages) = sym one ∙ two in cc
 
+run_or_text : (asked : Option CommandOf) (run : RunOf) (text : List ℕ) → asked ≡ Some (a_run run) → asked ≡ Some (a_text text) → ⊥
+run_or_text asked run text one two = let e : Some (a_run run) ≡ Some (a_text text) = sym one ∙ two in cc
+
+volume_or_text : (asked : Option CommandOf) (pages : ℕ) (text : List ℕ) → asked ≡ Some (a_volume pages) → asked ≡ Some (a_text text) → ⊥
+volume_or_text asked pages text one two = let e : Some (a_volume pages) ≡ Some (a_text text) = sym one ∙ two in cc
+
+-- one text is asked for
+same_text : (asked : Option CommandOf) (t text : List ℕ) → asked ≡ Some (a_text t) → asked ≡ Some (a_text text) → t ≡ text
+same_text asked t text one two = let e : Some (a_text t) ≡ Some (a_text text) = sym one ∙ two in cc
+
 -- what is found in a content is one of three
 a_volume_or_none : (f : Found) (pages : ℕ) (second : Bool) (held : Held) (size gate : ℕ) → f ≡ found.a_volume pages second held → f ≡ no_volume size gate → ⊥
 a_volume_or_none f pages second held size gate one two = let e : found.a_volume pages second held ≡ no_volume size gate = sym one ∙ two in cc
@@ -153,12 +163,23 @@ module _ (asked : Option CommandOf) (holds : List ℕ → List ℕ → Type 0) (
   own_at : (read : List ℕ → Type 0) (by : Type 0) (told bytes : List ℕ) (due status : ℕ) → told ≡ bytes → due ≡ status → Gets read may_fail failed by told due bytes status
   own_at read by told bytes due status one two = subst (λ (bs : List ℕ). Gets read may_fail failed by told due bs status) one (subst (λ (n : ℕ). Gets read may_fail failed by told due told n) two Gets.own)
 
-  pub no_command : (bytes : List ℕ) (status : ℕ) → asked ≡ None → Dues bytes status → (bytes ≡ usage_line) × (status ≡ 1)
-  no_command bytes status none (Due.no_command is left) = (refl, refl)
+  pub no_command : (bytes : List ℕ) (status : ℕ) → asked ≡ None → Dues bytes status → GetsOrLacks usage_line 1 bytes status
+  no_command bytes status none (Due.no_command is left) = GetsOrLacks.own
+  no_command bytes status none (Due.no_memory left) = GetsOrLacks.no_memory
+  no_command bytes status none (Due.told {text = text} is left) = absurd (not_both asked (a_text text) none is)
   no_command bytes status none (Due.unready {run = run} is why left) = absurd (not_both asked (a_run run) none is)
   no_command bytes status none (Due.unattached {run = run} input is gives given why left) = absurd (not_both asked (a_run run) none is)
   no_command bytes status none (Due.ran {run = run} is gives given comes kept) = absurd (not_both asked (a_run run) none is)
   no_command bytes status none (Due.making {pages = pages} is due) = absurd (not_both asked (a_volume pages) none is)
+
+  pub text_told : (text bytes : List ℕ) (status : ℕ) → asked ≡ Some (a_text text) → Dues bytes status → GetsOrLacks text 0 bytes status
+  text_told text bytes status is (Due.no_command none left) = absurd (not_both asked (a_text text) none is)
+  text_told text bytes status is (Due.no_memory left) = GetsOrLacks.no_memory
+  text_told text bytes status is (Due.told {text = t} is' left) = subst (λ (bs : List ℕ). GetsOrLacks text 0 bs 0) (same_text asked text t is is') GetsOrLacks.own
+  text_told text bytes status is (Due.unready {run = run} is' why left) = absurd (run_or_text asked run text is' is)
+  text_told text bytes status is (Due.unattached {run = run} input is' gives given why left) = absurd (run_or_text asked run text is' is)
+  text_told text bytes status is (Due.ran {run = run} is' gives given comes kept) = absurd (run_or_text asked run text is' is)
+  text_told text bytes status is (Due.making {pages = pages} is' due) = absurd (volume_or_text asked pages text is' is)
 
   -- the cases of a command that is a run
   record Cases (P : List ℕ → ℕ → Type 0) (run : RunOf) : Type 0 where
@@ -184,6 +205,8 @@ module _ (asked : Option CommandOf) (holds : List ℕ → List ℕ → Type 0) (
 
   by_cases : (P : List ℕ → ℕ → Type 0) (run : RunOf) (bytes : List ℕ) (status : ℕ) → asked ≡ Some (a_run run) → Cases P run → Dues bytes status → P bytes status
   by_cases P run bytes status is cases (Due.no_command none left) = absurd (not_both asked (a_run run) none is)
+  by_cases P run bytes status is cases (Due.no_memory left) = cases.memory
+  by_cases P run bytes status is cases (Due.told {text = text} is' left) = absurd (run_or_text asked run text is is')
   by_cases P run bytes status is cases (Due.unready {run = r} is' why left) = of_unready P r bytes status (subst (Cases P) (same_run asked run r is is') cases) why
   by_cases P run bytes status is cases (Due.unattached {run = r} {program = program} input {cause = why} is' gives given none left) =
       (subst (Cases P) (same_run asked run r is is') cases).unattached program input why gives given none
@@ -228,18 +251,20 @@ module _ (asked : Option CommandOf) (holds : List ℕ → List ℕ → Type 0) (
   over_damaged read cause.Memory none content at found wanted told is = Gets.no_memory
 
   -- the case of a command that makes a volume
-  of_making : (P : List ℕ → ℕ → Type 0) (pages : ℕ) (bytes : List ℕ) (status : ℕ) → asked ≡ Some (a_volume pages) →
+  of_making : (P : List ℕ → ℕ → Type 0) (pages : ℕ) (bytes : List ℕ) (status : ℕ) → asked ≡ Some (a_volume pages) → P memory_line 5 →
       ((p : ℕ) (bs : List ℕ) (n : ℕ) → IsMakingDue p old new bs n → P bs n) → Dues bytes status → P bytes status
-  of_making P pages bytes status is made (Due.no_command none left) = absurd (not_both asked (a_volume pages) none is)
-  of_making P pages bytes status is made (Due.unready {run = run} is' why left) = absurd (run_or_volume asked run pages is' is)
-  of_making P pages bytes status is made (Due.unattached {run = run} input is' gives given why left) = absurd (run_or_volume asked run pages is' is)
-  of_making P pages bytes status is made (Due.ran {run = run} is' gives given comes kept) = absurd (run_or_volume asked run pages is' is)
-  of_making P pages bytes status is made (Due.making {pages = p} is' due) = made p bytes status due
+  of_making P pages bytes status is lacks made (Due.no_command none left) = absurd (not_both asked (a_volume pages) none is)
+  of_making P pages bytes status is lacks made (Due.no_memory left) = lacks
+  of_making P pages bytes status is lacks made (Due.told {text = text} is' left) = absurd (volume_or_text asked pages text is is')
+  of_making P pages bytes status is lacks made (Due.unready {run = run} is' why left) = absurd (run_or_volume asked run pages is' is)
+  of_making P pages bytes status is lacks made (Due.unattached {run = run} input is' gives given why left) = absurd (run_or_volume asked run pages is' is)
+  of_making P pages bytes status is lacks made (Due.ran {run = run} is' gives given comes kept) = absurd (run_or_volume asked run pages is' is)
+  of_making P pages bytes status is lacks made (Due.making {pages = p} is' due) = made p bytes status due
 
   pub volume_made : (pages : ℕ) (content bytes : List ℕ) (status : ℕ) → asked ≡ Some (a_volume pages) → old.contents content → IsNone content → Dues bytes status →
       GetsOrFails Faulted [] 0 bytes status
   volume_made pages content bytes status is told none due =
-      of_making (λ bs n. GetsOrFails Faulted [] 0 bs n) pages bytes status is (λ p bs n d. made_of p bs n d) due
+      of_making (λ bs n. GetsOrFails Faulted [] 0 bs n) pages bytes status is GetsOrFails.no_memory (λ p bs n d. made_of p bs n d) due
     where
       made_of : (p : ℕ) (bs : List ℕ) (n : ℕ) → IsMakingDue p old new bs n → GetsOrFails Faulted [] 0 bs n
       made_of p bs n (making.made was stands) = GetsOrFails.own
@@ -249,7 +274,7 @@ module _ (asked : Option CommandOf) (holds : List ℕ → List ℕ → Type 0) (
   pub volume_kept : (pages : ℕ) (content bytes : List ℕ) (status : ℕ) → asked ≡ Some (a_volume pages) → old.contents content → IsOpen content → Dues bytes status →
       GetsOrFails Faulted already_line 14 bytes status
   volume_kept pages content bytes status is told opens due =
-      of_making (λ bs n. GetsOrFails Faulted already_line 14 bs n) pages bytes status is (λ p bs n d. kept_of p bs n d) due
+      of_making (λ bs n. GetsOrFails Faulted already_line 14 bs n) pages bytes status is GetsOrFails.no_memory (λ p bs n d. kept_of p bs n d) due
     where
       kept_of : (p : ℕ) (bs : List ℕ) (n : ℕ) → IsMakingDue p old new bs n → GetsOrFails Faulted already_line 14 bs n
       kept_of p bs n (making.made was stands) = absurd (none_or_open content (was content told) opens)

@@ -18,7 +18,7 @@ use Rattle.ps_volumes.specs.Attaching.{Keeps, KeepsHeld, KeepsVolume, IsWhyNone}
 use Rattle.ps_volumes.specs.Making.{IsMade, IsMakingDue}
 use Rattle.ps_volumes.specs.Making as making
 use Rattle.ps_volumes.proofs.Settled.{keeps_then, held_then, from_then, device_kept, answers_keep}
-use Rattle.ps_words.specs.Words.{CommandOf, a_run, a_volume}
+use Rattle.ps_args.specs.Words.{CommandOf, a_run, a_text, a_volume}
 use Rattle.ps_causes.specs.Command.{Due, LeavesAsAsked, Why, WhyEnds}
 
 module _ (old mid new : Outside (List ℕ)) (left : LeavesDevice mid new) (told : KeepsTold mid new) where
@@ -49,6 +49,8 @@ module _ (old mid new : Outside (List ℕ)) (left : LeavesDevice mid new) (told 
   module _ (asked : Option CommandOf) (holds : List ℕ → List ℕ → Type 0) (lacks may_fail : List ℕ → Type 0) (failed : Type 0) where
     pub still_due : (bytes : List ℕ) (status : ℕ) → Due asked holds lacks may_fail failed old mid bytes status → Due asked holds lacks may_fail failed old new bytes status
     still_due bytes status (Due.no_command none was) = Due.no_command none (device_then old mid new was left)
+    still_due bytes status (Due.no_memory was) = Due.no_memory (device_then old mid new was left)
+    still_due bytes status (Due.told is was) = Due.told is (device_then old mid new was left)
     still_due bytes status (Due.unready is why was) = Due.unready is why (device_then old mid new was left)
     still_due bytes status (Due.unattached input {cause = cause} is g given none kept) = Due.unattached input is g given (still_none cause none) (still_held kept)
     still_due bytes status (Due.ran is g given comes kept) = Due.ran is g given comes (still_attached kept)
@@ -57,6 +59,7 @@ module _ (old mid new : Outside (List ℕ)) (left : LeavesDevice mid new) (told 
   still_left : (asked : Option CommandOf) → LeavesAsAsked asked old mid → LeavesAsAsked asked old new
   still_left None is = still_kept is
   still_left (Some (a_run run)) is = still_held is
+  still_left (Some (a_text text)) is = still_kept is
   still_left (Some (a_volume pages)) is = (along_then is.0 left.images (along_now is.0), shuts_then pages old mid new is.1 left.images)
 
 module _ {H : Type 0} (outside : H → Outside (List ℕ)) (old mid new : H) (asked : Option CommandOf) (holds : List ℕ → List ℕ → Type 0) (lacks may_fail : List ℕ → Type 0)

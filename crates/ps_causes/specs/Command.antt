@@ -1,5 +1,5 @@
 -- What a command answers, and why.
-use Rattle.std.specs.Prelude.{◌≡◌, ℕ, ◌<◌, ◌≤◌, List, [], ◌++◌, length, Option, Some, None, Result}
+use Rattle.std.specs.Prelude.{◌≡◌, ℕ, ◌<◌, ◌≤◌, List, [], ◌∷◌, ◌++◌, length, Option, Some, None, option_and_then, Result}
 use Rattle.ps_meaning.specs.ps_base.Limits.{most_text_bytes as LONGEST_TEXT}
 use Rattle.ps_meaning.specs.ps_base.declared.line.Line.{Line}
 use Rattle.ps_built.specs.ps_program.Node.{BodyNode}
@@ -9,7 +9,7 @@ use Rattle.ps_port.specs.Texts.{IsTextOf}
 use Rattle.ps_volumes.specs.paged_volume.Making.{IsMaking}
 use Rattle.ps_volumes.specs.paged_volume.Opening.{ShutsAt}
 use Rattle.ps_volumes.specs.volume_parts.declared.open_fault.OpenFault.{OpenFault}
-use Rattle.ps_words.specs.Words.{RunOf, CommandOf, a_run, a_volume}
+use Rattle.ps_args.specs.Words.{RunOf, CommandOf, a_run, a_text, a_volume}
 use Rattle.ps_volumes.specs.ps_reports.Reports.{usage_line, memory_line, unreadable_line, too_long_line, fault_line, area_full_line, device_line}
 use Rattle.ps_volumes.specs.ps_reports.declared.status.Status.{Status}
 use Rattle.ps_volumes.specs.ps_reports.declared.report.Report.{Report}
@@ -75,12 +75,29 @@ pub data Unready (run : RunOf) (holds : List ℕ → List ℕ → Type 0) (lacks
   -- there was no memory
   no_memory : Unready run holds lacks may_fail failed memory_line 5
 
+-- what the program carries out of what words ask for: a run of more than one text isn't carried out yet, as if the words were no command
+abbrev pub run_done : RunOf → List (List ℕ) → Option CommandOf
+run_done run [] = Some (a_run run)
+run_done run (file ∷ further) = None
+
+abbrev pub done_of : CommandOf → Option CommandOf
+done_of (a_run run) = run_done run run.further
+done_of (a_volume pages) = Some (a_volume pages)
+done_of (a_text text) = Some (a_text text)
+
+abbrev pub carried_out : Option CommandOf → Option CommandOf
+carried_out asked = option_and_then done_of asked
+
 -- What the words ask for, over a shelf that holds these texts, lacks these names, and may fail to read texts of those, and over this device, calls for
 -- these bytes to be output and this status to be answered. `failed` says that the shelf's faults rose in this call. A refusal before the volume is
 -- attached makes no call of the device, and a run leaves in the volume what was held: the same words under the same directory.
 pub data Due (asked : Option CommandOf) (holds : List ℕ → List ℕ → Type 0) (lacks may_fail : List ℕ → Type 0) (failed : Type 0) (old new : Outside (List ℕ)) : List ℕ → ℕ → Type 0 where
   -- the words are no command
   no_command : asked ≡ None → LeavesDevice old new → Due asked holds lacks may_fail failed old new usage_line 1
+  -- there was no memory to read the words
+  no_memory : LeavesDevice old new → Due asked holds lacks may_fail failed old new memory_line 5
+  -- a text that tells of the program
+  told : {text : List ℕ} → asked ≡ Some (a_text text) → LeavesDevice old new → Due asked holds lacks may_fail failed old new text 0
   -- a run isn't begun
   unready : {run : RunOf} {bytes : List ℕ} {status : ℕ} → asked ≡ Some (a_run run) → Unready run holds lacks may_fail failed bytes status → LeavesDevice old new →
       Due asked holds lacks may_fail failed old new bytes status
@@ -95,10 +112,12 @@ pub data Due (asked : Option CommandOf) (holds : List ℕ → List ℕ → Type 
   making : {pages : ℕ} {bytes : List ℕ} {status : ℕ} → asked ≡ Some (a_volume pages) → IsMakingDue pages old new bytes status →
       Due asked holds lacks may_fail failed old new bytes status
 
--- what a command leaves of the device: a run leaves in the volume what was held, the same words under the same directory, and words that are no command leave it as it is
+-- what a command leaves of the device: a run leaves in the volume what was held, the same words under the same directory, and words that ask for a text or are no
+-- command leave it as it is
 abbrev pub LeavesBy : CommandOf → Outside (List ℕ) → Outside (List ℕ) → Type 0
 LeavesBy (a_run run) old new = KeepsHeld old new
 LeavesBy (a_volume pages) old new = Leaves old new (IsMaking old pages) × ShutsAt pages old new
+LeavesBy (a_text text) old new = Keeps old new
 
 abbrev pub LeavesAsAsked : Option CommandOf → Outside (List ℕ) → Outside (List ℕ) → Type 0
 LeavesAsAsked None old new = Keeps old new
@@ -132,9 +151,15 @@ pub data Gets (read may_fail : List ℕ → Type 0) (failed device_failed : Type
   unreadable : {name : List ℕ} → read name → may_fail name → failed → Gets read may_fail failed device_failed told due (unreadable_line name) 7
   no_device : device_failed → Gets read may_fail failed device_failed told due device_line 6
 
--- What is due is this, or the device failed.
+-- What is due is this, or there was no memory.
+pub data GetsOrLacks (told : List ℕ) (due : ℕ) : List ℕ → ℕ → Type 0 where
+  own : GetsOrLacks told due told due
+  no_memory : GetsOrLacks told due memory_line 5
+
+-- What is due is this; or there was no memory, or the device failed.
 pub data GetsOrFails (device_failed : Type 0) (told : List ℕ) (due : ℕ) : List ℕ → ℕ → Type 0 where
   own : GetsOrFails device_failed told due told due
+  no_memory : GetsOrFails device_failed told due memory_line 5
   no_device : device_failed → GetsOrFails device_failed told due device_line 6
 
 -- What is due is what the program returns with this input; or there was no memory; or a name that is read may fail to be, and the shelf's faults

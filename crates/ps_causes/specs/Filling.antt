@@ -4,7 +4,7 @@ use Rattle.ps_built.specs.ps_program.Node.{BodyNode}
 use Rattle.ps_meaning.specs.ps_heap.Events.{Event}
 use Rattle.ps_meaning.specs.Runs.{over_nothing, events_with, fresh_store}
 use Rattle.ps_meaning.specs.ps_heap.Weights.{code_weight}
-use Rattle.ps_words.specs.Words.{RunOf}
+use Rattle.ps_args.specs.Words.{RunOf}
 use Rattle.ps_unit_weights.specs.ps_gen.Units.{unit_of}
 use Rattle.ps_unit_weights.specs.proc_values.Units.{unit_objects}
 use Rattle.ps_unit_weights.specs.Weights.{weight_as_unit}

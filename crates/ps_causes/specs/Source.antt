@@ -1,10 +1,10 @@
 -- Which text is a program, and where the first fault of one that isn't stands.
 use Rattle.std.specs.Prelude.{◌≡◌, ℕ, List, Some, None, codes}
 use Rattle.ps_meaning.specs.ps_base.declared.line.Line.{Line}
-use Rattle.ps_words.specs.ps_scan.declared.token.Token.{Token}
-use Rattle.ps_words.specs.ps_scan.declared.fault.ScanFault.{ScanFault}
-use Rattle.ps_words.specs.ps_scan.Tokens.{HasTokens, HasFault}
-use Rattle.ps_words.specs.ps_scan.Fault as scanning
+use Rattle.ps_args.specs.ps_scan.declared.token.Token.{Token}
+use Rattle.ps_args.specs.ps_scan.declared.fault.ScanFault.{ScanFault}
+use Rattle.ps_args.specs.ps_scan.Tokens.{HasTokens, HasFault}
+use Rattle.ps_args.specs.ps_scan.Fault as scanning
 use Rattle.ps_parse.specs.ps_tree.declared.fault.ParseFault.{ParseFault}
 use Rattle.ps_parse.specs.ps_tree.Phrase.{Phrase}
 use Rattle.ps_parse.specs.Program.{ReadsAs, IsParseFault}

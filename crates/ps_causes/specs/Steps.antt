@@ -3,7 +3,7 @@ use Rattle.std.specs.Prelude.{◌≡◌, ℕ, List, Result, Err}
 use Rattle.ps_meaning.specs.ps_base.declared.line.Line.{Line}
 use Rattle.ps_built.specs.ps_program.Node.{BodyNode}
 use Rattle.ps_port.specs.ps_outside.Outside.{Outside}
-use Rattle.ps_words.specs.Words.{RunOf}
+use Rattle.ps_args.specs.Words.{RunOf}
 use Rattle.ps_volumes.specs.ps_reports.declared.status.Status.{Status}
 use Rattle.ps_volumes.specs.ps_reports.declared.report.Report.{Report}
 use Rattle.ps_volumes.specs.ps_reports.declared.report.Report.TheVariants.{NoMemory}

@@ -6,19 +6,24 @@ ghost use Rattle.ps_meaning.specs.ps_base.declared.line.Line.{Line};
 ghost use Rattle.ps_port.specs.ps_outside.Outside.{Rose};
 ghost use Rattle.ps_volumes.specs.paged_volume.Found.{found_in, no_volume, damaged, damage};
 ghost use Rattle.ps_volumes.specs.volume_parts.Making.{IsNone};
-ghost use Rattle.ps_words.specs.Words.{RunOf, a_run, a_volume};
+ghost use Rattle.ps_args.specs.Words.{RunOf, a_run, a_text, a_volume};
 ghost use Rattle.ps_volumes.specs.ps_reports.Answering.{Answers};
 ghost use Rattle.ps_volumes.specs.ps_reports.Reports.{usage_line, unreadable_line, too_long_line, fault_line, not_a_volume_line, damaged_line, already_line};
 ghost use Rattle.ps_volumes.specs.Attaching.{HasVolume};
 ghost use Rattle.ps_volumes.specs.Making.{IsOpen};
-ghost use Rattle.ps_causes.specs.Command.{Due, Gets, GetsOrFails, GetsRun, HoldsInput, IsRead};
+ghost use Rattle.ps_causes.specs.Command.{Due, Gets, GetsOrFails, GetsOrLacks, GetsRun, HoldsInput, IsRead};
 ghost use Rattle.ps_causes.specs.Source.{IsProgram, IsSourceFault};
 
 use ps_port::{Host, Shelf};
 
-/// Words that are no command get the usage line and 1.
+/// Words that are no command get the usage line and 1; or there was no memory.
 pub fn no_command_gets_usage<H: Host, S: Shelf>(host: &H, back: &H, shelf: &S)
-    ensures { (before after status : ℕ) (bytes : List ℕ) → Due None (S.holds shelf.now) (S.lacks shelf.now) (S.may_fail shelf.now) (Rose before after) (H.outside host.now) (H.outside back.now) bytes status → (bytes ≡ usage_line) × (status ≡ 1) }
+    ensures { (before after status : ℕ) (bytes : List ℕ) → Due None (S.holds shelf.now) (S.lacks shelf.now) (S.may_fail shelf.now) (Rose before after) (H.outside host.now) (H.outside back.now) bytes status → GetsOrLacks usage_line 1 bytes status }
+{}
+
+/// Words that ask for a text that tells of the program get that text and 0; or there was no memory.
+pub fn text_is_told<H: Host, S: Shelf>(host: &H, back: &H, shelf: &S)
+    ensures { (before after status : ℕ) (bytes text : List ℕ) → Due (Some (a_text text)) (S.holds shelf.now) (S.lacks shelf.now) (S.may_fail shelf.now) (Rose before after) (H.outside host.now) (H.outside back.now) bytes status → GetsOrLacks text 0 bytes status }
 {}
 
 /// A name that the shelf lacks gets 7, or the refusal for want of memory.
@@ -66,12 +71,12 @@ pub fn damaged_volume_is_refused<H: Host, S: Shelf>(host: &H, back: &H, shelf: &
     ensures { (before after status : ℕ) (bytes text input : List ℕ) (run : RunOf) (program : BodyNode) → S.holds shelf.now run.file text → length text ≤ LONGEST_TEXT → IsProgram text program → HoldsInput (S.holds shelf.now) run.input input → (content : List ℕ) (at found wanted : ℕ) → (H.outside host.now).contents content → found_in content ≡ damaged (damage at found wanted) → Due (Some (a_run run)) (S.holds shelf.now) (S.lacks shelf.now) (S.may_fail shelf.now) (Rose before after) (H.outside host.now) (H.outside back.now) bytes status → Gets (IsRead run) (S.may_fail shelf.now) (Rose before after) (Rose (H.outside host.now).device_faults (H.outside back.now).device_faults) (damaged_line at found wanted) 10 bytes status }
 {}
 
-/// A new volume over a host that tells of a file that is no volume is made: 0, and nothing is output; or the device failed.
+/// A new volume over a host that tells of a file that is no volume is made: 0, and nothing is output; or there was no memory, or the device failed.
 pub fn volume_is_made<H: Host, S: Shelf>(host: &H, back: &H, shelf: &S)
     ensures { (before after status pages : ℕ) (bytes content : List ℕ) → (H.outside host.now).contents content → IsNone content → Due (Some (a_volume pages)) (S.holds shelf.now) (S.lacks shelf.now) (S.may_fail shelf.now) (Rose before after) (H.outside host.now) (H.outside back.now) bytes status → GetsOrFails (Rose (H.outside host.now).device_faults (H.outside back.now).device_faults) [] 0 bytes status }
 {}
 
-/// Over a host that tells of a file with an open gate it gets 14; or the device failed.
+/// Over a host that tells of a file with an open gate it gets 14; or there was no memory, or the device failed.
 pub fn volume_there_is_kept<H: Host, S: Shelf>(host: &H, back: &H, shelf: &S)
     ensures { (before after status pages : ℕ) (bytes content : List ℕ) → (H.outside host.now).contents content → IsOpen content → Due (Some (a_volume pages)) (S.holds shelf.now) (S.lacks shelf.now) (S.may_fail shelf.now) (Rose before after) (H.outside host.now) (H.outside back.now) bytes status → GetsOrFails (Rose (H.outside host.now).device_faults (H.outside back.now).device_faults) already_line 14 bytes status }
 {}

@@ -1,6 +1,6 @@
 -- Why each end of a command comes.
-use Rattle.std.proofs.Common.{◌≡◌, ℕ, ◌≤◌, ◌↔◌, inl, inr, List, Option, Some, None, refl, sym, ap, ◌∙◌, subst, arith}
-use Rattle.std.specs.Prelude.{Result, Ok, Err, IfErr, IsErrOf, IsErrAnd, codes}
+use Rattle.std.proofs.Common.{◌≡◌, ℕ, ◌≤◌, ◌↔◌, inl, inr, List, [], ◌∷◌, Option, Some, None, refl, sym, ap, ◌∙◌, subst, arith}
+use Rattle.std.specs.Prelude.{Result, Ok, Err, IfErr, IsErrOf, IsErrAnd, codes, map}
 use Rattle.std.proofs.lemmas.Result.{err_from_is_err_and}
 use Rattle.ps_base.specs.Limits.{most_text_bytes as LONGEST_TEXT}
 use Rattle.ps_program.specs.Node.{BodyNode}
@@ -9,7 +9,10 @@ use Rattle.ps_port.specs.ps_outside.Outside.{Rose, Outside}
 use Rattle.ps_port.specs.Texts.{TooLongFor}
 use Rattle.ps_port.specs.declared.shelf.ShelfFault.{ShelfFault}
 use Rattle.ps_port.specs.declared.shelf.ShelfFault.TheVariants.{Failed, TooLong}
+use Rattle.ps_port.specs.Telling.{LeavesDevice}
+use Rattle.ps_port.specs.DiskLaws.{torn_none}
 use Rattle.ps_port.proofs.Telling.{all_none, device_none}
+use Rattle.ps_port.proofs.of_ps_outside.Moments.{along_weaker}
 use Rattle.ps_causes.specs.ps_scan.Fault as scanning
 use Rattle.ps_tree.specs.Fault as parsing
 use Rattle.ps_causes.specs.ps_typing.Fault.{Fault}
@@ -19,7 +22,10 @@ use Rattle.ps_check.specs.ps_declared.declared.fault.CheckFault.TheVariants.{Unk
 use Rattle.ps_check.specs.ps_declared.Faults as checking
 use Rattle.ps_command.specs.declared.source_fault.SourceFault.{SourceFault}
 use Rattle.ps_command.specs.declared.source_fault.SourceFault.TheVariants as source
-use Rattle.ps_causes.specs.ps_words.Words.{RunOf, a_run, a_volume}
+use Rattle.ps_causes.specs.ps_args.Words.{RunOf, CommandOf, a_run, a_text, a_volume}
+use Rattle.ps_causes.specs.ps_args.Reading.{ReadsAs, command_in}
+use Rattle.ps_causes.specs.ps_args.declared.words.ArgsFault.{ArgsFault}
+use Rattle.ps_causes.specs.ps_args.declared.words.ArgsFault.TheVariants as words
 use Rattle.ps_causes.specs.ps_reports.declared.status.Status.{Status}
 use Rattle.ps_causes.specs.ps_reports.declared.status.Status.TheVariants.{Done}
 use Rattle.ps_causes.specs.ps_reports.declared.report.Report.{Report}
@@ -27,18 +33,20 @@ use Rattle.ps_causes.specs.ps_reports.declared.report.Report.TheVariants as repo
 use Rattle.ps_causes.specs.ps_reports.Reporting.{line_of, status_of, name_of}
 use Rattle.ps_causes.specs.ps_reports.Statuses.{number_of as number_of_status}
 use Rattle.ps_causes.specs.ps_reports.Reports.{fault_line}
-use Rattle.ps_causes.specs.ps_reports.Answering.{ended, reported, whole}
+use Rattle.ps_causes.specs.ps_reports.Answering.{Answers, ended, reported, whole}
 use Rattle.ps_causes.proofs.of_ps_reports.Behind.{told_none, reports_alone}
+use Rattle.ps_causes.specs.ps_volumes.paged_volume.Opening.{not_shut}
 use Rattle.ps_causes.specs.ps_volumes.Attaching.{report_for, IsUnattached}
 use Rattle.ps_causes.specs.ps_volumes.Making.{Makes}
 use Rattle.ps_causes.proofs.of_ps_volumes.Settled.{device_kept, held_kept}
 use Rattle.ps_causes.specs.Source.{IsProgram, IsSourceFault, in_scan, in_parse, in_check}
 use Rattle.ps_causes.specs.Source as told
-use Rattle.ps_causes.specs.Command.{Gives, GivesTooLong, GivesInput, GivesProgram, IsUnread, Unready, Due, WhyEnds}
+use Rattle.ps_causes.specs.Command.{Gives, GivesTooLong, GivesInput, GivesProgram, IsUnread, Unready, Due, LeavesAsAsked, WhyEnds, carried_out, run_done}
 use Rattle.ps_causes.specs.Steps.{RefusalWhy, ProgramWhy, UnreadWhy}
 use Rattle.ps_causes.specs.Steps as steps
 use Rattle.ps_command.specs.inside.Refusal.{Refuses, stage_of, number_of, line_of_fault}
 use Rattle.ps_command.specs.inside.Steps.{IsInputUnread}
+use Rattle.ps_command.specs.inside.Words.{report_of}
 
 -- a number says that the refusal is no want of memory
 none_is_some : {A : Type 0} (x : A) → None ≡ Some x → ⊥
@@ -155,6 +163,21 @@ module _ (run : RunOf) (holds : List ℕ → List ℕ → Type 0) (lacks may_fai
       → Unready run holds lacks may_fail failed bytes status
   unready_by_input program bytes status gives is = of_input program run.input bytes status gives refl is
 
+-- calls of the output alone leave the device as any command does
+left_alone : (asked : Option CommandOf) (old new : Outside (List ℕ)) → LeavesDevice old new → LeavesAsAsked asked old new
+left_alone None old new is = device_kept old new is
+left_alone (Some (a_run run)) old new is = held_kept old new (device_kept old new is)
+left_alone (Some (a_text text)) old new is = device_kept old new is
+left_alone (Some (a_volume pages)) old new is = (
+  along_weaker is.images (λ image at. inl (record { from = image; was = at; by = torn_none 0 1 image })),
+  not_shut (along_weaker is.images (λ image at. record { from = image; was = at; by = torn_none 0 1 image })),
+)
+
+-- a run of more than one text isn't carried out
+pub many_none : {A : Type 0} (run : RunOf) (name : A → List ℕ) (files : List A) → (files ≡ [] → ⊥) → run_done run (map name files) ≡ None
+many_none run name [] some = absurd (some refl)
+many_none run name (file ∷ files) some = refl
+
 -- Why a command ends as it does.
 module _ (holds : List ℕ → List ℕ → Type 0) (lacks may_fail : List ℕ → Type 0) (failed : Type 0) where
   pub ends_in_usage : (old : Outside (List ℕ)) → WhyEnds old old None holds lacks may_fail failed (Err reports.Usage)
@@ -164,6 +187,34 @@ module _ (holds : List ℕ → List ℕ → Type 0) (lacks may_fail : List ℕ �
     due = Due.no_command refl (device_none old);
     ends = reported (all_none old);
     device = device_kept old old (device_none old);
+  }
+
+  -- there was no memory to read the words
+  ends_without_memory : (asked : Option CommandOf) (old : Outside (List ℕ)) → WhyEnds old old asked holds lacks may_fail failed (Err reports.NoMemory)
+  ends_without_memory asked old = record {
+    bytes = _;
+    status = _;
+    due = Due.no_memory (device_none old);
+    ends = reported (all_none old);
+    device = left_alone asked old old (device_none old);
+  }
+
+  -- the words weren't read
+  pub ends_refused : (fault : ArgsFault) (asked : Option CommandOf) (old : Outside (List ℕ)) → ReadsAs command_in asked (Err fault)
+      → WhyEnds old old (carried_out asked) holds lacks may_fail failed (Err (report_of fault))
+  ends_refused words.Usage asked old is =
+      subst (λ (a : Option CommandOf). WhyEnds old old a holds lacks may_fail failed (Err reports.Usage)) (sym (ap carried_out is)) (ends_in_usage old)
+  ends_refused words.Memory asked old is = ends_without_memory (carried_out asked) old
+
+  -- a text that tells of the program
+  pub ends_told : (old new : Outside (List ℕ)) (text : List ℕ) (status : Status) → Answers old new text 0 (number_of_status status) → LeavesDevice old new
+      → WhyEnds old new (Some (a_text text)) holds lacks may_fail failed (Ok status)
+  ends_told old new text status is left = record {
+    bytes = _;
+    status = _;
+    due = Due.told refl left;
+    ends = ended is;
+    device = left_alone (Some (a_text text)) old new left;
   }
 
   pub ends_unready : (old : Outside (List ℕ)) (run : RunOf) (report : Report) → Unready run holds lacks may_fail failed (line_of report) (number_of_status (status_of report))

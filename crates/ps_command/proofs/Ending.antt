@@ -1,5 +1,5 @@
 -- What a run of a program's unit returns is what the program means.
-use Rattle.std.proofs.Common.{◌≡◌, ◌⊎◌, inl, inr, rules, ℕ, ◌+◌, ◌*◌, ◌≤◌, List, [], ◌∷◌, ◌++◌, refl, sym, ap, ◌∙◌, subst, append_assoc, arith}
+use Rattle.std.proofs.Common.{◌≡◌, ◌⊎◌, inl, inr, rules, ℕ, ◌+◌, ◌*◌, ◌^◌, ◌<◌, ◌≤◌, List, length, [], ◌∷◌, ◌++◌, refl, sym, ap, ◌∙◌, subst, append_assoc, arith}
 use Rattle.std.specs.Prelude.{Bool, true, false, Result, Ok, Err, Some, None}
 use Rattle.std.specs.List.{AllByRecursion}
 use Rattle.std.proofs.lemmas.List.{append-nil}
@@ -12,7 +12,7 @@ use Rattle.ps_port.specs.ps_outside.Outside.{Outside, LeavesSame, TellsNothing, 
 use Rattle.ps_port.proofs.of_ps_outside.Moments.{along_then, along_now}
 use Rattle.ps_port.specs.ps_outside.Past.{KeepsTold}
 use Rattle.ps_port.proofs.of_ps_outside.PastMoments.{past_along}
-use Rattle.ps_unit_weights.specs.proc_values.Units.{unit_objects, unit_words}
+use Rattle.ps_unit_weights.specs.proc_values.Units.{HasConstants, unit_objects, unit_words}
 use Rattle.ps_program.specs.Node.{BodyNode, body}
 use Rattle.ps_program.specs.Slots.{slot_count}
 use Rattle.ps_causes.specs.ps_typing.WellTyped.{IsWellTyped}
@@ -21,7 +21,7 @@ use Rattle.ps_code_laws.proofs.of_ps_typing_laws.Tracked.{program_counted}
 use Rattle.ps_causes.specs.ps_heap.Ends.{End, Done, report_of, status_of}
 use Rattle.ps_causes.specs.ps_meaning.ps_heap.Events.{Event, Finish, outputs, output_of}
 use Rattle.ps_causes.specs.ps_meaning.ps_heap.Values.{Routine, as_written, as_compiled}
-use Rattle.ps_causes.specs.ps_meaning.ps_heap.Held.{nothing_stored}
+use Rattle.ps_causes.specs.ps_meaning.ps_heap.Held.{nothing_stored, row}
 use Rattle.ps_causes.specs.ps_meaning.Meaning.{Outcome, Value_is, Ends}
 use Rattle.ps_causes.specs.ps_meaning.Runs.{Given, over_nothing, events_with, run_events, run_end, outcome_of, all_events, end_reached, fresh_store}
 use Rattle.ps_causes.specs.ps_heap.Weights.{code_weight, routine_weight}
@@ -52,7 +52,10 @@ use Rattle.machine_run.specs.machine_core.Full.{MakesOne, EntersOne, StoresOne}
 use Rattle.machine_run.specs.machine_core.Holding.{Holds}
 use Rattle.machine_run.specs.machine_core.ps_stepping.Plain.{is_plain, PlainSteps, at_plain, at_another, at_none}
 use Rattle.machine_run.specs.machine_core.Stepped.{end_of}
-use Rattle.machine_run.proofs.of_joint_ops.CodeLaws.{no-names}
+use Rattle.machine_run.specs.machine_core.joint_ops.obj_area.Words.{AreWords}
+use Rattle.machine_run.specs.machine_core.joint_held.Held.{HoldsRun, IsOneStore}
+use Rattle.joint_held.proofs.EmptyLaws.{empty-run}
+use Rattle.joint_held.proofs.ImageLaws.{all-words}
 use Rattle.machine_run.specs.Loaded.{IsFrame, IsLoaded, EndsBefore, HasNoRoom, RunsAs, itself, LoadsUnit, Loads}
 use Rattle.machine_run.specs.Loaded as load
 use Rattle.machine_run.specs.Ran as vault
@@ -61,7 +64,7 @@ use Rattle.machine_run.proofs.Counting.{next_counted}
 use Rattle.machine_run.proofs.Between.{goes_plainly}
 use Rattle.no_store.specs.NoObjects.{outside_of}
 use Rattle.no_store.proofs.HoldingLaws.{holds-nothing, device-left}
-use Rattle.ps_causes.specs.ps_words.Words.{RunOf}
+use Rattle.ps_causes.specs.ps_args.Words.{RunOf}
 use Rattle.ps_causes.specs.ps_reports.declared.status.Status.{Status}
 use Rattle.ps_causes.specs.ps_reports.declared.status.Status.TheVariants as statuses
 use Rattle.ps_causes.specs.ps_reports.declared.report.Report.{Report}
@@ -163,7 +166,28 @@ nothing_fits = search rules
 abbrev pub AreWeighed : Type 0
 AreWeighed = (of : BodyNode) → 8 + 8 * unit_words (unit_of of) ≤ code_weight of
 
-module _ (unit : CodeUnit) (run : RunOf) (input : List ℕ) (program : BodyNode) (are_run : AreRun) (are_weighed : AreWeighed) (are_counted : AreCounted) (r : IsRunnable unit program) (old m : Machine) where
+abbrev pub AreConstant : Type 0
+AreConstant = (of : BodyNode) → HasConstants (unit_of of)
+
+-- The vault without objects holds one space, word 0 alone: so a run that has nothing yet begins over it.
+first-word : AreWords (0 ∷ [])
+first-word = all-words (0 ∷ []) (omega arith, tt)
+
+word-store : (host : Outside (List ℕ)) → IsOneStore (outside_of host)
+word-store host = record {
+  one = λ a b p q. p ∙ sym q;
+  wide = λ space is. subst (λ (s : Space). AreWords s.words) (sym is) first-word;
+  small = λ space is. subst (λ (s : Space). length s.words < 2 ^ 30) (sym is) (omega arith);
+}
+
+begins-empty : (host : Outside (List ℕ)) (size turns count : ℕ) (input : List ℕ)
+    → HoldsRun (fresh_heap size) (outside_of host) [] [] None (fresh_store weight_as_unit (over_nothing turns input) count).held
+unfolding row
+begins-empty host size turns count input =
+    empty-run (outside_of host) size (fresh_store weight_as_unit (over_nothing turns input) count).held (word-store host) refl
+    (record { objects = refl; homes = refl; directory = refl; openings = refl; created = refl; assigned = refl })
+
+module _ (unit : CodeUnit) (run : RunOf) (input : List ℕ) (program : BodyNode) (are_run : AreRun) (are_weighed : AreWeighed) (are_constant : AreConstant) (are_counted : AreCounted) (r : IsRunnable unit program) (old m : Machine) where
   runs : RunsBy is_plain (unit_events run input program) (begin run input program) []
   runs =
       are_run is_plain program weight_as_unit (over_nothing run.turns input) weighs_units nothing_fits r.typed r.runs r.valued r.simple r.units r.plain
@@ -172,15 +196,15 @@ module _ (unit : CodeUnit) (run : RunOf) (input : List ℕ) (program : BodyNode)
   weighs = subst (λ (u : UnitView). 8 + 8 * unit_words u ≤ code_weight program) (sym r.unit_is) (are_weighed program)
 
   -- a machine that was loaded is ready
-  pub ready : (outside : Outside Space) → old.objects.size ≡ area_size run → IsLoaded outside (unit_view unit) run.turns input old m
-      → IsReady outside run input program m
-  ready outside size l = record {
+  pub ready : (host : Outside (List ℕ)) → old.objects.size ≡ area_size run → IsLoaded (outside_of host) (unit_view unit) run.turns input old m
+      → IsReady (outside_of host) run input program m
+  ready host size l = record {
     sound = l.sound;
     named = l.named;
     area = l.size ∙ size;
-    starts = subst (λ (u : UnitView). Holds outside m (start u (fresh_store weight_as_unit (over_nothing run.turns input) (code_weight program)))) r.unit_is
-        (l.starts (fresh_store weight_as_unit (over_nothing run.turns input) (code_weight program))
-        (record { names = []; world = no-names (fresh_heap old.objects.size) outside; turns_are = refl; input_is = refl }));
+    starts = subst (λ (u : UnitView). Holds (outside_of host) m (start u (fresh_store weight_as_unit (over_nothing run.turns input) (code_weight program)))) r.unit_is
+        (l.starts (subst HasConstants (sym r.unit_is) (are_constant program)) (fresh_store weight_as_unit (over_nothing run.turns input) (code_weight program))
+        (record { names = []; run = begins-empty host old.objects.size run.turns (code_weight program) input; unasked = refl; turns_are = refl; input_is = refl }));
     runs = runs;
     counted = are_counted weight_as_unit routine_weight (over_nothing run.turns input) program lighter;
   }

@@ -9,8 +9,8 @@ ghost use Rattle.machine_run.specs.swizzle.declared.fault.SwizzleFault.TheVarian
 ghost use Rattle.machine_run.specs.machine_core.Stepped.{end_of};
 ghost use Rattle.machine_run.specs.Loaded.{IsNew, IsRoomy, Loads};
 ghost use Rattle.no_store.specs.NoObjects.{outside_of};
-ghost use Rattle.ps_causes.specs.ps_words.Words.{RunOf};
-ghost use Rattle.ps_causes.specs.ps_words.Reading.{run_in, IsArea};
+ghost use Rattle.ps_causes.specs.ps_args.Words.{RunOf};
+ghost use Rattle.ps_causes.specs.ps_args.Reading.{run_in, IsArea};
 ghost use Rattle.ps_causes.specs.ps_reports.declared.report.Report.TheVariants as reports;
 ghost use Rattle.ps_causes.specs.ps_reports.Statuses.{number_of};
 ghost use Rattle.ps_causes.specs.Filling.{area_size};
@@ -27,12 +27,12 @@ use machine_run::vault_output::Output;
 use machine_run::{Machine, RunEnd};
 use no_store::NoStore;
 use ps_base::code_unit::CodeUnit;
+use ps_causes::ps_args::RunWords;
 use ps_causes::ps_reports::{Report, Status};
 use ps_causes::ps_volumes::{Unattached, attached};
-use ps_causes::ps_words::RunWords;
 use ps_code_laws::program_runs_as_meant;
 use ps_port::{Host, tell};
-use ps_unit_weights::units_weigh_as_counted;
+use ps_unit_weights::{generated_units_have_constants, units_weigh_as_counted};
 use std::alloc::Global;
 
 /// Runs what was prepared over the volume of the host, and gives its end beside the host. All memory is taken here, before the first event.
@@ -75,6 +75,7 @@ fn run_attached<H: Host>(
     heavier_code_counts_more();
     program_runs_as_meant();
     units_weigh_as_counted();
+    generated_units_have_constants();
     let mut m = m;
     let Prepared { unit, input } = prepared;
     let vault = NoStore::new(host);

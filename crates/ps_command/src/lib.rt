@@ -1,6 +1,6 @@
-//! The commands: a run of a PS-algol text, or a new volume, from the words to the status.
+//! The commands: a run of a PS-algol text, a new volume, or a text that tells of the program, from what was read of the words to the status.
 //!
-//! The way through it is `command::psalgol`, `ps_words::read_words`, `prepare::prepare`, which reads and compiles, and then `execute::execute`, which
+//! `ps_args::read_words` reads the words. The way from there is `command::psalgol`, `prepare::prepare`, which reads and compiles, and then `execute::execute`, which
 //! attaches the volume and runs the machine of machine_run. `ps_causes` says why each answer comes.
 #![tactic(auto)]
 
@@ -12,4 +12,4 @@ mod source_fault;
 
 pub use command::psalgol;
 pub use machine_run::obj_layout;
-pub use ps_causes::obj_store;
+pub use ps_causes::{obj_store, ps_args};

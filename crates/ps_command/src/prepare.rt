@@ -8,15 +8,15 @@ ghost use Rattle.ps_causes.specs.Source.{IsProgram};
 ghost use Rattle.ps_causes.specs.Steps.{RefusalWhy, UnreadWhy};
 ghost use Rattle.ps_causes.specs.ps_reports.Reporting.{line_of, status_of};
 ghost use Rattle.ps_causes.specs.ps_reports.Statuses.{number_of};
-ghost use Rattle.ps_causes.specs.ps_words.Reading.{run_in};
+ghost use Rattle.ps_causes.specs.ps_args.Reading.{run_in};
 ghost use Rattle.ps_command.specs.inside.Refusal.{Refuses};
 ghost use Rattle.ps_command.specs.inside.Steps.{IsInputUnread, IsPrepared, IsRunnable};
 
 use crate::compile::compile;
 use crate::source_fault::SourceFault;
 use ps_base::code_unit::CodeUnit;
+use ps_causes::ps_args::RunWords;
 use ps_causes::ps_reports::Report;
-use ps_causes::ps_words::RunWords;
 use ps_port::{Shelf, ShelfFault};
 use std::alloc::Global;
 

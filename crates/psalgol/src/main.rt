@@ -1,8 +1,9 @@
 //! The program `psalgol`: the words of a process in, its status out.
 //!
-//! `ps_command` is the whole of it; `docs/architecture.md` tells the way of a program through the crates.
+//! `ps_args` reads the words, once, and `ps_command` does the rest; `docs/architecture.md` tells the way of a program through the crates.
 #![tactic(auto)]
 
+use ps_command::ps_args::{ArgsFault, Command, read_words};
 use ps_command::psalgol;
 use ps_port::{DirShelf, FileHost};
 use std::alloc::AllocError;
@@ -31,12 +32,17 @@ fn status(rt: &HostRuntime) -> u8 {
 
 // The file of the volume is made only where one is to be made there.
 fn run_words(rt: &HostRuntime, words: &[String]) -> Result<u8, AllocError> {
+    let read = read_words(rt.alloc(), words);
     let volume = words.get(1).map_or("", |word| word.as_str());
-    let create = words
-        .first()
-        .map_or(false, |word| word.as_str() == "format");
-    let host = FileHost::new(rt, rt.alloc(), volume, create)?;
+    let host = FileHost::new(rt, rt.alloc(), volume, makes_volume(&read))?;
     let mut shelf = DirShelf::new(rt, rt.alloc())?;
-    let (status, _) = psalgol(rt.alloc(), words, host, &mut shelf);
+    let (status, _) = psalgol(rt.alloc(), read, host, &mut shelf);
     Ok(status)
+}
+
+fn makes_volume(read: &Result<Command, ArgsFault>) -> bool {
+    match read {
+        Ok(Command::Format { .. }) => true,
+        _ => false,
+    }
 }

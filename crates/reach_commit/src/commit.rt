@@ -1,6 +1,6 @@
 //! The commit.
 ghost use Rattle.std.specs.Prelude.{◌≡◌, ◌⊎◌, ◌+◌, ◌≤◌, [], true, false, length, IfSome, OnOk, OnErr};
-ghost use Rattle.swizzle.specs.Heap.{IsHeld};
+ghost use Rattle.swizzle.specs.Heap.{IsHeld, top_of};
 ghost use Rattle.swizzle.specs.obj_layout.Storing.{SameUsers};
 ghost use Rattle.new_pids.specs.Giving.{AreBelow};
 ghost use Rattle.reach_commit.specs.Becoming.{AreNewRoots};
@@ -27,7 +27,7 @@ pub enum CommitAnswer {
 /// Commits: what the databases that are open for writing reach becomes stored, with its homes, and what was assigned is stored anew; all of it at once, or
 /// nothing. `writing` has those databases in the order in which they became open for writing, each with its root where it was made since the last commit;
 /// `directory` is the object that names all databases, those that were made too. It is tested first whether there is something to do. The images are made in
-/// the buffer, which has as many words as the area; what it holds afterwards means nothing. It takes no memory and fetches nothing. With no database open for
+/// the buffer, which has as many words as are used of the area; what it holds afterwards means nothing. It takes no memory and fetches nothing. With no database open for
 /// writing it stores nothing, and the vault needn't be one that may be written. After a fault the vault isn't alive, and the run ends: the area has the new PIDs, and a crash leaves what it could leave before, or all that was to be stored.
 pub fn commit<V: Vault>(
     sw: &mut Swizzle,
@@ -42,7 +42,7 @@ pub fn commit<V: Vault>(
     requires roots { AreNewRoots sw.old writing.now }
     requires directory { IfSome directory (IsHeld sw.old) }
     requires below { AreBelow sw.old (V.used_words vault.old) }
-    requires room { sw.old.size ≤ length buffer.old + 1 }
+    requires room { top_of sw.old ≤ length buffer.old + 1 }
     ensures decides { Decides sw.old writing.now result }
     ensures still { LeavesAll sw.old sw.new vault.old vault.new result }
     ensures stores { Stores sw.old sw.new writing.now directory (V.outside vault.old) (V.outside vault.new) (V.used_words vault.old) (V.used_words vault.new) (V.most_words vault.old) (V.directory_at vault.new) result }

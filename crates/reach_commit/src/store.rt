@@ -1,7 +1,7 @@
 //! Stores what a commit stores.
 ghost use Rattle.std.specs.Prelude.{◌≡◌, ◌+◌, ◌≤◌, [], true, length, IfSome, OnOk, MatchResult};
 ghost use Rattle.swizzle.specs.obj_layout.Storing.{DeadIfErr, SameUsers, all_settled, LacksPages};
-ghost use Rattle.swizzle.specs.Heap.{IsHeap, IsHeld};
+ghost use Rattle.swizzle.specs.Heap.{IsHeap, IsHeld, top_of};
 ghost use Rattle.new_pids.specs.Giving.{AreBelow};
 ghost use Rattle.reach_commit.specs.Deciding.{AreWritable};
 ghost use Rattle.reach_commit.specs.Becoming.{AreNewRoots};
@@ -70,7 +70,7 @@ pub fn store<V: Vault>(
     requires roots { AreNewRoots sw.old writing.now }
     requires directory { IfSome directory (IsHeld sw.old) }
     requires below { AreBelow sw.old (V.used_words vault.old) }
-    requires room { sw.old.size ≤ length buffer.old + 1 }
+    requires room { top_of sw.old ≤ length buffer.old + 1 }
     ensures stored { MatchResult result
         (λ saved. Saves sw.old sw.new writing.now directory (V.outside vault.old) (V.outside vault.new) (V.used_words vault.old) (V.used_words vault.new) (V.most_words vault.old) (V.directory_at vault.new) saved.fresh saved.rewritten)
         (BreaksOff sw.old sw.new writing.now directory (V.outside vault.old) (V.outside vault.new) (V.used_words vault.old) (V.most_words vault.old)) }

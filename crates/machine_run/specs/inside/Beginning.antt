@@ -1,5 +1,5 @@
 -- A machine at the start of a code object.
-use Rattle.std.specs.Prelude.{◌≡◌, ℕ, [], replicate, pos}
+use Rattle.std.specs.Prelude.{◌≡◌, ℕ, false, [], None, replicate, pos}
 use Rattle.ps_base.specs.declared.code_unit.Frame.{Frame}
 use Rattle.machine_core.specs.proc_values.declared.reading.CodePlace.{CodePlace}
 use Rattle.machine_core.specs.declared.machine.Machine.{Machine}
@@ -7,7 +7,7 @@ use Rattle.machine_core.specs.declared.stepped.Item.TheVariants as item
 use Rattle.machine_core.specs.Waiting.{IsOrderly}
 use Rattle.machine_run.specs.Loaded.{IsRoomy}
 
--- The locals are 0 and nil, nothing is pushed or waits, and nothing was written; objects and input stay.
+-- The locals are 0 and nil, nothing is pushed or waits, nothing was written, and no database was asked for; objects and input stay.
 pub record IsBegun (code : ℕ) (place : CodePlace) (frame : Frame) (turns : ℕ) (old new : Machine) : Type 0 where
   pub roomy : IsRoomy new
   pub objects : new.objects ≡ old.objects
@@ -24,4 +24,7 @@ pub record IsBegun (code : ℕ) (place : CodePlace) (frame : Frame) (turns : ℕ
   pub refs_below : new.refs.below ≡ []
   pub input : new.input ≡ old.input
   pub turns_are : new.turns ≡ turns
+  pub writing : new.databases.writing.items ≡ []
+  pub asked : new.databases.asked ≡ false
+  pub directory : new.databases.directory ≡ None
   pub item : new.writing.item ≡ item.Int (pos 0)

@@ -26,7 +26,7 @@ use Rattle.machine_core.specs.declared.stepped.Stepped.{Stepped}
 use Rattle.machine_core.specs.Holding.{HeldBy, HeldIn}
 use Rattle.machine_core.specs.Stepped.{Does}
 use Rattle.machine_operands.specs.Giving.{EndsSoundly}
-use Rattle.joint_tables.specs.Tables.{EntersKey, IsPntr}
+use Rattle.machine_core.specs.objects.Entering.{EntersRun}
 
 -- the object that was found is read and pushed, or nil is
 abbrev pub found_given : Option ℕ → Config → Step
@@ -55,8 +55,9 @@ module _ (before after : Outside Space) (old new : Machine) (answer : Stepped) (
 
   pub record EndsEnter (done : Result (Unit {0}) OpFault) : Type 0 where
     pub ends : EndsSoundly done (λ unit. Unit {0}) old new answer
-    pub does : (here : area.Heap) (names : List Reference) (c : Config) (key : Key) (operand : Option ℕ) (table v : Value) → HeldIn here before names old c
-        → IsPntr v → EntersKey here old.objects before after c.store.held.objects names operand table key v done → LeavesOutside before after
+    pub does : (here : area.Heap) (names : List Reference) (c : Config) (key : Key) (table v : Value) → HeldIn here before names old c
+        → EntersRun here old.objects before after names old.databases.writing.items old.databases.directory c.store.held table key v done
+        → LeavesOutside before after
         → Does before after here.size (pair_entered line key table v c) answer new
 
 -- A number of pairs is pushed, where it is an int.

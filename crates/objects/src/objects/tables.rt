@@ -14,7 +14,7 @@ ghost use Rattle.joint_ops.specs.ps_heap.Held.{Held};
 ghost use Rattle.joint_ops.specs.ps_heap.Values as meant;
 ghost use Rattle.joint_ops.specs.World.{IsWorld, DenotesIn, Answers, BreaksAsReading};
 ghost use Rattle.joint_ops.specs.Made.{Makes, BreaksAsMaking};
-ghost use Rattle.joint_tables.specs.Tables.{EntersKey, IsLastText, IsPntr, LooksUp, NextInt, NextText, entries_of, last_int_key};
+ghost use Rattle.joint_tables.specs.Tables.{IsLastText, IsPntr, LooksUp, NextInt, NextText, entries_of, last_int_key};
 ghost use Rattle.joint_tables.specs.table_lib.table_nodes.Sought.{IsTextHeld};
 ghost use Rattle.joint_held.specs.reach_commit.commit_walk.declared.homes.Source.{Source};
 ghost use Rattle.joint_held.specs.Held.{HoldsRun};
@@ -170,10 +170,6 @@ impl Objects {
         requires key { IsTextHeld self.old key }
         requires table { IfSome table (IsHeld self.old) }
         requires to { IfSome to (IsHeld self.old) }
-        ensures entered { (of : meaning.Heap) (names : List Reference) (bytes : List ℕ) (v w : meant.Value) → IsWorld self.old (V.outside vault.old) of names
-            → DenotesIn self.old (V.outside vault.old) names (Some key) (meant.Text bytes)
-            → DenotesIn self.old (V.outside vault.old) names table v → DenotesIn self.old (V.outside vault.old) names to w → IsPntr w
-            → EntersKey self.old self.new (V.outside vault.old) (V.outside vault.new) of names table v (string_key bytes) w result }
         ensures run { (names : List Reference) (writing : List Source) (directory : Option ℕ) (h : Held) (bytes : List ℕ) (v w : meant.Value) → HoldsRun self.old (V.outside vault.old) names writing directory h
             → DenotesIn self.old (V.outside vault.old) names (Some key) (meant.Text bytes)
             → DenotesIn self.old (V.outside vault.old) names table v → DenotesIn self.old (V.outside vault.old) names to w → IsPntr w
@@ -207,9 +203,6 @@ impl Objects {
         requires alive { V.alive vault.old }
         requires table { IfSome table (IsHeld self.old) }
         requires to { IfSome to (IsHeld self.old) }
-        ensures entered { (of : meaning.Heap) (names : List Reference) (v w : meant.Value) → IsWorld self.old (V.outside vault.old) of names
-            → DenotesIn self.old (V.outside vault.old) names table v → DenotesIn self.old (V.outside vault.old) names to w → IsPntr w
-            → EntersKey self.old self.new (V.outside vault.old) (V.outside vault.new) of names table v (int_key key) w result }
         ensures run { (names : List Reference) (writing : List Source) (directory : Option ℕ) (h : Held) (v w : meant.Value) → HoldsRun self.old (V.outside vault.old) names writing directory h
             → DenotesIn self.old (V.outside vault.old) names table v → DenotesIn self.old (V.outside vault.old) names to w → IsPntr w
             → EntersRun self.old self.new (V.outside vault.old) (V.outside vault.new) names writing directory h v (int_key key) w result }

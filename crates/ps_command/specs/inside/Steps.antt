@@ -10,7 +10,7 @@ use Rattle.ps_code_laws.specs.ps_soundness.Running.{BodyRuns}
 use Rattle.ps_code_laws.specs.ps_soundness.Shapes.{type_of_body}
 use Rattle.ps_code_laws.specs.ps_soundness.Valued.{IsValued}
 use Rattle.ps_unit_weights.specs.ps_gen.Units.{unit_of, instrs_of, HasUnit}
-use Rattle.ps_causes.specs.ps_words.Words.{RunOf}
+use Rattle.ps_causes.specs.ps_args.Words.{RunOf}
 use Rattle.ps_causes.specs.ps_meaning.Runs.{over_nothing, events_with, run_events}
 use Rattle.ps_code_laws.specs.ps_stepping.Machine.{RunsBy}
 use Rattle.count_laws.specs.Heavier.{AreLess}

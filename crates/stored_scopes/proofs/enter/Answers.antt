@@ -20,4 +20,5 @@ returns-in-Ok-clause-names c =
       below = kept.below;
       callers = kept.callers;
       item = kept.item;
+      databases = kept.databases;
     }

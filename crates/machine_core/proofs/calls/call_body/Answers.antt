@@ -81,7 +81,7 @@ returns-clause-calls g c =
     let out = g.V.Vault.outside v in
     record {
       sound = e.sound;
-      names = λ n there. names-entered body c.args.refs (record m { turns = t }) c.enter.new.m e (record { code = n.code; scope = n.scope; own = n.own; below = n.below; callers = n.callers; item = n.item }) there;
+      names = λ n there. names-entered body c.args.refs (record m { turns = t }) c.enter.new.m e (record { code = n.code; scope = n.scope; own = n.own; below = n.below; callers = n.callers; item = n.item; databases = n.databases }) there;
       size = ap (λ (n : Machine). n.objects.size) e.new_is;
       does = λ names conf of scope h is. (
         conf.store.held.counted,

@@ -16,6 +16,7 @@ returns-clause-names g c = λ n held.
       below = n.below;
       callers = n.callers;
       item = n.item;
+      databases = n.databases;
     }
 
 pub returns-clause-enters : goal.returns-clause-enters
@@ -35,6 +36,6 @@ returns-clause-enters g c =
         callers_are = h.callers_are;
         input_is = h.input_is;
         turns_are = h.turns_are;
-        world = h.world;
+        run = h.run;
       };
     }

@@ -1,4 +1,5 @@
-use Rattle.std.proofs.Common.{◌≡◌, subst, rules}
+use Rattle.std.proofs.Common.{◌≡◌, ℤ, subst, w32}
+use Rattle.std.proofs.lemmas.Int.{to_z-of_z}
 use Rattle.ps_stepping.specs.Machine.{with_num, back}
 use Rattle.joint_ops.specs.swizzle.Heap as area
 use Rattle.machine_core.specs.Stepped.{Does, UnlessBroken}
@@ -14,7 +15,8 @@ returns-clause-takes g c =
     λ v.
     let out = g.V.Vault.outside v in
     let t = c.back.ensures.takes v in
-    let set : Becomes out (λ conf. with_num conf c.args.slot c.args.z) m c.set_num_at.new.m = search (rules, c.set_num_at.ensures.becomes v) in
+    let set : Becomes out (λ conf. with_num conf c.args.slot c.args.z) m c.set_num_at.new.m =
+    subst (λ (z : ℤ). Becomes out (λ conf. with_num conf c.args.slot z) m c.set_num_at.new.m) (to_z-of_z w32 c.args.z c.ranges.z) (c.set_num_at.ensures.becomes v) in
     record {
       sound = t.sound;
       names = λ n. t.names (left.names n);

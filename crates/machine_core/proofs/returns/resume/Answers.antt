@@ -73,7 +73,7 @@ returns-clause-leaves g c =
       };
       objects = refl;
       values = refl;
-      names = λ n. names-resumed m.objects (words_of m) _ m.writing.item w n split refl refl refl (w.refs - 1) (length m.refs.below - w.refs) (length m.refs.below - w.refs) of_refs.own of_refs.below;
+      names = λ n. names-resumed m.objects (words_of m) _ m.writing.item w n split refl refl refl refl refl refl (w.refs - 1) (length m.refs.below - w.refs) (length m.refs.below - w.refs) of_refs.own of_refs.below;
     }
 
 pub returns-clause-resumes : goal.returns-clause-resumes

@@ -1,5 +1,6 @@
 use Rattle.std.proofs.Common.{◌≡◌, ℕ, Option, Some, ap, ◌∙◌, subst}
-use Rattle.std.specs.Prelude.{Ok}
+use Rattle.std.specs.Prelude.{Ok, Err}
+use Rattle.machine_core.specs.declared.stepped.Stepped.TheVariants.{Damaged}
 use Rattle.joint_procedures.specs.Units.{AnswersText}
 use Rattle.machine_operands.proofs.Reading.{constant-read, reading-ends}
 use Rattle.machine_operands.proofs.constants.text_constant.Goals as goal
@@ -17,3 +18,6 @@ returns-in-Some-clause-reads g c =
 
 pub returns-in-Some-clause-ends : goal.returns-in-Some-clause-ends
 returns-in-Some-clause-ends g c = reading-ends c.args.m.now c.text_of-got.new.self c.requires.sound (Ok c.in-Some.at) c.requires.names c.in-Ok.ensures.keeps
+
+pub returns-in-None-clause-ends : goal.returns-in-None-clause-ends
+returns-in-None-clause-ends g c = reading-ends c.args.m.now c.text_of-got.new.self c.requires.sound (Err Damaged) c.requires.names c.in-Ok.ensures.keeps

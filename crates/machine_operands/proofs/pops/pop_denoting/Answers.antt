@@ -1,7 +1,18 @@
-use Rattle.std.proofs.Common.{sym, subst}
+use Rattle.std.proofs.Common.{None, sym, subst}
 use Rattle.machine_core.specs.joint_ops.Operands.{IsOfSort}
-use Rattle.machine_operands.proofs.Popping.{all-sorted, denoting-popped, no-denoting, pointer-denoting, vector-denoting, other-denoting}
+use Rattle.machine_core.specs.Rows.{object_in}
+use Rattle.machine_operands.proofs.Popping.{all-sorted, nil-named, nil-denoting, denoting-popped, no-denoting, pointer-denoting, vector-denoting, other-denoting}
 use Rattle.machine_operands.proofs.pops.pop_denoting.Goals as goal
+
+pub returns-in-Nil-clause-pops : goal.returns-in-Nil-clause-pops
+returns-in-Nil-clause-pops g c =
+    let mid = c.pop_ref.new.m in
+    let w = c.in_ok-word.word in
+    λ v.
+    let out = g.V.Vault.outside v in
+    let sorted = all-sorted mid.objects out c.object.result w c.sort_of.result c.object.ensures (c.sort_of.ensures.value v) in
+    let none = nil-named mid.objects c.object.result (object_in w) c.sort_of.result c.object.ensures c.sort_of.ensures.kind c.in-Nil.is in
+    denoting-popped out c.args.m.now mid w c.sort_of.result (c.in_ok-word.ensures.taken v) sorted None none (λ value is. nil-denoting value (subst (IsOfSort value) c.in-Nil.is is))
 
 pub returns-in-Pointer-clause-pops : goal.returns-in-Pointer-clause-pops
 returns-in-Pointer-clause-pops g c =

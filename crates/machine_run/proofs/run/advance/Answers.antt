@@ -21,7 +21,7 @@ returns-in-Turns-clause-advances g c =
     subst (λ (r : Advanced). Advances (outside c.args.vault.now) (outside c.turned.new.vault) c.args.output.now c.turned.new.output c.args.m.now c.step.new.m r)
     (sym c.on_where.ensures)
     (advance_turned (outside c.args.vault.now) (outside c.step.new.vault) c.args.output.now c.args.m.now c.step.new.m c.in-Turns.ensures.leaves
-    (outside c.turned.new.vault) c.turned.new.output c.turned.ensures.leaves.contents c.turned.result c.in-Turns.ensures.takes c.turned.ensures.cleared
+    (outside c.turned.new.vault) c.turned.new.output c.sound.ensures c.turned.ensures.leaves.contents c.turned.result c.in-Turns.ensures.takes c.turned.ensures.cleared
     c.turned.ensures.sends)
 
 pub returns-in-Writes-clause-advances : goal.returns-in-Writes-clause-advances
@@ -30,7 +30,7 @@ returns-in-Writes-clause-advances g c =
     subst (λ (r : Advanced). Advances (outside c.args.vault.now) (outside c.wrote.new.vault) c.args.output.now c.wrote.new.output c.args.m.now c.step.new.m r)
     (sym c.on_where-in-Writes.ensures)
     (advance_wrote (outside c.args.vault.now) (outside c.step.new.vault) c.args.output.now c.args.m.now c.step.new.m c.in-Writes.ensures.leaves
-    (outside c.wrote.new.vault) c.wrote.new.output c.wrote.ensures.leaves.contents c.wrote.result c.in-Writes.ensures.takes c.wrote.ensures.cleared
+    (outside c.wrote.new.vault) c.wrote.new.output c.sound-in-Writes.ensures c.wrote.ensures.leaves.contents c.wrote.result c.in-Writes.ensures.takes c.wrote.ensures.cleared
     c.wrote.ensures.sends)
 
 pub returns-in-Halts-clause-advances : goal.returns-in-Halts-clause-advances

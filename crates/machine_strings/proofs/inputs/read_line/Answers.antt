@@ -1,4 +1,5 @@
 use Rattle.std.proofs.Common.{◌≡◌, ℕ, List, sym, ap, ◌∙◌, subst, refl, rules}
+use Rattle.machine_core.specs.Holding.{world_in}
 use Rattle.machine_core.specs.ps_meaning.Meaning.{on_input}
 use Rattle.machine_core.specs.ps_heap.Texts.{Attempt, behind_line, line_read, string_of}
 use Rattle.machine_core.specs.ps_stepping.Objects.{holding}
@@ -39,7 +40,7 @@ returns-clause-takes g c =
       held = held-passed m left out names conf h passed;
       makes =
           subst (λ (a : Attempt (List ℕ)). MakesText m.objects made.new.self out conf.store.held.objects names a made.result) is
-          (made.ensures.made v conf.store.held.objects names h.world);
+          (made.ensures.made v conf.store.held.objects names (world_in h.run));
     })
 
 pub returns-clause-fails : goal.returns-clause-fails

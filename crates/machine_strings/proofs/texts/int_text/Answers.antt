@@ -1,4 +1,5 @@
 use Rattle.std.proofs.Common.{rules}
+use Rattle.machine_core.specs.Holding.{world_in}
 use Rattle.std.specs.Fmt.{signed_decimal}
 use Rattle.machine_core.specs.ps_heap.Texts.{Yields}
 use Rattle.machine_core.specs.ps_stepping.Objects.{make_text}
@@ -20,7 +21,7 @@ returns-clause-takes g c =
     made.ensures.keeps made.ensures.held (c.give_text.ensures vault)
     (λ names conf h.
     let n = (p.pops vault).gives names conf h in
-    let did = made.ensures.made n.0.store.held.objects names n.2.world in
+    let did = made.ensures.made n.0.store.held.objects names (world_in n.2.run) in
     let makes : MakesText last.objects made.new.self out n.0.store.held.objects names (Yields (signed_decimal z)) made.result = search (rules, did) in
     record {
       next = n.0;

@@ -1,4 +1,5 @@
 use Rattle.machine_core.specs.ps_heap.Texts.{join_of}
+use Rattle.machine_core.specs.Holding.{world_in}
 use Rattle.machine_core.specs.ps_stepping.Steps.{attempted}
 use Rattle.machine_core.specs.ps_stepping.Objects.{join, make_text}
 use Rattle.machine_operands.proofs.Parts.{making-fails}
@@ -25,7 +26,7 @@ returns-clause-takes g c =
       attempt = join_of t.left t.right;
       step = t.pops (λ x y e. attempted line (join_of x y) (λ bytes. make_text bytes e));
       held = t.held;
-      makes = made.ensures.made t.next.store.held.objects names t.left t.right t.held.world t.left_is t.right_is;
+      makes = made.ensures.made t.next.store.held.objects names t.left t.right (world_in t.held.run) t.left_is t.right_is;
     })
 
 pub returns-clause-fails : goal.returns-clause-fails

@@ -1,4 +1,5 @@
 use mir.Syntax.{w32}
+use Rattle.machine_core.specs.Holding.{world_in}
 use mir.Val.{to_z, of_z}
 use Rattle.std.proofs.Common.{◌≡◌, ℤ, ◌∙◌, subst, rules}
 use Rattle.machine_core.specs.ps_heap.Texts.{part_of}
@@ -32,7 +33,7 @@ returns-clause-takes g c =
     let n = (p.pops vault).gives names conf h in
     let i = (q.pops vault).gives names n.0 n.2 in
     let a = (t.pops vault).gives names i.0 i.2 in
-    let did = made.ensures.made a.0.store.held.objects names a.1 a.3.world a.4 in
+    let did = made.ensures.made a.0.store.held.objects names a.1 (world_in a.3.run) a.4 in
     record {
       next = a.0;
       attempt = part_of a.1 from count;

@@ -9,6 +9,9 @@ use Rattle.machine_structures.proofs.makes.make_structure.Goals as goal
 pub make_of_rows-requires-clause-names : goal.make_of_rows-requires-clause-names
 make_of_rows-requires-clause-names g c = names-kept c.args.m.now c.class_rows-got.new.self c.in-Ok.ensures.keeps c.requires.names
 
+pub make_by_text-requires-clause-names : goal.make_by_text-requires-clause-names
+make_by_text-requires-clause-names g c = names-kept c.args.m.now c.class_rows-got.new.self c.in-Ok.ensures.keeps c.requires.names
+
 pub returns-in-Some-clause-takes : goal.returns-in-Some-clause-takes
 returns-in-Some-clause-takes g c =
     let before = g.V.Vault.outside c.args.vault.now in

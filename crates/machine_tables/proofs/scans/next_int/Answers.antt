@@ -4,10 +4,14 @@ use Rattle.machine_core.specs.joint_ops.World.{Answers}
 use Rattle.machine_core.specs.heap_texts.declared.fault.OpFault.TheVariants as op
 use Rattle.machine_core.specs.ps_heap.Scans.{next_key}
 use Rattle.machine_core.specs.ps_heap.Tables.{Key}
+use Rattle.machine_operands.proofs.Reading.{names-kept}
 use Rattle.joint_tables.specs.Tables.{AreFoundInt}
 use Rattle.machine_tables.specs.inside.Scanning.{AreTableAndInt}
 use Rattle.machine_tables.proofs.Going.{scan-broken, scan-found, scan-trapped}
 use Rattle.machine_tables.proofs.scans.next_int.Goals as goal
+
+pub with_int-requires-clause-names : goal.with_int-requires-clause-names
+with_int-requires-clause-names g c = names-kept c.args.m.now c.next_int-next.new.self c.in-Ok.ensures.keeps c.requires.names
 
 pub returns-in-Ok-clause-follows : goal.returns-in-Ok-clause-follows
 returns-in-Ok-clause-follows g c =

@@ -21,6 +21,9 @@ next_string-requires-clause-names g c = names-kept c.args.m.now c.next_text-leas
 pub with_string-requires-clause-names : goal.with_string-requires-clause-names
 with_string-requires-clause-names g c = names-kept c.args.m.now c.next_text-least.new.self c.next_text-least.ensures.keeps c.requires.names
 
+pub with_string-requires-in-Ok-None-clause-names : goal.with_string-requires-in-Ok-None-clause-names
+with_string-requires-in-Ok-None-clause-names g c = names-kept c.args.m.now c.next_text-least.new.self c.next_text-least.ensures.keeps c.requires.names
+
 pub returns-in-Ok-None-clause-follows : goal.returns-in-Ok-None-clause-follows
 returns-in-Ok-None-clause-follows g c =
     let v = c.args.vault.now in

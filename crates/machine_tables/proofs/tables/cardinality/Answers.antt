@@ -1,4 +1,5 @@
 use Rattle.std.proofs.Common.{[], ◌∷◌, ◌∙◌, refl}
+use Rattle.machine_core.specs.Holding.{world_in}
 use Rattle.machine_core.specs.ps_heap.Library.{Cardinality}
 use Rattle.machine_core.specs.ps_heap.Calls.{number_answered, then_try}
 use Rattle.machine_core.specs.ps_stepping.Steps.{attempted}
@@ -29,7 +30,7 @@ returns-clause-takes g c =
     does-as out out one.objects.size (call_on_heap Cardinality line conf)
     (attempted line (then_try (entries_of d.store.held.objects x.1) (λ n. number_answered n d.store.held)) (λ a. gives_num a d)) give.result give.new.m
     (x.2 (λ table e. answered_by Cardinality line gives_num (table ∷ []) e) ∙ pairs-counted line x.1 d)
-    ((give.ensures v).does names d (entries_of d.store.held.objects x.1) x.3 (told.ensures.counted d.store.held.objects names x.1 x.3.world x.4)))
+    ((give.ensures v).does names d (entries_of d.store.held.objects x.1) x.3 (told.ensures.counted d.store.held.objects names x.1 (world_in x.3.run) x.4)))
 
 pub returns-clause-fails : goal.returns-clause-fails
 returns-clause-fails g c =

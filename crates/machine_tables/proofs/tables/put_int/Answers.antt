@@ -20,9 +20,9 @@ returns-clause-puts g c =
     subst (λ (z : ℤ). Follows before after (AreTableAndEntry m.objects before c.args.table c.args.to) (int_entered line z) m end.new.m end.result)
     (to_z-of_z w32 c.args.key c.ranges.key)
     (follows-entered before after m end.new.m done.new.self end.result line c.requires.names done.ensures.leaves
-    (AreTableAndEntry m.objects before c.args.table c.args.to) (int_entered line _) (λ a. int_key _) (λ a. a.table) (λ a. a.entry) c.args.table done.result
-    done.ensures.stands done.ensures.size (int-put line _) (λ names a d. d.is_pntr)
-    (λ heap names a world d. done.ensures.entered heap names a.table a.entry world d.table_is d.entry_is d.is_pntr) (end.ensures v w))
+    (AreTableAndEntry m.objects before c.args.table c.args.to) (int_entered line _) (λ a. int_key _) (λ a. a.table) (λ a. a.entry) done.result
+    done.ensures.stands done.ensures.size (int-put line _)
+    (λ names h a run d. done.ensures.run names m.databases.writing.items m.databases.directory h a.table a.entry run d.table_is d.entry_is d.is_pntr) (end.ensures v w))
 
 pub returns-clause-fails : goal.returns-clause-fails
 returns-clause-fails g c =

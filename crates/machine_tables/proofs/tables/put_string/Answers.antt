@@ -16,9 +16,9 @@ returns-clause-puts g c =
     let end = c.end_enter in
     let line = c.args.line in
     follows-entered before after m end.new.m done.new.self end.result line c.requires.names done.ensures.leaves
-    (AreStringTableEntry m.objects before c.args.key c.args.table c.args.to) (string_entered line) (λ a. string_key a.bytes) (λ a. a.table) (λ a. a.entry) c.args.table
-    done.result done.ensures.stands done.ensures.size (string-put line) (λ names a d. d.is_pntr)
-    (λ heap names a world d. done.ensures.entered heap names a.bytes a.table a.entry world d.key_is d.table_is d.entry_is d.is_pntr) (end.ensures v w)
+    (AreStringTableEntry m.objects before c.args.key c.args.table c.args.to) (string_entered line) (λ a. string_key a.bytes) (λ a. a.table) (λ a. a.entry)
+    done.result done.ensures.stands done.ensures.size (string-put line)
+    (λ names h a run d. done.ensures.run names m.databases.writing.items m.databases.directory h a.bytes a.table a.entry run d.key_is d.table_is d.entry_is d.is_pntr) (end.ensures v w)
 
 pub returns-clause-fails : goal.returns-clause-fails
 returns-clause-fails g c =

@@ -26,3 +26,21 @@ returns-in-Some-element_number-clause-takes g c =
     (vector-then out one two q.leaves (number_read line at) out push.new.m push.result vector (q.pops v)
     (subst (λ (i : ℤ). TakesVector out out anything (number_read line i) vector two push.new.m push.result) same_at
     (number-known out two push.new.m push.result vector line at _ z _ same_at same_z q.names (c.in-Some-element_number.ensures v) (push.ensures.takes v))))
+
+pub returns-in-None-clause-takes : goal.returns-in-None-clause-takes
+returns-in-None-clause-takes g c =
+    let v = c.args.vault.now in
+    let find = c.find_number in
+    let before = g.V.Vault.outside v in
+    let after = g.V.Vault.outside find.new.vault in
+    let line = c.args.line in
+    let one = c.pop_int.new.m in
+    let two = c.pop_vector.new.m in
+    let p = c.in-Some.ensures in
+    let q = c.in-Some-pop_vector.ensures in
+    let at = c.in-Some.at in
+    let vector = c.in-Some-pop_vector.vector in
+    let same_at : to_z w32 (of_z w32 at) ≡ at = search rules in
+    taken-then before after c.args.m.now one find.new.m find.result p.leaves pop_num at (λ i d. pop_vector d (λ ty u e. number_read line i ty u e)) (p.pops v)
+    (vector-then before one two q.leaves (number_read line at) after find.new.m find.result vector (q.pops v)
+    (subst (λ (i : ℤ). TakesVector before after anything (number_read line i) vector two find.new.m find.result) same_at find.ensures.finds))

@@ -10,9 +10,16 @@ use Rattle.machine_core.specs.heap_texts.declared.fault.OpFault.TheVariants as o
 use Rattle.machine_core.proofs.of_swizzle.ReadingLaws.{leaves-then}
 use Rattle.machine_core.proofs.Failing.{failing-behind}
 use Rattle.machine_operands.specs.Popping.{anything}
+use Rattle.machine_operands.proofs.Reading.{names-kept}
 use Rattle.machine_vectors.specs.inside.Elements.{TakesVector, number_put}
 use Rattle.machine_vectors.proofs.ElementPuts.{Told, number-never, number-placed, number-refused, number-untold}
 use Rattle.machine_vectors.proofs.puts.place_number.Goals as goal
+
+pub put_number-requires-clause-names : goal.put_number-requires-clause-names
+put_number-requires-clause-names g c = names-kept c.args.m.now c.element_form-told.new.self c.in-Ok.ensures.keeps c.requires.names
+
+pub refuse-requires-clause-names : goal.refuse-requires-clause-names
+refuse-requires-clause-names g c = names-kept c.args.m.now c.element_form-told.new.self c.in-Ok.ensures.keeps c.requires.names
 
 pub returns-then-is_number-clause-puts : goal.returns-then-is_number-clause-puts
 returns-then-is_number-clause-puts g c =

@@ -1,6 +1,6 @@
 use Rattle.std.proofs.Common.{Some, refl}
 use Rattle.ps_port.specs.ps_outside.Outside.{Rose}
-use Rattle.ps_words.specs.Words.{a_run}
+use Rattle.ps_args.specs.Words.{a_run}
 use Rattle.ps_causes.proofs.Converse.{damaged_refused}
 use Rattle.ps_causes.proofs.laws.damaged_volume_is_refused.Goals as goal
 

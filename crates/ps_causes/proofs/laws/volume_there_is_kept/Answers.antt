@@ -1,6 +1,6 @@
 use Rattle.std.proofs.Common.{Some, refl}
 use Rattle.ps_port.specs.ps_outside.Outside.{Rose}
-use Rattle.ps_words.specs.Words.{a_volume}
+use Rattle.ps_args.specs.Words.{a_volume}
 use Rattle.ps_causes.proofs.Converse.{volume_kept}
 use Rattle.ps_causes.proofs.laws.volume_there_is_kept.Goals as goal
 

@@ -1,5 +1,5 @@
 use Rattle.ps_port.specs.ps_outside.Outside.{Rose}
-use Rattle.ps_causes.specs.ps_words.Reading.{run_in}
+use Rattle.ps_causes.specs.ps_args.Reading.{run_in}
 use Rattle.ps_command.proofs.Causes.{ends_run, ends_unready}
 use Rattle.ps_command.proofs.command.run_file.Goals as goal
 

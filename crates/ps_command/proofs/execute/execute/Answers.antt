@@ -1,5 +1,5 @@
 use Rattle.std.proofs.Common.{refl, subst}
-use Rattle.ps_causes.specs.ps_words.Reading.{run_in}
+use Rattle.ps_causes.specs.ps_args.Reading.{run_in}
 use Rattle.ps_causes.proofs.of_ps_volumes.Settled.{volume_kept}
 use Rattle.ps_causes.specs.Steps as steps
 use Rattle.ps_causes.specs.Steps.{EndsRun}

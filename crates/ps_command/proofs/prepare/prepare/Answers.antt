@@ -4,7 +4,7 @@ use Rattle.ps_causes.specs.Source.{IsProgram}
 use Rattle.ps_causes.specs.Steps.{RefusalWhy}
 use Rattle.ps_causes.specs.ps_reports.Reporting.{line_of, status_of}
 use Rattle.ps_causes.specs.ps_reports.Statuses.{number_of}
-use Rattle.ps_causes.specs.ps_words.Reading.{run_in}
+use Rattle.ps_causes.specs.ps_args.Reading.{run_in}
 use Rattle.ps_command.proofs.Causes.{exits, unready_by_text, unready_by_fault, unready_by_input, input_unread_on, rose_from}
 use Rattle.ps_command.proofs.prepare.prepare.Goals as goal
 

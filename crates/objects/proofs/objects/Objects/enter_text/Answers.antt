@@ -6,7 +6,7 @@ use Rattle.objects.proofs.KnownLaws.{right-stays}
 use Rattle.objects.proofs.BrokenLaws.{lasts-broken}
 use Rattle.objects.proofs.TableLaws.{entered-lasts}
 use Rattle.objects.proofs.EnterRuns.{text-run}
-use Rattle.objects.proofs.TableCalls.{EntersText, EntersTextRun}
+use Rattle.objects.proofs.TableCalls.{EntersTextRun}
 use Rattle.objects.proofs.objects.Objects.enter_text.Goals as goal
 
 pub invariant_of-self : goal.invariant_of-self
@@ -23,25 +23,6 @@ invariant_of-self-in-Err g c =
     let here = c.self.inside.sw in
     let new = c.enter_text-done.new.sw in
     c.keep.ensures.right here new c.self.invariant (lasts-broken here new c.in-Err.fault (keeps-lasts here new c.in-Err.ensures.still.keeps))
-
-pub returns-in-Ok-clause-entered : goal.returns-in-Ok-clause-entered
-returns-in-Ok-clause-entered g c =
-    let here = c.self.inside.sw in
-    let new = c.enter_text-done.new.sw in
-    let before = g.V.Vault.outside c.args.vault.now in
-    let after = g.V.Vault.outside c.enter_text-done.new.vault in
-    subst (λ (x : Heap). EntersText x new before after c.args.key c.args.table c.args.to (Ok tt)) c.self.view_is
-    c.in-Ok.ensures.entered
-
-pub returns-in-Err-clause-entered : goal.returns-in-Err-clause-entered
-returns-in-Err-clause-entered g c =
-    let here = c.self.inside.sw in
-    let new = c.enter_text-done.new.sw in
-    let before = g.V.Vault.outside c.args.vault.now in
-    let after = g.V.Vault.outside c.enter_text-done.new.vault in
-    subst (λ (x : Heap). EntersText x new before after c.args.key c.args.table c.args.to (Err c.keep.result)) c.self.view_is
-    (subst (λ (f : OpFault). EntersText here new before after c.args.key c.args.table c.args.to (Err f)) (sym c.keep.ensures.same)
-    c.in-Err.ensures.entered)
 
 pub returns-in-Ok-clause-run : goal.returns-in-Ok-clause-run
 returns-in-Ok-clause-run g c =

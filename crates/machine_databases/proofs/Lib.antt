@@ -1,0 +1,11 @@
+pub mod Holding
+pub mod Naming
+pub mod Asking
+pub mod Pushing
+pub mod Refusing
+pub mod Places
+pub mod Meant
+pub mod Calling
+pub mod Creating
+pub mod Opening
+pub mod Popped

@@ -1,2 +1,0 @@
-pub mod WordLemmas
-pub use Rattle.ps_scan.proofs as of_ps_scan
