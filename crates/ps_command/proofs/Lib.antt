@@ -1,4 +1,5 @@
 pub mod Causes
-pub mod Ending
 pub mod Programs
 pub mod Events
+pub mod Loading
+pub mod Running
