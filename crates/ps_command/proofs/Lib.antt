@@ -1,5 +1,4 @@
 pub mod Causes
+pub mod Ending
 pub mod Programs
 pub mod Events
-pub mod Loading
-pub mod Running

@@ -19,6 +19,7 @@ use Rattle.ps_built_laws.proofs.of_ps_leaf_laws.LeavesRead.{leaves_fit}
 use Rattle.ps_built_laws.proofs.of_ps_fit_laws.Bodies.{program_bodies_valued}
 use Rattle.ps_built_laws.proofs.OfProgram.{program_runs}
 use Rattle.ps_unit_weights.specs.ps_gen.Units.{unit_of, HasUnit}
+use Rattle.plain_units.proofs.PlainCode.{plain_bodies}
 use Rattle.ps_causes.specs.Source.{IsProgram}
 use Rattle.ps_command.specs.inside.Steps.{IsRunnable}
 
@@ -54,5 +55,6 @@ runnable text unit program is unit_is units =
       valued = program_bodies_valued is.phrase program leaves is.typed;
       simple = of_outcome program (wants types.Void (end_line is.phrase) (check library_names is.phrase)) is.typed;
       units = units;
+      plain = plain_bodies program is.built;
       unit_is = unit_is;
     }
