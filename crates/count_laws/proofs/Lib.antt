@@ -1,3 +1,3 @@
 mod Like
 mod Calls
-pub mod Clauses
+mod Clauses

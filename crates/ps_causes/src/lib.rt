@@ -11,6 +11,7 @@ pub use laws::{
 };
 pub use ps_args;
 pub use ps_args::ps_scan;
+pub use ps_built;
 pub use ps_parse;
 pub use ps_volumes;
 pub use ps_volumes::{obj_store, ps_reports};

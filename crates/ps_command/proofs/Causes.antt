@@ -78,6 +78,10 @@ at_line {text} {n} {number} {k} {line} one two fault =
 pub fault_found : (text : List ℕ) (fault : SourceFault) (number : ℕ) (line : Line) → number_of fault ≡ Some number → line_of_fault fault ≡ Some line → Refuses text fault → IsSourceFault text (name_of (stage_of fault)) number line
 fault_found text (source.Scan fault) number line n l h = in_scan (h (λ e. none_is_some number (ap scanning.number_of (sym e) ∙ n))) n l
 fault_found text (source.Parse fault) number line n l h = let is = h (λ e. none_is_some number (ap parsing.number_of (sym e) ∙ n)) in in_parse is.1 is.2 n l
+fault_found text (source.NotBuilt at) number line n l h =
+    let one : 8 ≡ number = cc in
+    let two : at ≡ line = cc in
+    at_line one two (in_check h.scanned h.read h.fault)
 fault_found text (source.Check fault) number line n l h =
     let found = told_by fault number line n l in
     let is = h found.rule found.stands in

@@ -1,6 +1,4 @@
 pub mod Causes
+pub mod Ending
 pub mod Programs
 pub mod Events
-pub mod Loading
-pub mod Running
-pub mod Leaving

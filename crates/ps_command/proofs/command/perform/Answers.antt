@@ -1,4 +1,4 @@
-use Rattle.std.proofs.Common.{◌≡◌, Some, [], rules, sym, subst}
+use Rattle.std.proofs.Common.{◌≡◌, [], rules, sym, subst}
 use Rattle.ps_port.specs.ps_outside.Outside.{Rose}
 use Rattle.ps_causes.specs.Command.{WhyEnds, done_of}
 use Rattle.ps_causes.specs.ps_reports.declared.status.Status.TheVariants.{Done}

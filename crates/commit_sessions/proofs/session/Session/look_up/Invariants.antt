@@ -1,4 +1,0 @@
-use Rattle.commit_sessions.proofs.session.Session.look_up.Given as goal
-
-abbrev pub ghosts-look_up_counted : goal.ghosts-look_up_counted
-ghosts-look_up_counted g a = record { name = a.blank.name; parts = a.blank.parts }

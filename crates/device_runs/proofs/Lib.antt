@@ -1,3 +1,0 @@
-pub mod Since
-pub mod OnDevice
-pub mod Concluding

@@ -1,0 +1,2 @@
+mod PlainChoices
+pub mod PlainCode

@@ -1,4 +1,0 @@
-pub mod Splitting
-pub mod Showing
-pub mod Beginning
-pub mod Following

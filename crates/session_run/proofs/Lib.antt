@@ -1,5 +1,0 @@
-pub mod Others
-pub mod Moments
-pub mod Stepping
-pub mod Calling
-pub mod Between

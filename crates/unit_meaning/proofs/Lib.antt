@@ -1,6 +1,0 @@
-mod Objects
-mod Calls
-mod Clauses
-mod Saving
-mod Compact
-mod Meant
