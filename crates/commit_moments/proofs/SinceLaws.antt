@@ -7,7 +7,7 @@ use Rattle.ps_outside.proofs.Moments.{along_now}
 use Rattle.commit_moments.specs.Steps.{Step, output_by, Amid}
 use Rattle.commit_moments.specs.Shown.{LeavesOnly, Shown, ShowsSince, TellsAllOf}
 use Rattle.commit_moments.proofs.ShownLaws.{either}
-use Rattle.commit_moments.proofs.StepLaws.{none_prefix}
+use Rattle.commit_moments.proofs.StepLaws.{none_prefix, amid_more}
 
 module _ {X H : Type 0} (stands : X → H → Type 0) (start : H) (a b c : Outside X) (tells : TellsNothing a b) (leaves : LeavesSame a b) where
   adds_from : (xs bytes : List ℕ) → Adds (b.told b.clock) xs bytes → Adds (a.told a.clock) xs bytes
@@ -61,3 +61,17 @@ module _ {X H : Type 0} (stands : X → H → Type 0) (start : H) (a b c : Outsi
   -- the images at its end
   pub since_settled : SettlesFrom a b → ((x : X) → a.contents x → stands x start) → LeavesOnly stands b start
   since_settled settles starts = λ x at. starts x (settles.settled b.clock x settles.until (omega arith) at)
+
+-- More steps come after.
+pub since_more : {X H : Type 0} (stands : X → H → Type 0) (start : H) (a b : Outside X) (steps more : List (Step H)) → ShowsSince stands start a b steps
+    → ShowsSince stands start a b (steps ++ more)
+since_more stands start a b steps more is = record {
+  told_past = is.told_past;
+  past = is.past;
+  since = is.since;
+  from = is.from;
+  until = is.until;
+  silent = is.silent;
+  before = is.before;
+  each = λ m bytes from until at. amid_more stands start steps more (a.told a.clock) bytes (b.images m) (is.each m bytes from until at);
+}

@@ -1,3 +1,3 @@
 mod Like
 mod Calls
-mod Clauses
+pub mod Clauses

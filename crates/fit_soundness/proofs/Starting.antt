@@ -34,7 +34,7 @@ use Rattle.fit_soundness.proofs.Cleaning.{cleaned_same, cleaned_object}
 
 -- The positions of a scope that a body mentions.
 
-abbrev said_from : ℕ → BodyNode → ℕ → ℕ → List ℕ
+abbrev pub said_from : ℕ → BodyNode → ℕ → ℕ → List ℕ
 said_from out of from zero = []
 said_from out of from (suc n) = if mentions out from of then from ∷ said_from out of (suc from) n else said_from out of (suc from) n
 
@@ -50,7 +50,7 @@ said_in out of from (suc n) position low high e = elim (cases_eq position from) 
     behind true h = inr h
     behind false h = h
 
-in_said : (out : ℕ) (of : BodyNode) (from n position : ℕ) → IsIn position (said_from out of from n) → mentions out position of ≡ true
+pub in_said : (out : ℕ) (of : BodyNode) (from n position : ℕ) → IsIn position (said_from out of from n) → mentions out position of ≡ true
 in_said out of from zero position h = absurd h
 in_said out of from (suc n) position h = go (mentions out from of) refl h (λ k. in_said out of (suc from) n position k)
   where
@@ -61,11 +61,11 @@ in_said out of from (suc n) position h = go (mentions out from of) refl h (λ k.
     go false e k rest = rest k
 
 -- the scopes round a body, in which what it mentions is declared
-abbrev levels_said : BodyNode → ℕ → List (List Field) → List Level
+abbrev pub levels_said : BodyNode → ℕ → List (List Field) → List Level
 levels_said of out [] = []
 levels_said of out (names ∷ more) = record { names = names; declared = said_from out of 0 (length names) } ∷ levels_said of (out + 1) more
 
-keeps_said : (of : BodyNode) (out : ℕ) (scopes : List (List Field)) (up position : ℕ) (ty : TyView) → At (HasDeclared position ty) (map whole scopes) up →
+pub keeps_said : (of : BodyNode) (out : ℕ) (scopes : List (List Field)) (up position : ℕ) (ty : TyView) → At (HasDeclared position ty) (map whole scopes) up →
     mentions (out + up) position of ≡ true → At (HasDeclared position ty) (levels_said of out scopes) up
 keeps_said of out [] up position ty at e = absurd at
 keeps_said of out (names ∷ more) up position ty (inl h) e =
@@ -80,7 +80,7 @@ keeps_said of out (names ∷ more) up position ty (inl h) e =
 keeps_said of out (names ∷ more) up position ty (inr (before, is, h)) e =
     inr (before, is, keeps_said of (out + 1) more before position ty h (ap (λ n. mentions n position of) (omega (arith, is)) ∙ e))
 
-out_further : (heap : Heap) (id out x : ℕ) (scope : Option ℕ) (text : List ℕ) (values : List Value) → IsOut heap id scope out → object_at heap id ≡ Some (Scope text (Some x) values) →
+pub out_further : (heap : Heap) (id out x : ℕ) (scope : Option ℕ) (text : List ℕ) (values : List Value) → IsOut heap id scope out → object_at heap id ≡ Some (Scope text (Some x) values) →
     IsOut heap x scope (out + 1)
 out_further heap id out x scope text values here is = further is here
 out_further heap id out x scope text values (further there way) is = further there (out_further heap id _ x _ text values way is)

@@ -3,8 +3,8 @@ ghost use Rattle.heap_fit.specs.Laws.{NoOwnParents};
 ghost use Rattle.heap_fit.specs.Going.{BodiesStayFit, LiteralsMakeFitProcedures, MentionedNamesHoldValues};
 ghost use Rattle.heap_fit.specs.Typed.{TypedBodiesAreFit, TypedProgramsAreFit};
 
-use ps_built_laws::typed_program_runs;
 use ps_fit_laws::bodies_take_and_give_values;
+use ps_running_laws::typed_program_runs;
 use ps_type_text::{class_texts_tell_classes_apart, type_texts_tell_types_apart};
 use ps_typing_laws::typed_program_is_well_typed;
 

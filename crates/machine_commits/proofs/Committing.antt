@@ -40,7 +40,7 @@ use Rattle.machine_core.proofs.Naming.{names-last}
 use Rattle.machine_core.proofs.of_swizzle.StandLaws.{stands-left}
 use Rattle.machine_databases.proofs.Pushing.{gives-goes}
 use Rattle.machine_databases.proofs.Naming.{roots-in, shaped-in, sound-broken}
-use Rattle.machine_commits.specs.Committing.{TakesCommit}
+use Rattle.machine_commits.specs.Committing.{TakesCommit, IsOfVault}
 use Rattle.machine_commits.specs.inside.Answering.{PushesNil, RefusesCommit}
 use Rattle.machine_commits.proofs.Cleared.{cleared-run}
 use Rattle.reach_commit.proofs.ClearLaws.{clears-reached}
@@ -168,9 +168,9 @@ module _ {V : Type 0} (outside : V → Outside Space) (v w : V) (m : Machine) (w
       saved-takes (outside v) (outside w) m now writing none new (r.size ∙ ap (λ (here : area.Heap). here.size) same)
       (told-as a (answer.Saved fresh rewritten) is told) p
 
-  pub by-fault : (fault : SwizzleFault) → IsSound m → length m.refs.own < frame_words → ToldOf outside v w m now was ws (Err fault)
+  pub by-fault : (fault : SwizzleFault) → IsOfVault fault → IsSound m → length m.refs.own < frame_words → ToldOf outside v w m now was ws (Err fault)
       → TakesCommit (outside v) (outside w) m (record m { objects = now; fault = fault }) Breaks
-  by-fault fault sound room told = record {
+  by-fault fault vaults sound room told = record {
     sound = sound-broken m now m.databases fault sound;
     names = tt;
     size = tt;
@@ -179,7 +179,7 @@ module _ {V : Type 0} (outside : V → Outside Space) (v w : V) (m : Machine) (w
         let a = saving d in
         let t = told-now (Err fault) told st.names d (run_in st.held.run) in
         let goes = ap (λ (x : Answer). gives_ref x c) (commit-is d (Saves (saved d)) t.0) ∙ gives-goes m (outside v) st.names c room st.held a in
-        inr (saved d, d.counted, given a c, goes, t.1);
+        inr (saved d, d.counted, given a c, goes, t.1, vaults);
   }
 
   -- what the machine's words name is there for it

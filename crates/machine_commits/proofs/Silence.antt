@@ -14,7 +14,7 @@ use Rattle.machine_core.specs.joint_held.reach_commit.Answers.{Lacks, LeavesAll,
 use Rattle.machine_core.specs.joint_held.reach_commit.commit_walk.declared.homes.Source.{Source}
 use Rattle.machine_core.specs.joint_held.reach_commit.declared.commit.CommitAnswer.{CommitAnswer}
 use Rattle.machine_core.specs.joint_held.reach_commit.declared.commit.CommitAnswer.TheVariants as answer
-use Rattle.machine_commits.specs.Committing.{FailsBy, IsSilent}
+use Rattle.machine_commits.specs.Committing.{FailsBy, IsSilent, IsOfVault}
 
 -- nothing was done
 pub silent-none : (outside : Outside Space) → IsSilent outside outside
@@ -45,6 +45,15 @@ module _ {V : Type 0} (outside : V → Outside Space) (v w : V) (old new : Heap)
   silent (Err (AreaFull top wanted size)) still stores = absurd stores
 
   -- Why it broke off.
+  -- what breaks off the storing is of the vault, and none of the output
+  pub of-vault : (fault : SwizzleFault) → Stored (Err fault) → IsOfVault fault
+  of-vault (AreaFull top wanted size) stores = absurd stores
+  of-vault (Vault vault.Device) stores = tt
+  of-vault (Vault vault.Output) stores = absurd (stores.fails.output refl)
+  of-vault (Vault (vault.Full found wanted capacity)) stores = tt
+  of-vault (Vault (vault.NoPages held wanted pages)) stores = tt
+  of-vault (Vault (vault.Damaged at found wanted)) stores = tt
+
   pub fails-by : {L : Type 0} (access : Access L) (fault : SwizzleFault) → Stored (Err fault) → Lacks access (Err fault) → FailsBy (outside v) (outside w) access fault
   fails-by access (AreaFull top wanted size) stores lacks = tt
   fails-by access (Vault vault.Device) stores lacks = stores.fails.device refl

@@ -27,6 +27,15 @@ use Rattle.joint_commit.specs.Saving.{LeavesEither, LeavesHeap}
 abbrev pub commits : Config → Step
 commits c = gives_ref (commit_call c.store.held) c
 
+-- a fault of the vault that is none of the output
+abbrev pub IsOfVault : SwizzleFault → Type 0
+IsOfVault (AreaFull top wanted size) = ⊥
+IsOfVault (Vault Device) = Unit {0}
+IsOfVault (Vault Output) = ⊥
+IsOfVault (Vault (Full used wanted capacity)) = Unit {0}
+IsOfVault (Vault (NoPages held wanted pages)) = Unit {0}
+IsOfVault (Vault (Damaged at found wanted)) = Unit {0}
+
 module _ (before after : Outside Space) where
   -- Nothing is output, what a crash could leave at the moments that have been stays, and no count sinks.
   pub record IsSilent : Type 0 where
@@ -46,7 +55,8 @@ module _ (before after : Outside Space) where
   abbrev pub BreaksIn : ℕ → Config → SwizzleFault → Type 0
   BreaksIn size c fault =
       (LacksRoom size (commits c) fault × LeavesOutside before after)
-      ⊎ ((heap : StoredHeap) × (counted : ℕ) × (next : Config) × (commits c ≡ Goes (Commit heap counted ∷ []) next) × LeavesEither before after heap)
+      ⊎ ((heap : StoredHeap) × (counted : ℕ) × (next : Config) × (commits c ≡ Goes (Commit heap counted ∷ []) next) × LeavesEither before after heap
+      × IsOfVault fault)
 
   -- The step is what was answered. Where the run goes on, the machine holds the next configuration.
   abbrev pub DoesCommit : ℕ → Config → Stepped → Machine → Type 0

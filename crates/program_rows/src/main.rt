@@ -1,8 +1,8 @@
 //! Programs: what each tells, and its status. Goes through the tables of its files, and tells how many rows hold, and of each other
 //! one what was found.
 //!
-//! The head of a row is the status, and the words of the command before the program's name, which is `x.ps`. Its fields are the
-//! program, what is output, and the input `in`, where there is one. The volume is a new one of 32 pages.
+//! The head of a row is the status of each of its programs, and the words of the command before the program's name, which is `x.ps`. Its fields are of each program
+//! its text and what is output, and then the input `in`, where there is one. The programs of a row run one after the other over one volume, a new one of 32 pages.
 #![tactic(auto)]
 
 mod answer;
@@ -11,7 +11,7 @@ use answer::Commands;
 use table_rows::Tables;
 use table_rows::anyhow::Result;
 
-const FILES: [&str; 38] = [
+const FILES: [&str; 42] = [
     "ints.rows",
     "bools.rows",
     "widths.rows",
@@ -47,6 +47,10 @@ const FILES: [&str; 38] = [
     "lines_of_traps.rows",
     "tables.rows",
     "scans.rows",
+    "databases.rows",
+    "commits.rows",
+    "kept_procedures.rows",
+    "kept_tables.rows",
     "refused.rows",
     "refused_procedures.rows",
     "whole_programs.rows",
@@ -63,7 +67,7 @@ fn main(rt: HostRuntime) -> Result<()> {
 
 fn compare_programs(tables: &mut Tables, commands: &Commands, file: &str) -> Result<()> {
     for row in &tables.rows(file)? {
-        let (found, wanted) = (commands.answer(row)?, commands.wanted(row)?);
+        let (found, wanted) = (commands.answers(row)?, commands.wanted(row)?);
         tables.compare_bytes(file, row, Ok(found), &wanted)?;
     }
     Ok(())

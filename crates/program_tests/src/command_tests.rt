@@ -90,13 +90,10 @@ static FIRST_FAULTS: [(&[u8], &[u8]); 24] = [
         b"structure s(int a;\n*proc() f, a)",
         b"x.ps: check 2 at line 2\n",
     ),
+    (b"write 1,\ncommit()", b"x.ps: check 3 at line 2\n"),
     (
-        b"write 1,\ncardinality(commit())",
-        b"x.ps: check 8 at line 2\n",
-    ),
-    (
-        b"let f = proc( -> int)\ncardinality(commit())",
-        b"x.ps: check 8 at line 2\n",
+        b"let f = proc( -> int)\ncommit()",
+        b"x.ps: check 3 at line 2\n",
     ),
     (b"write eof()\nwrite b", b"x.ps: check 1 at line 2\n"),
     (b"let p =\nvector 1::2 of c", b"x.ps: check 1 at line 2\n"),

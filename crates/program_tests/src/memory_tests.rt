@@ -84,3 +84,10 @@ fn refused_in_lines(rt: HostRuntime) {
     let text = "while ~ eof() do write read.a.line(), \" \"";
     assert!(rt; own_answer_or_five(rt.alloc(), text, "one two ", 0));
 }
+
+#[test]
+fn refused_in_commits(rt: HostRuntime) {
+    let text =
+        "let d = create.database(\"d\", \"\"); s.enter(\"d\", d, d); write commit() = nil, open.database(\"d\", \"x\", \"read\")(error.fault)";
+    assert!(rt; own_answer_or_five(rt.alloc(), text, "truepassword", 0));
+}

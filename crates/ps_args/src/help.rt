@@ -66,6 +66,7 @@ statuses:
    9  VOLUME is no volume
   10  the volume is damaged
   11  the area is full
+  12  the volume is full
   13  a text is longer than 1048576 bytes
 
 example:

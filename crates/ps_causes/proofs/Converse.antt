@@ -2,7 +2,7 @@
 use Rattle.std.proofs.Common.{◌≡◌, ℕ, Bool, ◌<◌, ◌≤◌, inl, inr, List, [], length, Some, None, Option, refl, sym, ap, ◌∙◌, subst, arith}
 use Rattle.ps_port.specs.ps_outside.Outside.{Outside, Rose}
 use Rattle.ps_meaning.specs.ps_base.Limits.{most_text_bytes as LONGEST_TEXT}
-use Rattle.ps_built.specs.ps_program.Node.{BodyNode}
+use Rattle.ps_meaning.specs.ps_typing.ps_program.Node.{BodyNode}
 use Rattle.ps_meaning.specs.ps_base.declared.line.Line.{Line}
 use Rattle.ps_args.specs.ps_scan.declared.token.Token.{Token}
 use Rattle.ps_args.specs.ps_scan.Fault as scanning
@@ -13,7 +13,6 @@ use Rattle.ps_parse.specs.ps_tree.Fault as parsing
 use Rattle.ps_parse.specs.Program.{ReadsAs, IsParseFault}
 use Rattle.ps_parse.proofs.Unique.{one_tree}
 use Rattle.ps_parse.proofs.Faults.{no_fault_of_tree, one_fault}
-use Rattle.ps_built.specs.Library.{first_unbuilt_library}
 use Rattle.ps_meaning.specs.ps_typing.Fault.{Fault}
 use Rattle.ps_meaning.specs.ps_typing.Program.{Verdict, check_program, Typed, Fails}
 use Rattle.ps_volumes.specs.volume_parts.Holding.{Held}
@@ -26,11 +25,12 @@ use Rattle.ps_volumes.specs.volume_parts.declared.open_fault.OpenFault.TheVarian
 use Rattle.ps_args.specs.Words.{RunOf, CommandOf, a_run, a_text, a_volume}
 use Rattle.ps_volumes.specs.ps_reports.Reports.{usage_line, memory_line, unreadable_line, too_long_line, fault_line, not_a_volume_line, damaged_line, already_line}
 use Rattle.ps_volumes.specs.ps_reports.Answering.{Answers, whole, cut}
-use Rattle.ps_volumes.specs.Attaching.{HasVolume, KeepsVolume, IsWhyNone, line_of as line_of_cause, status_of as status_of_cause}
+use Rattle.ps_volumes.specs.Attaching.{HasVolume, IsWhyNone, line_of as line_of_cause, status_of as status_of_cause}
 use Rattle.ps_volumes.specs.Making.{IsMakingDue, IsOpen}
 use Rattle.ps_volumes.specs.Making as making
-use Rattle.ps_causes.specs.Source.{IsProgram, number_of, line_of, IsCheckFault, mistyped, unbuilt_call, IsSourceFault, in_scan, in_parse, in_check}
-use Rattle.ps_causes.specs.Command.{Gives, GivesTooLong, GivesInput, HoldsInput, GivesProgram, RunsTo, IsUnread, Unready, Due, IsRead, Gets, GetsOrLacks, GetsOrFails, GetsRun}
+use Rattle.ps_causes.specs.Source.{IsProgram, number_of, line_of, IsCheckFault, mistyped, IsSourceFault, in_scan, in_parse, in_check}
+use Rattle.ps_causes.specs.Command.{Answered, Gives, GivesTooLong, GivesInput, HoldsInput, GivesProgram, IsUnread, Unready, Due, Why, IsRead, Gets, GetsOrLacks, GetsOrFails, GetsRun}
+use Rattle.ps_causes.specs.Runs.{Ran}
 
 not_both : {A : Type 0} (x : Option A) (v : A) → x ≡ None → x ≡ Some v → ⊥
 not_both x v none some = let e : None ≡ Some v = sym none ∙ some in cc
@@ -64,25 +64,14 @@ of_one_phrase : {text : List ℕ} {tokens others : List Token} {phrase other : P
 of_one_phrase {text} {tokens} {others} {phrase} {other} {number} {line} same read read' fault =
     subst (λ (ph : Phrase). IsCheckFault ph number line) (one_phrase text tokens others phrase other same read read') fault
 
--- a tree that is typed and runs has no fault in the check
-no_check_fault : (phrase : Phrase) (p : BodyNode) (number : ℕ) (line : Line) → check_program phrase ≡ Typed p → first_unbuilt_library p ≡ None →
-    IsCheckFault phrase number line → ⊥
-no_check_fault phrase p number line typed built (mistyped {fault = fault} fails) = typed_not_fails (check_program phrase) p fault typed fails
-no_check_fault phrase p number line typed built (unbuilt_call {program = q} typed' first) =
-    let same : p ≡ q = typed_same (check_program phrase) p q typed typed' in
-    not_both (first_unbuilt_library q) line (subst (λ (b : BodyNode). first_unbuilt_library b ≡ None) same built) first
+-- a tree that is typed has no fault in the check
+no_check_fault : (phrase : Phrase) (p : BodyNode) (number : ℕ) (line : Line) → check_program phrase ≡ Typed p → IsCheckFault phrase number line → ⊥
+no_check_fault phrase p number line typed (mistyped {fault = fault} fails) = typed_not_fails (check_program phrase) p fault typed fails
 
 -- and a tree has one first fault
 one_check_fault : (phrase : Phrase) (n m : ℕ) (k l : Line) → IsCheckFault phrase n k → IsCheckFault phrase m l → (n ≡ m) × (k ≡ l)
 one_check_fault phrase n m k l (mistyped {fault = f} fails) (mistyped {fault = g} fails') =
     let same : f ≡ g = fails_same (check_program phrase) f g fails fails' in (ap number_of same, ap line_of same)
-one_check_fault phrase n m k l (mistyped {fault = f} fails) (unbuilt_call {program = p} typed b) =
-    absurd (typed_not_fails (check_program phrase) p f typed fails)
-one_check_fault phrase n m k l (unbuilt_call {program = p} typed a) (mistyped {fault = f} fails) =
-    absurd (typed_not_fails (check_program phrase) p f typed fails)
-one_check_fault phrase n m k l (unbuilt_call {program = p} typed a) (unbuilt_call {program = q} typed' b) =
-    let same : p ≡ q = typed_same (check_program phrase) p q typed typed' in
-    (refl, same_some (first_unbuilt_library q) k l (subst (λ (of : BodyNode). first_unbuilt_library of ≡ Some k) same a) b)
 
 no_parse_fault : (text : List ℕ) (tokens others : List Token) (phrase : Phrase) (fault : ParseFault) → tokens ≡ others → ReadsAs text tokens phrase → IsParseFault text others fault → ⊥
 no_parse_fault text tokens others phrase fault same read has = no_fault_of_tree text others phrase fault (subst (λ (ts : List Token). ReadsAs text ts phrase) same read) has
@@ -91,7 +80,7 @@ pub no_fault : (text stage : List ℕ) (p : BodyNode) (number : ℕ) (line : Lin
 no_fault text stage p number line is (in_scan has a b) = never_both is.scanned has
 no_fault text stage p number line is (in_parse {tokens = tokens} {fault = fault} scanned has a b) = no_parse_fault text is.tokens tokens is.phrase fault (same_tokens is.scanned scanned) is.read has
 no_fault text stage p number line is (in_check scanned read fault) =
-    no_check_fault is.phrase p number line is.typed is.built (of_one_phrase (same_tokens scanned is.scanned) read is.read fault)
+    no_check_fault is.phrase p number line is.typed (of_one_phrase (same_tokens scanned is.scanned) read is.read fault)
 
 -- Two first faults are one, with its stage, its number and its line.
 pub record IsOne (stage stage' : List ℕ) (number number' : ℕ) (line line' : Line) : Type 0 where
@@ -163,23 +152,45 @@ module _ (asked : Option CommandOf) (holds : List ℕ → List ℕ → Type 0) (
   own_at : (read : List ℕ → Type 0) (by : Type 0) (told bytes : List ℕ) (due status : ℕ) → told ≡ bytes → due ≡ status → Gets read may_fail failed by told due bytes status
   own_at read by told bytes due status one two = subst (λ (bs : List ℕ). Gets read may_fail failed by told due bs status) one (subst (λ (n : ℕ). Gets read may_fail failed by told due told n) two Gets.own)
 
-  pub no_command : (bytes : List ℕ) (status : ℕ) → asked ≡ None → Dues bytes status → GetsOrLacks usage_line 1 bytes status
-  no_command bytes status none (Due.no_command is left) = GetsOrLacks.own
-  no_command bytes status none (Due.no_memory left) = GetsOrLacks.no_memory
-  no_command bytes status none (Due.told {text = text} is left) = absurd (not_both asked (a_text text) none is)
-  no_command bytes status none (Due.unready {run = run} is why left) = absurd (not_both asked (a_run run) none is)
-  no_command bytes status none (Due.unattached {run = run} input is gives given why left) = absurd (not_both asked (a_run run) none is)
-  no_command bytes status none (Due.ran {run = run} is gives given comes kept) = absurd (not_both asked (a_run run) none is)
-  no_command bytes status none (Due.making {pages = pages} is due) = absurd (not_both asked (a_volume pages) none is)
+  abbrev Whys : ℕ → Type 0
+  Whys answered = Why old new asked holds lacks may_fail failed answered
 
-  pub text_told : (text bytes : List ℕ) (status : ℕ) → asked ≡ Some (a_text text) → Dues bytes status → GetsOrLacks text 0 bytes status
-  text_told text bytes status is (Due.no_command none left) = absurd (not_both asked (a_text text) none is)
-  text_told text bytes status is (Due.no_memory left) = GetsOrLacks.no_memory
-  text_told text bytes status is (Due.told {text = t} is' left) = subst (λ (bs : List ℕ). GetsOrLacks text 0 bs 0) (same_text asked text t is is') GetsOrLacks.own
-  text_told text bytes status is (Due.unready {run = run} is' why left) = absurd (run_or_text asked run text is' is)
-  text_told text bytes status is (Due.unattached {run = run} input is' gives given why left) = absurd (run_or_text asked run text is' is)
-  text_told text bytes status is (Due.ran {run = run} is' gives given comes kept) = absurd (run_or_text asked run text is' is)
-  text_told text bytes status is (Due.making {pages = pages} is' due) = absurd (volume_or_text asked pages text is' is)
+  -- where words ask for no run, what is due decides
+  on_words : (P : List ℕ → ℕ → Type 0) (answered : ℕ) → ((bytes : List ℕ) (status : ℕ) → Dues bytes status → P bytes status) → ((run : RunOf) → asked ≡ Some (a_run run) → ⊥) → Whys answered →
+      Answered old new P answered
+  on_words P answered by none (Why.by_words {bytes = bytes} {status = status} due is left) = (bytes, status, by bytes status due, is)
+  on_words P answered by none (Why.by_run {run = run} is gives given ran) = absurd (none run is)
+
+  -- and so it does where this run can't have been
+  on_run : (run : RunOf) → asked ≡ Some (a_run run) → (P : List ℕ → ℕ → Type 0) (answered : ℕ) → ((bytes : List ℕ) (status : ℕ) → Dues bytes status → P bytes status) →
+      ((program : BodyNode) (input : List ℕ) → GivesProgram holds lacks run program → GivesInput holds lacks run.input input → Ran run input program old new answered → ⊥) → Whys answered →
+      Answered old new P answered
+  on_run run is P answered by none (Why.by_words {bytes = bytes} {status = status} due answers left) = (bytes, status, by bytes status due, answers)
+  on_run run is P answered by none (Why.by_run {run = r} {program = program} {input = input} is' gives given ran) =
+      absurd (subst (λ (x : RunOf). (program : BodyNode) (input : List ℕ) → GivesProgram holds lacks x program → GivesInput holds lacks x.input input → Ran x input program old new answered → ⊥)
+      (same_run asked run r is is') none program input gives given ran)
+
+  no_command_due : (bytes : List ℕ) (status : ℕ) → asked ≡ None → Dues bytes status → GetsOrLacks usage_line 1 bytes status
+  no_command_due bytes status none (Due.no_command is left) = GetsOrLacks.own
+  no_command_due bytes status none (Due.no_memory left) = GetsOrLacks.no_memory
+  no_command_due bytes status none (Due.told {text = text} is left) = absurd (not_both asked (a_text text) none is)
+  no_command_due bytes status none (Due.unready {run = run} is why left) = absurd (not_both asked (a_run run) none is)
+  no_command_due bytes status none (Due.unattached {run = run} input is gives given why left) = absurd (not_both asked (a_run run) none is)
+  no_command_due bytes status none (Due.making {pages = pages} is due) = absurd (not_both asked (a_volume pages) none is)
+
+  pub no_command : (answered : ℕ) → asked ≡ None → Whys answered → Answered old new (GetsOrLacks usage_line 1) answered
+  no_command answered none = on_words (GetsOrLacks usage_line 1) answered (λ bytes status due. no_command_due bytes status none due) (λ run is. not_both asked (a_run run) none is)
+
+  text_told_due : (text bytes : List ℕ) (status : ℕ) → asked ≡ Some (a_text text) → Dues bytes status → GetsOrLacks text 0 bytes status
+  text_told_due text bytes status is (Due.no_command none left) = absurd (not_both asked (a_text text) none is)
+  text_told_due text bytes status is (Due.no_memory left) = GetsOrLacks.no_memory
+  text_told_due text bytes status is (Due.told {text = t} is' left) = subst (λ (bs : List ℕ). GetsOrLacks text 0 bs 0) (same_text asked text t is is') GetsOrLacks.own
+  text_told_due text bytes status is (Due.unready {run = run} is' why left) = absurd (run_or_text asked run text is' is)
+  text_told_due text bytes status is (Due.unattached {run = run} input is' gives given why left) = absurd (run_or_text asked run text is' is)
+  text_told_due text bytes status is (Due.making {pages = pages} is' due) = absurd (volume_or_text asked pages text is' is)
+
+  pub text_told : (text : List ℕ) (answered : ℕ) → asked ≡ Some (a_text text) → Whys answered → Answered old new (GetsOrLacks text 0) answered
+  text_told text answered is = on_words (GetsOrLacks text 0) answered (λ bytes status due. text_told_due text bytes status is due) (λ run is'. run_or_text asked run text is' is)
 
   -- the cases of a command that is a run
   record Cases (P : List ℕ → ℕ → Type 0) (run : RunOf) : Type 0 where
@@ -191,8 +202,6 @@ module _ (asked : Option CommandOf) (holds : List ℕ → List ℕ → Type 0) (
     long_input : (program : BodyNode) (name : List ℕ) (size : ℕ) → GivesProgram holds lacks run program → run.input ≡ Some name → GivesTooLong (holds name) (lacks name) size → P (too_long_line name size) 13
     unattached : (program : BodyNode) (input : List ℕ) (cause : OpenFault) → GivesProgram holds lacks run program → GivesInput holds lacks run.input input → IsWhyNone old new cause →
         P (line_of_cause cause) (status_of_cause cause)
-    ran : (program : BodyNode) (input bytes : List ℕ) (status : ℕ) → GivesProgram holds lacks run program → GivesInput holds lacks run.input input → RunsTo run input program bytes status →
-        KeepsVolume old new → P bytes status
 
   of_unready : (P : List ℕ → ℕ → Type 0) (run : RunOf) (bytes : List ℕ) (status : ℕ) → Cases P run → Unready run holds lacks may_fail failed bytes status → P bytes status
   of_unready P run bytes status cases (Unready.no_text (IsUnread.unreadable may rose)) = cases.unread may rose
@@ -210,18 +219,17 @@ module _ (asked : Option CommandOf) (holds : List ℕ → List ℕ → Type 0) (
   by_cases P run bytes status is cases (Due.unready {run = r} is' why left) = of_unready P r bytes status (subst (Cases P) (same_run asked run r is is') cases) why
   by_cases P run bytes status is cases (Due.unattached {run = r} {program = program} input {cause = why} is' gives given none left) =
       (subst (Cases P) (same_run asked run r is is') cases).unattached program input why gives given none
-  by_cases P run bytes status is cases (Due.ran {run = r} {program = program} {input = input} is' gives given comes kept) =
-      (subst (Cases P) (same_run asked run r is is') cases).ran program input bytes status gives given comes kept
   by_cases P run bytes status is cases (Due.making {pages = pages} is' due) = absurd (run_or_volume asked run pages is is')
 
-  -- over a volume that is output nothing but the device or want of memory comes in the way
-  over_a_volume : (run : RunOf) (input : List ℕ) (program : BodyNode) (why : OpenFault) → IsWhyNone old new why → (content : List ℕ) → old.contents content → HasVolume content →
-      GetsRun run input program may_fail failed Faulted (line_of_cause why) (status_of_cause why)
-  over_a_volume run input program cause.Device none content told has = GetsRun.no_device (none.device refl)
-  over_a_volume run input program (cause.NotAVolume size gate) none content told has = absurd (a_volume_or_none (found_in content) _ _ _ size gate has.found (none.found content told))
-  over_a_volume run input program (cause.Damaged at found wanted) none content told has =
+  -- over a volume that is told nothing but the device or want of memory comes in the way
+  over_a_volume : (run : RunOf) (input : List ℕ) (program : BodyNode) (why : OpenFault) (answered : ℕ) → IsWhyNone old new why → (content : List ℕ) → old.contents content → HasVolume content →
+      Answers old new (line_of_cause why) (status_of_cause why) answered → GetsRun run input program may_fail failed old new answered
+  over_a_volume run input program cause.Device answered none content told has is = GetsRun.no_device (none.device refl) is
+  over_a_volume run input program (cause.NotAVolume size gate) answered none content told has is =
+      absurd (a_volume_or_none (found_in content) _ _ _ size gate has.found (none.found content told))
+  over_a_volume run input program (cause.Damaged at found wanted) answered none content told has is =
       absurd (a_volume_or_damaged (found_in content) _ _ _ (damage at found wanted) has.found (none.found content told))
-  over_a_volume run input program cause.Memory none content told has = GetsRun.no_memory
+  over_a_volume run input program cause.Memory answered none content told has is = GetsRun.no_memory is
 
   -- the line of a file that is no volume, and of a damaged one
   over_none : (read : List ℕ → Type 0) (why : OpenFault) → IsWhyNone old new why → (content : List ℕ) (size gate : ℕ) → old.contents content → found_in content ≡ no_volume size gate →
@@ -258,12 +266,11 @@ module _ (asked : Option CommandOf) (holds : List ℕ → List ℕ → Type 0) (
   of_making P pages bytes status is lacks made (Due.told {text = text} is' left) = absurd (volume_or_text asked pages text is is')
   of_making P pages bytes status is lacks made (Due.unready {run = run} is' why left) = absurd (run_or_volume asked run pages is' is)
   of_making P pages bytes status is lacks made (Due.unattached {run = run} input is' gives given why left) = absurd (run_or_volume asked run pages is' is)
-  of_making P pages bytes status is lacks made (Due.ran {run = run} is' gives given comes kept) = absurd (run_or_volume asked run pages is' is)
   of_making P pages bytes status is lacks made (Due.making {pages = p} is' due) = made p bytes status due
 
-  pub volume_made : (pages : ℕ) (content bytes : List ℕ) (status : ℕ) → asked ≡ Some (a_volume pages) → old.contents content → IsNone content → Dues bytes status →
+  volume_made_due : (pages : ℕ) (content bytes : List ℕ) (status : ℕ) → asked ≡ Some (a_volume pages) → old.contents content → IsNone content → Dues bytes status →
       GetsOrFails Faulted [] 0 bytes status
-  volume_made pages content bytes status is told none due =
+  volume_made_due pages content bytes status is told none due =
       of_making (λ bs n. GetsOrFails Faulted [] 0 bs n) pages bytes status is GetsOrFails.no_memory (λ p bs n d. made_of p bs n d) due
     where
       made_of : (p : ℕ) (bs : List ℕ) (n : ℕ) → IsMakingDue p old new bs n → GetsOrFails Faulted [] 0 bs n
@@ -271,9 +278,14 @@ module _ (asked : Option CommandOf) (holds : List ℕ → List ℕ → Type 0) (
       made_of p bs n (making.failed rose) = GetsOrFails.no_device rose
       made_of p bs n (making.there_is_one opens keeps) = absurd (none_or_open content none (opens content told))
 
-  pub volume_kept : (pages : ℕ) (content bytes : List ℕ) (status : ℕ) → asked ≡ Some (a_volume pages) → old.contents content → IsOpen content → Dues bytes status →
+  pub volume_made : (pages : ℕ) (content : List ℕ) (answered : ℕ) → asked ≡ Some (a_volume pages) → old.contents content → IsNone content → Whys answered →
+      Answered old new (GetsOrFails Faulted [] 0) answered
+  volume_made pages content answered is told none =
+      on_words (GetsOrFails Faulted [] 0) answered (λ bytes status due. volume_made_due pages content bytes status is told none due) (λ run is'. run_or_volume asked run pages is' is)
+
+  volume_kept_due : (pages : ℕ) (content bytes : List ℕ) (status : ℕ) → asked ≡ Some (a_volume pages) → old.contents content → IsOpen content → Dues bytes status →
       GetsOrFails Faulted already_line 14 bytes status
-  volume_kept pages content bytes status is told opens due =
+  volume_kept_due pages content bytes status is told opens due =
       of_making (λ bs n. GetsOrFails Faulted already_line 14 bs n) pages bytes status is GetsOrFails.no_memory (λ p bs n d. kept_of p bs n d) due
     where
       kept_of : (p : ℕ) (bs : List ℕ) (n : ℕ) → IsMakingDue p old new bs n → GetsOrFails Faulted already_line 14 bs n
@@ -281,9 +293,14 @@ module _ (asked : Option CommandOf) (holds : List ℕ → List ℕ → Type 0) (
       kept_of p bs n (making.failed rose) = GetsOrFails.no_device rose
       kept_of p bs n (making.there_is_one opened keeps) = GetsOrFails.own
 
-  pub lacked_name : (run : RunOf) (bytes : List ℕ) (status : ℕ) → asked ≡ Some (a_run run) → lacks run.file → Dues bytes status →
+  pub volume_kept : (pages : ℕ) (content : List ℕ) (answered : ℕ) → asked ≡ Some (a_volume pages) → old.contents content → IsOpen content → Whys answered →
+      Answered old new (GetsOrFails Faulted already_line 14) answered
+  volume_kept pages content answered is told opens =
+      on_words (GetsOrFails Faulted already_line 14) answered (λ bytes status due. volume_kept_due pages content bytes status is told opens due) (λ run is'. run_or_volume asked run pages is' is)
+
+  lacked_name_due : (run : RunOf) (bytes : List ℕ) (status : ℕ) → asked ≡ Some (a_run run) → lacks run.file → Dues bytes status →
       Gets (λ name. name ≡ run.file) may_fail failed ⊥ (unreadable_line run.file) 7 bytes status
-  lacked_name run bytes status is lacking due = by_cases (λ bs n. Gets (λ name. name ≡ run.file) may_fail failed ⊥ (unreadable_line run.file) 7 bs n) run bytes status is record {
+  lacked_name_due run bytes status is lacking due = by_cases (λ bs n. Gets (λ name. name ≡ run.file) may_fail failed ⊥ (unreadable_line run.file) 7 bs n) run bytes status is record {
     memory = Gets.no_memory;
     unread = λ may rose. Gets.own;
     long = λ size gives. absurd (gives.there lacking);
@@ -291,8 +308,13 @@ module _ (asked : Option CommandOf) (holds : List ℕ → List ℕ → Type 0) (
     no_input = λ program name g named may rose. absurd (g.gives.there lacking);
     long_input = λ program name size g named long. absurd (g.gives.there lacking);
     unattached = λ program input why g given none. absurd (g.gives.there lacking);
-    ran = λ program input bs n g given comes kept. absurd (g.gives.there lacking);
   } due
+
+  pub lacked_name : (run : RunOf) (answered : ℕ) → asked ≡ Some (a_run run) → lacks run.file → Whys answered →
+      Answered old new (Gets (λ name. name ≡ run.file) may_fail failed ⊥ (unreadable_line run.file) 7) answered
+  lacked_name run answered is lacking =
+      on_run run is (Gets (λ name. name ≡ run.file) may_fail failed ⊥ (unreadable_line run.file) 7) answered (λ bytes status due. lacked_name_due run bytes status is lacking due)
+      (λ program input g given ran. g.gives.there lacking)
 
   module _ (run : RunOf) (text : List ℕ) (is : asked ≡ Some (a_run run)) (held : holds run.file text) where
     not_long : (size : ℕ) → length text ≤ LONGEST_TEXT → GivesTooLong (holds run.file) (lacks run.file) size → ⊥
@@ -313,9 +335,9 @@ module _ (asked : Option CommandOf) (holds : List ℕ → List ℕ → Type 0) (
     same_given : (program other : BodyNode) → IsProgram text program → GivesProgram holds lacks run other → other ≡ program
     same_given program other prog g = one_program text other program (subst (λ (t : List ℕ). IsProgram t other) (g.gives.given text held) g.is) prog
 
-    pub first_fault_is_told : (stage : List ℕ) (number : ℕ) (line : Line) (bytes : List ℕ) (status : ℕ) → length text ≤ LONGEST_TEXT → IsSourceFault text stage number line → Dues bytes status →
+    first_fault_due : (stage : List ℕ) (number : ℕ) (line : Line) (bytes : List ℕ) (status : ℕ) → length text ≤ LONGEST_TEXT → IsSourceFault text stage number line → Dues bytes status →
         Gets (λ name. name ≡ run.file) may_fail failed ⊥ (fault_line run.file stage number line) 2 bytes status
-    first_fault_is_told stage number line bytes status short fault due =
+    first_fault_due stage number line bytes status short fault due =
         by_cases (λ bs n. Gets (λ name. name ≡ run.file) may_fail failed ⊥ (fault_line run.file stage number line) 2 bs n) run bytes status is record {
           memory = Gets.no_memory;
           unread = λ may rose. Gets.unreadable refl may rose;
@@ -326,12 +348,17 @@ module _ (asked : Option CommandOf) (holds : List ℕ → List ℕ → Type 0) (
           no_input = λ program name g named may rose. absurd (no_program program stage number line fault g);
           long_input = λ program name size g named long. absurd (no_program program stage number line fault g);
           unattached = λ program input why g given none. absurd (no_program program stage number line fault g);
-          ran = λ program input bs n g given comes kept. absurd (no_program program stage number line fault g);
         } due
 
-    pub long_text : (bytes : List ℕ) (status : ℕ) → LONGEST_TEXT < length text → Dues bytes status →
+    pub first_fault_is_told : (stage : List ℕ) (number : ℕ) (line : Line) (answered : ℕ) → length text ≤ LONGEST_TEXT → IsSourceFault text stage number line → Whys answered →
+        Answered old new (Gets (λ name. name ≡ run.file) may_fail failed ⊥ (fault_line run.file stage number line) 2) answered
+    first_fault_is_told stage number line answered short fault =
+        on_run run is (Gets (λ name. name ≡ run.file) may_fail failed ⊥ (fault_line run.file stage number line) 2) answered
+        (λ bytes status due. first_fault_due stage number line bytes status short fault due) (λ program input g given ran. no_program program stage number line fault g)
+
+    long_text_due : (bytes : List ℕ) (status : ℕ) → LONGEST_TEXT < length text → Dues bytes status →
         Gets (λ name. name ≡ run.file) may_fail failed ⊥ (too_long_line run.file (length text)) 13 bytes status
-    long_text bytes status long due =
+    long_text_due bytes status long due =
         by_cases (λ bs n. Gets (λ name. name ≡ run.file) may_fail failed ⊥ (too_long_line run.file (length text)) 13 bs n) run bytes status is record {
           memory = Gets.no_memory;
           unread = λ may rose. Gets.unreadable refl may rose;
@@ -340,8 +367,13 @@ module _ (asked : Option CommandOf) (holds : List ℕ → List ℕ → Type 0) (
           no_input = λ program name g named may rose. absurd (not_short g.text long g.gives);
           long_input = λ program name size g named too_long. absurd (not_short g.text long g.gives);
           unattached = λ program input why g given none. absurd (not_short g.text long g.gives);
-          ran = λ program input bs n g given comes kept. absurd (not_short g.text long g.gives);
         } due
+
+    pub long_text : (answered : ℕ) → LONGEST_TEXT < length text → Whys answered →
+        Answered old new (Gets (λ name. name ≡ run.file) may_fail failed ⊥ (too_long_line run.file (length text)) 13) answered
+    long_text answered long =
+        on_run run is (Gets (λ name. name ≡ run.file) may_fail failed ⊥ (too_long_line run.file (length text)) 13) answered
+        (λ bytes status due. long_text_due bytes status long due) (λ program input g given ran. not_short g.text long g.gives)
 
     module _ (program : BodyNode) (short : length text ≤ LONGEST_TEXT) (prog : IsProgram text program) where
       -- the input that is given is the one that is held
@@ -354,19 +386,35 @@ module _ (asked : Option CommandOf) (holds : List ℕ → List ℕ → Type 0) (
           let h = subst (λ (n : Option (List ℕ)). HoldsInput holds n input) named one in
           let few = h.1 in let many = long.long in let e = long.given input h.0 in omega arith
 
-      pub program_is_run : (input content bytes : List ℕ) (status : ℕ) → HoldsInput holds run.input input → old.contents content → HasVolume content → Dues bytes status →
-          GetsRun run input program may_fail failed Faulted bytes status
-      program_is_run input content bytes status has told has_one due = by_cases (λ bs n. GetsRun run input program may_fail failed Faulted bs n) run bytes status is record {
-        memory = GetsRun.no_memory;
-        unread = λ may rose. GetsRun.unreadable IsRead.text may rose;
-        long = λ size gives. absurd (not_long size short gives);
-        refused = λ other stage number line gives fault. absurd (no_refusal program other stage number line prog gives fault);
-        no_input = λ other name g named may rose. GetsRun.unreadable (IsRead.input named) may rose;
-        long_input = λ other name size g named long. absurd (no_long_input run.input input name size named has long);
-        unattached = λ other read why g given none. over_a_volume run input program why none content told has_one;
-        ran = λ other read bs n g given comes kept. GetsRun.own (subst (λ (p : BodyNode). RunsTo run input p bs n) (same_given program other prog g)
-            (subst (λ (i : List ℕ). RunsTo run i other bs n) (same_input run.input input read has given) comes));
-      } due
+      program_due : (input content bytes : List ℕ) (status answered : ℕ) → HoldsInput holds run.input input → old.contents content → HasVolume content → Dues bytes status →
+          Answers old new bytes status answered → GetsRun run input program may_fail failed old new answered
+      program_due input content bytes status answered has told has_one due =
+          by_cases (λ bs n. Answers old new bs n answered → GetsRun run input program may_fail failed old new answered) run bytes status is record {
+            memory = λ answers. GetsRun.no_memory answers;
+            unread = λ may rose answers. GetsRun.unreadable IsRead.text may rose answers;
+            long = λ size gives. absurd (not_long size short gives);
+            refused = λ other stage number line gives fault. absurd (no_refusal program other stage number line prog gives fault);
+            no_input = λ other name g named may rose answers. GetsRun.unreadable (IsRead.input named) may rose answers;
+            long_input = λ other name size g named long. absurd (no_long_input run.input input name size named has long);
+            unattached = λ other read why g given none answers. over_a_volume run input program why answered none content told has_one answers;
+          } due
+
+      -- it is run with this input
+      own_run : (input : List ℕ) (answered : ℕ) → HoldsInput holds run.input input → (r : RunOf) (other : BodyNode) (read : List ℕ) → r ≡ run → GivesProgram holds lacks r other →
+          GivesInput holds lacks r.input read → Ran r read other old new answered → Ran run input program old new answered
+      own_run input answered has r other read same g given ran =
+          let g' = subst (λ (x : RunOf). GivesProgram holds lacks x other) same g in
+          let given' = subst (λ (x : RunOf). GivesInput holds lacks x.input read) same given in
+          let ran' = subst (λ (x : RunOf). Ran x read other old new answered) same ran in
+          subst (λ (p : BodyNode). Ran run input p old new answered) (same_given program other prog g')
+          (subst (λ (i : List ℕ). Ran run i other old new answered) (same_input run.input input read has given') ran')
+
+      pub program_is_run : (input content : List ℕ) (answered : ℕ) → HoldsInput holds run.input input → old.contents content → HasVolume content → Whys answered →
+          GetsRun run input program may_fail failed old new answered
+      program_is_run input content answered has told has_one (Why.by_words {bytes = bytes} {status = status} due answers left) =
+          program_due input content bytes status answered has told has_one due answers
+      program_is_run input content answered has told has_one (Why.by_run {run = r} {program = other} {input = read} is' g given ran) =
+          GetsRun.own (own_run input answered has r other read (same_run asked r run is' is) g given ran)
 
       -- where no volume is told
       module _ (input content : List ℕ) (has : HoldsInput holds run.input input) (told : old.contents content) where
@@ -380,20 +428,31 @@ module _ (asked : Option CommandOf) (holds : List ℕ → List ℕ → Type 0) (
           no_input = λ other name g named may rose. Gets.unreadable (IsRead.input named) may rose;
           long_input = λ other name size g named long. absurd (no_long_input run.input input name size named has long);
           unattached = λ other read why g given is_why. by why is_why;
-          ran = λ other read bs n g given comes kept. absurd (none (kept.found content told));
         } due
 
-        pub no_volume_refused : (size gate : ℕ) (bytes : List ℕ) (status : ℕ) → found_in content ≡ no_volume size gate → Dues bytes status →
+        no_volume_due : (size gate : ℕ) (bytes : List ℕ) (status : ℕ) → found_in content ≡ no_volume size gate → Dues bytes status →
             Gets (IsRead run) may_fail failed Faulted (not_a_volume_line size gate) 9 bytes status
-        no_volume_refused size gate bytes status found due =
+        no_volume_due size gate bytes status found due =
             not_over (not_a_volume_line size gate) 9 bytes status (λ why none. over_none (IsRead run) why none content size gate told found)
             (λ has_one. a_volume_or_none (found_in content) _ _ _ size gate has_one.found found) due
 
-        pub damaged_refused : (at number wanted : ℕ) (bytes : List ℕ) (status : ℕ) → found_in content ≡ damaged (damage at number wanted) → Dues bytes status →
+        pub no_volume_refused : (size gate : ℕ) (answered : ℕ) → found_in content ≡ no_volume size gate → Whys answered →
+            Answered old new (Gets (IsRead run) may_fail failed Faulted (not_a_volume_line size gate) 9) answered
+        no_volume_refused size gate answered found =
+            on_run run is (Gets (IsRead run) may_fail failed Faulted (not_a_volume_line size gate) 9) answered (λ bytes status due. no_volume_due size gate bytes status found due)
+            (λ other read g given ran. let has_one = ran.found content told in a_volume_or_none (found_in content) _ _ _ size gate has_one.found found)
+
+        damaged_due : (at number wanted : ℕ) (bytes : List ℕ) (status : ℕ) → found_in content ≡ damaged (damage at number wanted) → Dues bytes status →
             Gets (IsRead run) may_fail failed Faulted (damaged_line at number wanted) 10 bytes status
-        damaged_refused at number wanted bytes status found due =
+        damaged_due at number wanted bytes status found due =
             not_over (damaged_line at number wanted) 10 bytes status (λ why none. over_damaged (IsRead run) why none content at number wanted told found)
             (λ has_one. a_volume_or_damaged (found_in content) _ _ _ (damage at number wanted) has_one.found found) due
+
+        pub damaged_refused : (at number wanted : ℕ) (answered : ℕ) → found_in content ≡ damaged (damage at number wanted) → Whys answered →
+            Answered old new (Gets (IsRead run) may_fail failed Faulted (damaged_line at number wanted) 10) answered
+        damaged_refused at number wanted answered found =
+            on_run run is (Gets (IsRead run) may_fail failed Faulted (damaged_line at number wanted) 10) answered (λ bytes status due. damaged_due at number wanted bytes status found due)
+            (λ other read g given ran. let has_one = ran.found content told in a_volume_or_damaged (found_in content) _ _ _ (damage at number wanted) has_one.found found)
 
       module _ (name : List ℕ) (named : run.input ≡ Some name) where
         same_name : (other : List ℕ) → run.input ≡ Some other → other ≡ name
@@ -402,8 +461,8 @@ module _ (asked : Option CommandOf) (holds : List ℕ → List ℕ → Type 0) (
         given_here : (input : List ℕ) → GivesInput holds lacks run.input input → Gives (holds name) (lacks name) input
         given_here input given = subst (λ (n : Option (List ℕ)). GivesInput holds lacks n input) named given
 
-        pub lacked_input : (bytes : List ℕ) (status : ℕ) → lacks name → Dues bytes status → Gets (IsRead run) may_fail failed ⊥ (unreadable_line name) 7 bytes status
-        lacked_input bytes status lacking due = by_cases (λ bs n. Gets (IsRead run) may_fail failed ⊥ (unreadable_line name) 7 bs n) run bytes status is record {
+        lacked_input_due : (bytes : List ℕ) (status : ℕ) → lacks name → Dues bytes status → Gets (IsRead run) may_fail failed ⊥ (unreadable_line name) 7 bytes status
+        lacked_input_due bytes status lacking due = by_cases (λ bs n. Gets (IsRead run) may_fail failed ⊥ (unreadable_line name) 7 bs n) run bytes status is record {
           memory = Gets.no_memory;
           unread = λ may rose. Gets.unreadable IsRead.text may rose;
           long = λ size gives. absurd (not_long size short gives);
@@ -411,8 +470,12 @@ module _ (asked : Option CommandOf) (holds : List ℕ → List ℕ → Type 0) (
           no_input = λ other name' g named' may rose. Gets.unreadable (IsRead.input named') may rose;
           long_input = λ other name' size g named' long. absurd (long.there (subst lacks (sym (same_name name' named')) lacking));
           unattached = λ other read why g given none. absurd ((given_here read given).there lacking);
-          ran = λ other read bs n g given comes kept. absurd ((given_here read given).there lacking);
         } due
+
+        pub lacked_input : (answered : ℕ) → lacks name → Whys answered → Answered old new (Gets (IsRead run) may_fail failed ⊥ (unreadable_line name) 7) answered
+        lacked_input answered lacking =
+            on_run run is (Gets (IsRead run) may_fail failed ⊥ (unreadable_line name) 7) answered (λ bytes status due. lacked_input_due bytes status lacking due)
+            (λ other read g given ran. (given_here read given).there lacking)
 
         -- a text of this name that is too long isn't given, and its size is told
         not_given : (input other : List ℕ) → holds name input → LONGEST_TEXT < length input → Gives (holds name) (lacks name) other → ⊥
@@ -424,9 +487,9 @@ module _ (asked : Option CommandOf) (holds : List ℕ → List ℕ → Type 0) (
             let here = subst (λ (n : List ℕ). GivesTooLong (holds n) (lacks n) size) same long in
             ap (λ (n : ℕ). too_long_line name n) (sym (here.given input has)) ∙ ap (λ (n : List ℕ). too_long_line n size) (sym same)
 
-        pub long_input : (input bytes : List ℕ) (status : ℕ) → holds name input → LONGEST_TEXT < length input → Dues bytes status →
+        long_input_due : (input bytes : List ℕ) (status : ℕ) → holds name input → LONGEST_TEXT < length input → Dues bytes status →
             Gets (IsRead run) may_fail failed ⊥ (too_long_line name (length input)) 13 bytes status
-        long_input input bytes status has many due = by_cases (λ bs n. Gets (IsRead run) may_fail failed ⊥ (too_long_line name (length input)) 13 bs n) run bytes status is record {
+        long_input_due input bytes status has many due = by_cases (λ bs n. Gets (IsRead run) may_fail failed ⊥ (too_long_line name (length input)) 13 bs n) run bytes status is record {
           memory = Gets.no_memory;
           unread = λ may rose. Gets.unreadable IsRead.text may rose;
           long = λ size gives. absurd (not_long size short gives);
@@ -434,8 +497,13 @@ module _ (asked : Option CommandOf) (holds : List ℕ → List ℕ → Type 0) (
           no_input = λ other name' g named' may rose. Gets.unreadable (IsRead.input named') may rose;
           long_input = λ other name' size g named' long. own_at _ _ _ _ _ _ (size_told input name' size has (same_name name' named') long) refl;
           unattached = λ other read why g given none. absurd (not_given input read has many (given_here read given));
-          ran = λ other read bs n g given comes kept. absurd (not_given input read has many (given_here read given));
         } due
+
+        pub long_input : (input : List ℕ) (answered : ℕ) → holds name input → LONGEST_TEXT < length input → Whys answered →
+            Answered old new (Gets (IsRead run) may_fail failed ⊥ (too_long_line name (length input)) 13) answered
+        long_input input answered has many =
+            on_run run is (Gets (IsRead run) may_fail failed ⊥ (too_long_line name (length input)) 13) answered
+            (λ bytes status due. long_input_due input bytes status has many due) (λ other read g given ran. not_given input read has many (given_here read given))
 
 -- What the count of the output's faults says of an answer.
 pub counted_faults : (old new : Outside (List ℕ)) (due : List ℕ) (status answered : ℕ) → Answers old new due status answered → (old.output_faults ≤ new.output_faults) × (old.output_faults < new.output_faults → answered ≡ 8)

@@ -14,12 +14,14 @@ use Rattle.ps_volumes.specs.ps_reports.Answering.{Tells}
 use Rattle.ps_volumes.specs.ps_reports.Reporting.{line_of, status_of}
 use Rattle.ps_volumes.specs.ps_reports.Statuses.{number_of}
 use Rattle.ps_volumes.proofs.of_ps_reports.Behind.{ended_answers, reported_answers}
-use Rattle.ps_volumes.specs.Attaching.{Keeps, KeepsHeld, KeepsVolume, IsWhyNone}
+use Rattle.ps_volumes.specs.Attaching.{Keeps, KeepsHeld, IsWhyNone}
 use Rattle.ps_volumes.specs.Making.{IsMade, IsMakingDue}
 use Rattle.ps_volumes.specs.Making as making
-use Rattle.ps_volumes.proofs.Settled.{keeps_then, held_then, from_then, device_kept, answers_keep}
+use Rattle.ps_volumes.proofs.Settled.{keeps_then, held_then, device_kept, answers_keep}
 use Rattle.ps_args.specs.Words.{CommandOf, a_run, a_text, a_volume}
-use Rattle.ps_causes.specs.Command.{Due, LeavesAsAsked, Why, WhyEnds}
+use Rattle.ps_causes.specs.Command.{Due, LeavesAsAsked, Why}
+use Rattle.ps_causes.specs.Steps.{WhyEnds}
+use Rattle.ps_causes.proofs.Showing.{ran-told}
 
 module _ (old mid new : Outside (List ℕ)) (left : LeavesDevice mid new) (told : KeepsTold mid new) where
   still_kept : Keeps old mid → Keeps old new
@@ -27,9 +29,6 @@ module _ (old mid new : Outside (List ℕ)) (left : LeavesDevice mid new) (told 
 
   still_held : KeepsHeld old mid → KeepsHeld old new
   still_held is = held_then old mid new is (device_kept mid new left)
-
-  still_attached : KeepsVolume old mid → KeepsVolume old new
-  still_attached is = record { keeps = still_held is.keeps; from = from_then old mid new is.from left.images told; found = is.found }
 
   still_none : (cause : OpenFault) → IsWhyNone old mid cause → IsWhyNone old new cause
   still_none cause is = record { device = λ e. subst (λ (n : ℕ). Rose old.device_faults n) (sym left.faults) (is.device e); found = is.found }
@@ -53,7 +52,6 @@ module _ (old mid new : Outside (List ℕ)) (left : LeavesDevice mid new) (told 
     still_due bytes status (Due.told is was) = Due.told is (device_then old mid new was left)
     still_due bytes status (Due.unready is why was) = Due.unready is why (device_then old mid new was left)
     still_due bytes status (Due.unattached input {cause = cause} is g given none kept) = Due.unattached input is g given (still_none cause none) (still_held kept)
-    still_due bytes status (Due.ran is g given comes kept) = Due.ran is g given comes (still_attached kept)
     still_due bytes status (Due.making {pages = pages} is due) = Due.making is (still_making pages bytes status due)
 
   still_left : (asked : Option CommandOf) → LeavesAsAsked asked old mid → LeavesAsAsked asked old new
@@ -67,21 +65,14 @@ module _ {H : Type 0} (outside : H → Outside (List ℕ)) (old mid new : H) (as
   -- the end of a command is told
   pub why_told : (end : Result Status Report) (answered : ℕ) → WhyEnds (outside old) (outside mid) asked holds lacks may_fail failed end → Tells outside mid new end answered
       → Why (outside old) (outside new) asked holds lacks may_fail failed answered
-  why_told (Ok status) answered why tells =
+  why_told (Ok status) answered (WhyEnds.by_words {bytes = bytes} {status = number} due ends device) tells =
       subst (λ (h : H). Why (outside old) (outside h) asked holds lacks may_fail failed answered) (sym tells.1)
-      (subst (λ (n : ℕ). Why (outside old) (outside mid) asked holds lacks may_fail failed n) (sym tells.0) (record {
-        bytes = why.bytes;
-        status = why.status;
-        due = why.due;
-        answers = ended_answers (outside old) (outside mid) why.bytes why.status status why.ends;
-        device = why.device;
-      }))
-  why_told (Err report) answered why tells =
+      (subst (λ (n : ℕ). Why (outside old) (outside mid) asked holds lacks may_fail failed n) (sym tells.0)
+      (Why.by_words due (ended_answers (outside old) (outside mid) bytes number status ends) device))
+  why_told (Err report) answered (WhyEnds.by_words {bytes = bytes} {status = number} due ends device) tells =
       let told = answers_keep (outside mid) (outside new) (line_of report) (number_of (status_of report)) answered tells.0 in
-      record {
-        bytes = why.bytes;
-        status = why.status;
-        due = still_due (outside old) (outside mid) (outside new) tells.1 told asked holds lacks may_fail failed why.bytes why.status why.due;
-        answers = reported_answers (outside old) (outside mid) (outside new) why.bytes why.status report answered why.ends tells.0;
-        device = still_left (outside old) (outside mid) (outside new) tells.1 told asked why.device;
-      }
+      Why.by_words (still_due (outside old) (outside mid) (outside new) tells.1 told asked holds lacks may_fail failed bytes number due)
+      (reported_answers (outside old) (outside mid) (outside new) bytes number report answered ends tells.0)
+      (still_left (outside old) (outside mid) (outside new) tells.1 told asked device)
+  why_told end answered (WhyEnds.by_run {run = run} {program = program} {input = input} is gives given ran) tells =
+      Why.by_run is gives given (ran-told outside old mid new run input program end answered ran tells)

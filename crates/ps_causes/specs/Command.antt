@@ -2,25 +2,22 @@
 use Rattle.std.specs.Prelude.{◌≡◌, ℕ, ◌<◌, ◌≤◌, List, [], ◌∷◌, ◌++◌, length, Option, Some, None, option_and_then, Result}
 use Rattle.ps_meaning.specs.ps_base.Limits.{most_text_bytes as LONGEST_TEXT}
 use Rattle.ps_meaning.specs.ps_base.declared.line.Line.{Line}
-use Rattle.ps_built.specs.ps_program.Node.{BodyNode}
-use Rattle.ps_port.specs.ps_outside.Outside.{Outside, Leaves}
+use Rattle.ps_meaning.specs.ps_typing.ps_program.Node.{BodyNode}
+use Rattle.ps_port.specs.ps_outside.Outside.{Outside, Leaves, Rose}
 use Rattle.ps_port.specs.Telling.{LeavesDevice}
 use Rattle.ps_port.specs.Texts.{IsTextOf}
 use Rattle.ps_volumes.specs.paged_volume.Making.{IsMaking}
 use Rattle.ps_volumes.specs.paged_volume.Opening.{ShutsAt}
 use Rattle.ps_volumes.specs.volume_parts.declared.open_fault.OpenFault.{OpenFault}
 use Rattle.ps_args.specs.Words.{RunOf, CommandOf, a_run, a_text, a_volume}
-use Rattle.ps_volumes.specs.ps_reports.Reports.{usage_line, memory_line, unreadable_line, too_long_line, fault_line, area_full_line, device_line}
+use Rattle.ps_volumes.specs.ps_reports.Reports.{usage_line, memory_line, unreadable_line, too_long_line, fault_line, device_line}
 use Rattle.ps_volumes.specs.ps_reports.declared.status.Status.{Status}
 use Rattle.ps_volumes.specs.ps_reports.declared.report.Report.{Report}
 use Rattle.ps_volumes.specs.ps_reports.Answering.{Answers, EndsIn}
-use Rattle.ps_volumes.specs.Attaching.{Keeps, KeepsHeld, KeepsVolume, IsWhyNone, line_of, status_of as status_of_cause}
+use Rattle.ps_volumes.specs.Attaching.{Keeps, KeepsHeld, IsWhyNone, line_of, status_of as status_of_cause}
 use Rattle.ps_volumes.specs.Making.{IsMakingDue}
-use Rattle.ps_meaning.specs.ps_heap.Ends.{status_of}
-use Rattle.ps_meaning.specs.ps_heap.Events.{Event, outputs}
-use Rattle.ps_meaning.specs.Runs.{over_nothing, run_events, run_end}
 use Rattle.ps_causes.specs.Source.{IsProgram, IsSourceFault}
-use Rattle.ps_causes.specs.Filling.{area_size, FillsArea}
+use Rattle.ps_causes.specs.Runs.{Ran}
 
 -- Of one name: the shelf has a text of it, each one that it tells of is this one, and it isn't too long.
 pub record Gives (holds : List ℕ → Type 0) (lacks : Type 0) (text : List ℕ) : Type 0 where
@@ -43,12 +40,6 @@ GivesInput holds lacks (Some name) input = Gives (holds name) (lacks name) input
 abbrev pub HoldsInput : (List ℕ → List ℕ → Type 0) → Option (List ℕ) → List ℕ → Type 0
 HoldsInput holds None input = input ≡ []
 HoldsInput holds (Some name) input = holds name input × (length input ≤ LONGEST_TEXT)
-
--- What a program outputs in a run with this input, and the status of its end: it reaches its end, or its area is full.
-pub data RunsTo (run : RunOf) (input : List ℕ) (program : BodyNode) : List ℕ → ℕ → Type 0 where
-  its_end : RunsTo run input program (outputs (run_events (over_nothing run.turns input) program)) (status_of (run_end (over_nothing run.turns input) program))
-  area_full : {before : List Event} {top wanted : ℕ} → FillsArea run input program before top wanted →
-      RunsTo run input program (outputs before ++ area_full_line top wanted (area_size run)) 11
 
 -- the shelf gives the text of a run, and it is this program
 pub record GivesProgram (holds : List ℕ → List ℕ → Type 0) (lacks : List ℕ → Type 0) (run : RunOf) (program : BodyNode) : Type 0 where
@@ -88,9 +79,9 @@ done_of (a_text text) = Some (a_text text)
 abbrev pub carried_out : Option CommandOf → Option CommandOf
 carried_out asked = option_and_then done_of asked
 
--- What the words ask for, over a shelf that holds these texts, lacks these names, and may fail to read texts of those, and over this device, calls for
--- these bytes to be output and this status to be answered. `failed` says that the shelf's faults rose in this call. A refusal before the volume is
--- attached makes no call of the device, and a run leaves in the volume what was held: the same words under the same directory.
+-- What the words ask for, where no program is run, over a shelf that holds these texts, lacks these names, and may fail to read texts of those, and over this device,
+-- calls for these bytes to be output and this status to be answered. `failed` says that the shelf's faults rose in this call. A refusal before the volume is
+-- attached makes no call of the device, and one that comes later leaves in the volume what was held: the same words under the same directory.
 pub data Due (asked : Option CommandOf) (holds : List ℕ → List ℕ → Type 0) (lacks may_fail : List ℕ → Type 0) (failed : Type 0) (old new : Outside (List ℕ)) : List ℕ → ℕ → Type 0 where
   -- the words are no command
   no_command : asked ≡ None → LeavesDevice old new → Due asked holds lacks may_fail failed old new usage_line 1
@@ -105,15 +96,12 @@ pub data Due (asked : Option CommandOf) (holds : List ℕ → List ℕ → Type 
   unattached : {run : RunOf} {program : BodyNode} (input : List ℕ) {cause : OpenFault} → asked ≡ Some (a_run run) → GivesProgram holds lacks run program →
       GivesInput holds lacks run.input input → IsWhyNone old new cause → KeepsHeld old new →
       Due asked holds lacks may_fail failed old new (line_of cause) (status_of_cause cause)
-  -- the program was run over the volume that was found at the start, and from some moment on a crash leaves only files that hold what that held
-  ran : {run : RunOf} {program : BodyNode} {input bytes : List ℕ} {status : ℕ} → asked ≡ Some (a_run run) → GivesProgram holds lacks run program →
-      GivesInput holds lacks run.input input → RunsTo run input program bytes status → KeepsVolume old new → Due asked holds lacks may_fail failed old new bytes status
   -- a volume was to be made
   making : {pages : ℕ} {bytes : List ℕ} {status : ℕ} → asked ≡ Some (a_volume pages) → IsMakingDue pages old new bytes status →
       Due asked holds lacks may_fail failed old new bytes status
 
--- what a command leaves of the device: a run leaves in the volume what was held, the same words under the same directory, and words that ask for a text or are no
--- command leave it as it is
+-- what a command leaves of the device where no program is run: words that ask for a run leave in the volume what was held, the same words under the same directory,
+-- and words that ask for a text or are no command leave it as it is
 abbrev pub LeavesBy : CommandOf → Outside (List ℕ) → Outside (List ℕ) → Type 0
 LeavesBy (a_run run) old new = KeepsHeld old new
 LeavesBy (a_volume pages) old new = Leaves old new (IsMaking old pages) × ShutsAt pages old new
@@ -123,26 +111,21 @@ abbrev pub LeavesAsAsked : Option CommandOf → Outside (List ℕ) → Outside (
 LeavesAsAsked None old new = Keeps old new
 LeavesAsAsked (Some command) old new = LeavesBy command old new
 
--- Something is due, the device is left as the command leaves it, and a command that is carried out ends in this status or report.
-pub record WhyEnds (old new : Outside (List ℕ)) (asked : Option CommandOf) (holds : List ℕ → List ℕ → Type 0) (lacks may_fail : List ℕ → Type 0) (failed : Type 0) (end : Result Status Report) : Type 0 where
-  pub bytes : List ℕ
-  pub status : ℕ
-  pub due : Due asked holds lacks may_fail failed old new bytes status
-  pub ends : EndsIn old new bytes status end
-  pub device : LeavesAsAsked asked old new
-
--- something is due, it is answered, and the device is left as the command leaves it
-pub record Why (old new : Outside (List ℕ)) (asked : Option CommandOf) (holds : List ℕ → List ℕ → Type 0) (lacks may_fail : List ℕ → Type 0) (failed : Type 0) (answered : ℕ) : Type 0 where
-  pub bytes : List ℕ
-  pub status : ℕ
-  pub due : Due asked holds lacks may_fail failed old new bytes status
-  pub answers : Answers old new bytes status answered
-  pub device : LeavesAsAsked asked old new
+-- Something is due, it is answered, and the device is left as the command leaves it; or a program was run over the volume.
+pub data Why (old new : Outside (List ℕ)) (asked : Option CommandOf) (holds : List ℕ → List ℕ → Type 0) (lacks may_fail : List ℕ → Type 0) (failed : Type 0) (answered : ℕ) : Type 0 where
+  by_words : {bytes : List ℕ} {status : ℕ} → Due asked holds lacks may_fail failed old new bytes status → Answers old new bytes status answered → LeavesAsAsked asked old new →
+      Why old new asked holds lacks may_fail failed answered
+  by_run : {run : RunOf} {program : BodyNode} {input : List ℕ} → asked ≡ Some (a_run run) → GivesProgram holds lacks run program → GivesInput holds lacks run.input input →
+      Ran run input program old new answered → Why old new asked holds lacks may_fail failed answered
 
 -- the names that a run reads: that of its text, and that of its input
 pub data IsRead (run : RunOf) : List ℕ → Type 0 where
   text : IsRead run run.file
   input : {name : List ℕ} → run.input ≡ Some name → IsRead run name
+
+-- What is answered was due in this sense.
+abbrev pub Answered : Outside (List ℕ) → Outside (List ℕ) → (List ℕ → ℕ → Type 0) → ℕ → Type 0
+Answered old new gets answered = (bytes : List ℕ) × (status : ℕ) × gets bytes status × Answers old new bytes status answered
 
 -- What is due is this; or there was no memory; or one of these names may fail to be read, and the shelf's faults rose; or the device failed.
 pub data Gets (read may_fail : List ℕ → Type 0) (failed device_failed : Type 0) (told : List ℕ) (due : ℕ) : List ℕ → ℕ → Type 0 where
@@ -162,10 +145,10 @@ pub data GetsOrFails (device_failed : Type 0) (told : List ℕ) (due : ℕ) : Li
   no_memory : GetsOrFails device_failed told due memory_line 5
   no_device : device_failed → GetsOrFails device_failed told due device_line 6
 
--- What is due is what the program returns with this input; or there was no memory; or a name that is read may fail to be, and the shelf's faults
--- rose; or the device failed.
-pub data GetsRun (run : RunOf) (input : List ℕ) (program : BodyNode) (may_fail : List ℕ → Type 0) (failed device_failed : Type 0) : List ℕ → ℕ → Type 0 where
-  own : {bytes : List ℕ} {status : ℕ} → RunsTo run input program bytes status → GetsRun run input program may_fail failed device_failed bytes status
-  no_memory : GetsRun run input program may_fail failed device_failed memory_line 5
-  unreadable : {name : List ℕ} → IsRead run name → may_fail name → failed → GetsRun run input program may_fail failed device_failed (unreadable_line name) 7
-  no_device : device_failed → GetsRun run input program may_fail failed device_failed device_line 6
+-- The program is run with this input; or there was no memory; or a name that is read may fail to be, and the shelf's faults rose; or the device failed; or the output.
+pub data GetsRun (run : RunOf) (input : List ℕ) (program : BodyNode) (may_fail : List ℕ → Type 0) (failed : Type 0) (old new : Outside (List ℕ)) (answered : ℕ) : Type 0 where
+  own : Ran run input program old new answered → GetsRun run input program may_fail failed old new answered
+  no_memory : Answers old new memory_line 5 answered → GetsRun run input program may_fail failed old new answered
+  unreadable : {name : List ℕ} → IsRead run name → may_fail name → failed → Answers old new (unreadable_line name) 7 answered →
+      GetsRun run input program may_fail failed old new answered
+  no_device : Rose old.device_faults new.device_faults → Answers old new device_line 6 answered → GetsRun run input program may_fail failed old new answered

@@ -1,5 +1,5 @@
 -- Which text is a program, and where the first fault of one that isn't stands.
-use Rattle.std.specs.Prelude.{◌≡◌, ℕ, List, Some, None, codes}
+use Rattle.std.specs.Prelude.{◌≡◌, ℕ, List, Some, codes}
 use Rattle.ps_meaning.specs.ps_base.declared.line.Line.{Line}
 use Rattle.ps_args.specs.ps_scan.declared.token.Token.{Token}
 use Rattle.ps_args.specs.ps_scan.declared.fault.ScanFault.{ScanFault}
@@ -9,20 +9,18 @@ use Rattle.ps_parse.specs.ps_tree.declared.fault.ParseFault.{ParseFault}
 use Rattle.ps_parse.specs.ps_tree.Phrase.{Phrase}
 use Rattle.ps_parse.specs.Program.{ReadsAs, IsParseFault}
 use Rattle.ps_parse.specs.ps_tree.Fault as parsing
-use Rattle.ps_built.specs.Library.{first_unbuilt_library}
-use Rattle.ps_built.specs.ps_program.Node.{BodyNode}
+use Rattle.ps_meaning.specs.ps_typing.ps_program.Node.{BodyNode}
 use Rattle.ps_meaning.specs.ps_typing.Fault.{Fault}
 use Rattle.ps_meaning.specs.ps_typing.Fault as fault
 use Rattle.ps_meaning.specs.ps_typing.Program.{check_program, Typed, Fails}
 
--- The text has these tokens, they read as a tree, and it is typed: this program, each of whose calls of the library is built.
+-- The text has these tokens, they read as a tree, and it is typed: this program.
 pub record IsProgram (text : List ℕ) (program : BodyNode) : Type 0 where
   pub tokens : List Token
   pub phrase : Phrase
   pub scanned : HasTokens text tokens
   pub read : ReadsAs text tokens phrase
   pub typed : check_program phrase ≡ Typed program
-  pub built : first_unbuilt_library program ≡ None
 
 -- the number and the line of a fault of the typing rules
 abbrev pub number_of : Fault → ℕ
@@ -43,12 +41,9 @@ line_of (fault.NotApplicable line) = line
 line_of (fault.Limit line count) = line
 line_of (fault.TooComplex line count) = line
 
--- The first fault of a tree in the check, with its number and its line. A call of a library procedure that isn't built yet is one after all
--- typing rules.
+-- The first fault of a tree in the check, with its number and its line.
 pub data IsCheckFault (phrase : Phrase) : ℕ → Line → Type 0 where
   mistyped : {fault : Fault} → check_program phrase ≡ Fails fault → IsCheckFault phrase (number_of fault) (line_of fault)
-  unbuilt_call : {program : BodyNode} {line : Line} → check_program phrase ≡ Typed program → first_unbuilt_library program ≡ Some line →
-      IsCheckFault phrase 8 line
 
 -- The first stage at which the text is refused, with the number and the line of the first fault.
 pub data IsSourceFault (text : List ℕ) : List ℕ → ℕ → Line → Type 0 where

@@ -11,7 +11,6 @@ pub use laws::{
 };
 pub use ps_args;
 pub use ps_args::ps_scan;
-pub use ps_built;
 pub use ps_parse;
 pub use ps_volumes;
 pub use ps_volumes::{obj_store, ps_reports};

@@ -11,7 +11,7 @@ use Rattle.ps_typing_laws.specs.ps_typing.Placing.{is_number}
 use Rattle.ps_typing_laws.specs.ps_typing.Locals.{one_on, taken_by_params}
 use Rattle.ps_gen.specs.ps_emitter.Choices as choice
 use Rattle.ps_soundness.specs.Valued.{AllValued}
-use Rattle.ps_soundness.specs.Shapes.{AreOf}
+use Rattle.ps_code_laws.specs.Fitting.{AreOf}
 use Rattle.ps_typing_laws.specs.ps_typing.WellTyped.{types_of_params}
 use Rattle.ps_stepping.specs.ps_heap.Values.{Value, Num, Nil, word_of}
 use Rattle.ps_stepping.specs.ps_heap.Objects.{Heap}
@@ -26,7 +26,7 @@ use Rattle.ps_code_laws.specs.Meets.{nums_left, refs_left}
 use Rattle.ps_code_laws.proofs.Clauses.{int, bool, str, pntr, vector, proc, Kind, of_num, of_ref, fields_by, kind_of}
 use Rattle.ps_code_laws.proofs.Doing.{Way, place}
 use Rattle.ps_code_laws.proofs.RowForms.{pushed_nums, pushed_refs, last_num, last_ref}
-use Rattle.ps_soundness.proofs.Standings.{by_rules}
+use Rattle.fit_soundness.proofs.Levels.{fits}
 
 -- the types of parameters as those of fields, by which the words of a row go
 abbrev pub fields_of : List Param → List Field
@@ -40,7 +40,7 @@ kinds_are [] h = tt
 kinds_are (param ∷ params) h = (kind_of param.ty h.0, kinds_are params h.1)
 
 -- arguments of the types of fields are those of the types
-pub values_by : (heap : Heap) (tys : TyViews) (vs : List Value) → AreOf heap (fields_by tys) vs → ValuesOf by_rules heap tys vs
+pub values_by : (heap : Heap) (tys : TyViews) (vs : List Value) → AreOf heap (fields_by tys) vs → ValuesOf fits heap tys vs
 values_by heap types.none [] h = tt
 values_by heap types.none (v ∷ vs) h = absurd h
 values_by heap (types.more ty rest) [] h = absurd h
@@ -87,7 +87,7 @@ module _ (w : Way) where
   ref_front (of_ref proc) m v rest pushed k us nums refs f store next h = one_ref m v rest pushed k us nums refs f store next h
 
   -- the arguments that are references, compiled
-  pub refs_popped : (heap : Heap) (params : List Param) → KindsAre params → (k : ℕ) (vs : List Value) → ValuesOf by_rules heap (types_of_params params) vs →
+  pub refs_popped : (heap : Heap) (params : List Param) → KindsAre params → (k : ℕ) (vs : List Value) → ValuesOf fits heap (types_of_params params) vs →
       (us : List Value) (nums : List ℤ) (refs : List Value) (f : Frame) (store : Store) (next : List Value → Config → Step) →
       pop_refs (taken_by_params false params) us (place w k nums (pushed_refs (fields_of params) vs refs) f store) next
       ≡ next (compiled_all (arguments_on false params vs) ++ us) (place w k nums refs f store)
@@ -133,7 +133,7 @@ module _ (w : Way) where
   num_front (of_ref proc) m v rest pushed k zs nums refs f store next h = no_num m rest pushed k zs nums refs f store next h
 
   -- the arguments that are numbers
-  pub nums_popped : (heap : Heap) (params : List Param) → KindsAre params → (k : ℕ) (vs : List Value) → ValuesOf by_rules heap (types_of_params params) vs →
+  pub nums_popped : (heap : Heap) (params : List Param) → KindsAre params → (k : ℕ) (vs : List Value) → ValuesOf fits heap (types_of_params params) vs →
       (zs nums : List ℤ) (refs : List Value) (f : Frame) (store : Store) (next : List ℤ → Config → Step) →
       pop_nums (taken_by_params true params) zs (place w k (pushed_nums (fields_of params) vs nums) refs f store) next
       ≡ next (map word_of (arguments_on true params vs) ++ zs) (place w k nums refs f store)

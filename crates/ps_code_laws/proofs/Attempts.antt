@@ -16,7 +16,7 @@ use Rattle.ps_stepping.specs.Config.{Config, constants_in, constant_at}
 use Rattle.ps_stepping.specs.Machine.{Step, on, push_num, push_ref}
 use Rattle.ps_stepping.specs.Steps.{text_in, with_text, attempted}
 use Rattle.ps_stepping.specs.Objects.{holding, having, changed, make, make_text, object_of, when_number, when_reference}
-use Rattle.ps_soundness.specs.Shapes.{IsOf}
+use Rattle.ps_code_laws.specs.Fitting.{IsOf}
 use Rattle.ps_code_laws.specs.Compiled.{compiled, compiled_object, compiled_heap, compiled_held, compiled_store, WeighsUnits}
 use Rattle.ps_code_laws.specs.Meets.{nums_left, refs_left}
 use Rattle.ps_code_laws.proofs.Compiling.{word_compiled, compiled_attempt, number_compiled, and_object_compiled}

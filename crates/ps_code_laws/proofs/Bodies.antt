@@ -9,10 +9,10 @@ use Rattle.ps_gen.specs.ps_base.declared.line.Line.{Line}
 use Rattle.ps_gen.specs.ps_base.declared.instr.Instr.{Instr}
 use Rattle.ps_gen.specs.ps_base.declared.instr.Instr.TheVariants as instr
 use Rattle.ps_gen.specs.ps_program.Node.{Param, Node, BodyNode, body}
-use Rattle.ps_type_text.specs.Texts.{Field}
 use Rattle.ps_typing_laws.specs.ps_typing.Program.{bodies, first_complex}
 use Rattle.ps_typing_laws.specs.ps_typing.WellTyped.{types_of_params, IsBody, IsWellTyped}
 use Rattle.ps_typing_laws.specs.ps_typing.WellTyped as typed
+use Rattle.ps_typing_laws.specs.Counted.{Each}
 use Rattle.ps_stepping.specs.ps_heap.Objects.{Heap}
 use Rattle.ps_stepping.specs.ps_heap.Weights.{code_weight}
 use Rattle.ps_stepping.specs.ps_heap.Ends.{End, Done}
@@ -33,7 +33,10 @@ use Rattle.ps_soundness.specs.Valued.{IsValued}
 use Rattle.ps_soundness.specs.Shapes.{type_of_body}
 use Rattle.ps_soundness.proofs.Telling.{Told}
 use Rattle.ps_soundness.proofs.Calling.{ValuesOf}
-use Rattle.ps_code_laws.specs.Literals.{AreScopesValued, Fits, FitsBy, instrs_of}
+use Rattle.heap_fit.specs.Bodies.{Level, IsFitBody}
+use Rattle.heap_fit.specs.Typed.{IsSmall, TypedBodiesAreFit}
+use Rattle.fit_soundness.specs.Laws.{program}
+use Rattle.ps_code_laws.specs.Literals.{AreLevelsValued, BodyIs, Fits, FitsBy, instrs_of}
 use Rattle.ps_code_laws.specs.Meets.{nums_left, refs_left, standing, ComesBack, Follows, AreHanded, HasRoom, IsFittingHeap, Meets}
 use Rattle.ps_code_laws.specs.Compiled.{compiled_store, compiled_event, compiled_events, WeighsUnits}
 use Rattle.ps_code_laws.proofs.Doing.{Way, if_lt, quiet, halt}
@@ -42,7 +45,7 @@ use Rattle.ps_code_laws.proofs.Calls.{Enters, Entered}
 use Rattle.ps_code_laws.proofs.Called.{within, Closes, Returns, body_does}
 use Rattle.ps_code_laws.proofs.Naming.{names_in_body}
 use Rattle.ps_code_laws.proofs.Inside.{bodies_inside, bodies_fit}
-use Rattle.ps_soundness.proofs.Standings.{by_rules}
+use Rattle.fit_soundness.proofs.Levels.{fits}
 
 -- one step more before what follows
 with_end : (c : Config) (events later rest : List Event) → Finishes c (compiled_events events ++ (compiled_events later ++ rest)) →
@@ -150,8 +153,8 @@ returns_to w of caller g room k at v f s h =
 
 -- where the bodies that are called inside it do what they mean
 enters_by : (told : Told) (m : ℕ) → ((v : Way) → Entered v m) → (w : Way) → Enters w m
-enters_by told m entered w caller of scope args ps g s few room typed_heap weighs is are fits literals held reach =
-    body_does told w (caller ∷ w.callers) m scope args s is.wholes is.scopes of ps g (comes_to w caller g) is.ty_is is.typed is.runs is.stand fits few
+enters_by told m entered w caller of scope args ps g s few room typed_heap weighs is are fitted literals held reach =
+    body_does told w (caller ∷ w.callers) m scope args s is.levels of ps g (comes_to w caller g) is.ty_is is.fit is.stand fitted few
     (entered (within w of (caller ∷ w.callers))) typed_heap weighs are literals held (returns_to w of caller g room) (closed_by w of caller g _ reach)
 
 -- by induction on the turns that may be left
@@ -181,23 +184,23 @@ comes_so u callers g (Value_is w e t) room k at v f s h =
     (sym h.1) ([], sym (append-nil s.events), returns u k g v f s.store callers room at))
 comes_so u callers g (Ends e t) room k at v f s h = absurd h
 
-handed : (heap : Heap) (params : List Param) (args : List Value) → AreHanded heap params args → ValuesOf by_rules heap (types_of_params params) args
+handed : (heap : Heap) (params : List Param) (args : List Value) → AreHanded heap params args → ValuesOf fits heap (types_of_params params) args
 handed heap [] [] h = tt
 handed heap [] (v ∷ vs) h = absurd h
 handed heap (param ∷ params) [] h = absurd h
 handed heap (param ∷ params) (v ∷ vs) h = (h.0, handed heap params vs h.1)
 
 -- a body whose bodies fit
-pub body_meets : (told : Told) (wholes scopes : List (List Field)) (of : BodyNode) (n : ℕ) → IsBody scopes of → BodyRuns wholes of →
-    AreScopesValued scopes → AllByRecursion Fits (bodies of) → Meets n wholes scopes of
-body_meets told wholes scopes (body params gives tree text line) n typed_body runs valued fit =
+pub body_meets : (told : Told) (levels : List Level) (of : BodyNode) (n : ℕ) → IsFitBody levels of → AreLevelsValued levels → AllByRecursion Fits (bodies of) →
+    Meets n levels of
+body_meets told levels (body params gives tree text line) n is_body valued fit =
     let of : BodyNode = body params gives tree text line in
-    let fits = names_in_body Fits (λ b h. h.valued) wholes typed_body runs (bodies_inside Fits of fit) valued in
+    let fitted = names_in_body Fits Fits (λ round b f h. h) is_body (bodies_inside Fits of fit) valued in
     record {
       follows = λ callers scope args state turns room fitting stand are literals.
           let o = body_meant (context n (length callers)) of args (frame_of_call of scope args) state in
           let w = way_to (unit_of of) callers gives o in
-          body_does told w callers n scope args state wholes scopes of (types_of_params params) gives (HasSo o) refl typed_body runs stand fits turns
+          body_does told w callers n scope args state levels of (types_of_params params) gives (HasSo o) refl is_body stand fitted turns
           (all_enter told n (within w of callers)) fitting.typed fitting.weighs (handed state.store.held.objects params args are) literals fitting.fit
           (λ k at v f s h. comes_so (unit_of of) callers gives o room k at.0 v f s h) (has_so (unit_of of) callers gives o);
     }
@@ -242,25 +245,26 @@ RunsAsMeant may weigh given program =
     (start (unit_of program) (compiled_store (fresh_store weigh given (code_weight program)))) []
 
 -- a program is a body that is called with nothing
-program_by : (told : Told) (may : Instr → Bool) (gives : TyView) (tree : Node) (line : Line) (weigh : Routine → ℕ) (given : Given) → WeighsUnits weigh →
-    IsFittingHeap may given.heap → IsBody [] (body [] gives tree None line) → BodyRuns [] (body [] gives tree None line) →
-    AllByRecursion (FitsBy may) (bodies (body [] gives tree None line)) → RunsAsMeant may weigh given (body [] gives tree None line)
+pub program_runs : (told : Told) (may : Instr → Bool) (gives : TyView) (tree : Node) (line : Line) (weigh : Routine → ℕ) (given : Given) → WeighsUnits weigh →
+    IsFittingHeap may given.heap → IsFitBody [] (program gives tree line) → BodyIs (FitsBy may) IsValued (program gives tree line) →
+    RunsAsMeant may weigh given (program gives tree line)
 unfolding events_with outcome_with fresh_state fresh_frame body_meant keep_all ◌>>=◌ after give frame_of_call arguments_on
-program_by told may gives tree line weigh given weighs heap typed_body runs fit =
-    let of : BodyNode = body [] gives tree None line in
+program_runs told may gives tree line weigh given weighs heap is_body fitted =
+    let of : BodyNode = program gives tree line in
     let o = outcome_with weigh given of in
     let w = run_to may (unit_of of) (all_events o) in
-    let fits = names_in_body (FitsBy may) (λ b h. h.fits.valued) [] typed_body runs (bodies_inside (FitsBy may) of fit) tt in
-    body_does told w [] given.turns None [] (fresh_state weigh given (code_weight of)) [] [] of types.none gives (EndsIn (all_events o)) refl typed_body runs tt
-    fits (omega arith) (all_enter told given.turns (within w of [])) (heap.typed, heap.roots) weighs tt tt heap.fit (ends_at may of gives (all_events o))
+    body_does told w [] given.turns None [] (fresh_state weigh given (code_weight of)) [] of types.none gives (EndsIn (all_events o)) refl is_body refl
+    fitted (omega arith) (all_enter told given.turns (within w of [])) (heap.typed, heap.roots) weighs tt tt heap.fit (ends_at may of gives (all_events o))
     (ends_so may (unit_of of) o)
 
--- and has no scope of its own
+-- Typed programs.
+
+-- a typed program has no scope of its own
 no_scope : (gives : TyView) (tree : Node) (bytes : List ℕ) (line : Line) → IsBody [] (body [] gives tree (Some bytes) line) → ⊥
 no_scope gives tree bytes line (typed.of_params typed.scoped typed.Takes.no_more ended t) = cc
 
 -- where each instruction may run
-each_true : (is : List Instr) → AllByRecursion (λ (i : Instr). true ≡ true) is
+pub each_true : (is : List Instr) → AllByRecursion (λ (i : Instr). true ≡ true) is
 each_true [] = tt
 each_true (i ∷ is) = (refl, each_true is)
 
@@ -274,17 +278,31 @@ both_fit : (may : Instr → Bool) (all : List BodyNode) → AllByRecursion Fits 
 both_fit may [] h k = tt
 both_fit may (of ∷ all) h k = (record { fits = h.0; each_may = k.0 }, both_fit may all h.1 k.1)
 
-pub program_runs : (told : Told) (may : Instr → Bool) (program : BodyNode) (weigh : Routine → ℕ) (given : Given) → WeighsUnits weigh →
-    IsFittingHeap may given.heap → IsWellTyped program → BodyRuns [] program →
-    AllByRecursion (λ (of : BodyNode). IsValued (type_of_body of)) (bodies program) → first_complex (bodies program) ≡ None →
-    AllByRecursion HasUnit (bodies program) →
-    AllByRecursion (λ (of : BodyNode). AllByRecursion (λ (i : Instr). may i ≡ true) (instrs_of of)) (bodies program) → RunsAsMeant may weigh given program
-program_runs told may (body params gives tree text line) weigh given weighs heap (no_params, is_void, typed_body) runs valued few units instrs =
-    let Done : List Param → Option (List ℕ) → Type 0 = λ ps scope. IsBody [] (body ps gives tree scope line) → BodyRuns [] (body ps gives tree scope line) →
-    AllByRecursion (FitsBy may) (bodies (body ps gives tree scope line)) → RunsAsMeant may weigh given (body ps gives tree scope line) in
+small : (all : List BodyNode) → AllByRecursion Fits all → Each IsSmall all
+small [] h = tt
+small (of ∷ all) h = (record { valued = h.0.valued; few = h.0.slots }, small all h.1)
+
+pub typed_program_fits : TypedBodiesAreFit → (may : Instr → Bool) (of : BodyNode) → IsWellTyped of → BodyRuns [] of →
+    AllByRecursion (λ (b : BodyNode). IsValued (type_of_body b)) (bodies of) → first_complex (bodies of) ≡ None → AllByRecursion HasUnit (bodies of) →
+    AllByRecursion (λ (b : BodyNode). AllByRecursion (λ (i : Instr). may i ≡ true) (instrs_of b)) (bodies of) →
+    IsFitBody [] of × BodyIs (FitsBy may) IsValued of
+typed_program_fits fit may (body params gives tree text line) typed_program runs valued few units instrs =
+    let of : BodyNode = body params gives tree text line in
+    let fitted = bodies_fit (bodies of) valued few units in
+    let is_body = fit [] [] [] of typed_program.2 runs (small (bodies of) fitted) tt in
+    (is_body, names_in_body (FitsBy may) (FitsBy may) (λ round b f h. h) is_body (bodies_inside (FitsBy may) of (both_fit may (bodies of) fitted instrs)) tt)
+
+pub typed_program_runs : (told : Told) → TypedBodiesAreFit → (may : Instr → Bool) (of : BodyNode) (weigh : Routine → ℕ) (given : Given) → WeighsUnits weigh →
+    IsFittingHeap may given.heap → IsWellTyped of → BodyRuns [] of → AllByRecursion (λ (b : BodyNode). IsValued (type_of_body b)) (bodies of) →
+    first_complex (bodies of) ≡ None → AllByRecursion HasUnit (bodies of) →
+    AllByRecursion (λ (b : BodyNode). AllByRecursion (λ (i : Instr). may i ≡ true) (instrs_of b)) (bodies of) → RunsAsMeant may weigh given of
+typed_program_runs told fit may (body params gives tree text line) weigh given weighs heap typed_program runs valued few units instrs =
+    let of = body params gives tree text line in
+    let fits_so = typed_program_fits fit may of typed_program runs valued few units instrs in
+    let Done : List Param → Option (List ℕ) → Type 0 = λ ps scope. IsBody [] (body ps gives tree scope line) → IsFitBody [] (body ps gives tree scope line) →
+    BodyIs (FitsBy may) IsValued (body ps gives tree scope line) → RunsAsMeant may weigh given (body ps gives tree scope line) in
     let by_scope : (scope : Option (List ℕ)) → Done [] scope = λ scope. elim scope as (λ s. Done [] s) [
-      | None ↦ program_by told may gives tree line weigh given weighs heap
-      | Some bytes ↦ λ is r f. absurd (no_scope gives tree bytes line is)
+      | None ↦ λ is f b. program_runs told may gives tree line weigh given weighs heap f b
+      | Some bytes ↦ λ is f b. absurd (no_scope gives tree bytes line is)
     ] in
-    let all = bodies (body params gives tree text line) in
-    subst (λ (ps : List Param). Done ps text) (sym no_params) (by_scope text) typed_body runs (both_fit may all (bodies_fit all valued few units) instrs)
+    subst (λ (ps : List Param). Done ps text) (sym typed_program.0) (by_scope text) typed_program.2 fits_so.0 fits_so.1

@@ -10,7 +10,8 @@ use Rattle.ps_stepping.specs.ps_meaning.Meaning.{Frame, Store, State, Outcome, V
 use Rattle.ps_stepping.specs.ps_meaning.Operations.{is_equal}
 use Rattle.ps_gen.specs.ps_emitter.Choices as choice
 use Rattle.ps_stepping.specs.Machine.{on, act}
-use Rattle.ps_soundness.specs.Shapes.{IsOf, Grows}
+use Rattle.ps_soundness.specs.Over.{Grows}
+use Rattle.ps_code_laws.specs.Fitting.{IsOf}
 use Rattle.ps_soundness.proofs.Growing.{of_kept}
 use Rattle.ps_code_laws.specs.Compiled.{compiled}
 use Rattle.ps_code_laws.specs.Meets.{nums_left, refs_left}
@@ -19,7 +20,7 @@ use Rattle.ps_code_laws.proofs.Clauses as clause
 use Rattle.ps_code_laws.proofs.Standing.{AtBy}
 use Rattle.ps_code_laws.proofs.Doing.{Origin, after_it, Leads, Way, if_true, if_false, nums_few, refs_few, place, Room, room_above, Does, quiet, moved, does_over, does_jump, jump_goes, push_goes, push_ref_goes, does_same}
 use Rattle.ps_code_laws.proofs.Comparing.{compare_acts}
-use Rattle.ps_soundness.proofs.Standings.{by_rules}
+use Rattle.fit_soundness.proofs.Levels.{fits}
 
 after_after : (o : Outcome) (b d : Value → Meaning) → after (after o b) d ≡ after o (λ v. b v >>= d)
 unfolding after ◌>>=◌
@@ -158,7 +159,7 @@ module _ (w : Way) where
       (does_over w (nums_left ty v ++ nums_left ty v) (refs_left ty v ++ refs_left ty v)
       (λ u. choose (is_equal ty v u) (give (Flag true)) rest >>= next)
       2 nl need need (p + 1) q k (two_few ty v) (two_refs_few ty v) (omega arith) (omega arith) leads dl
-      (λ new u g of. test_label h need q chosen k v u rest next (omega arith) (of_kept by_rules n.heap new g ty v is) of at_test at_jump lt (dt new g)
+      (λ new u g of. test_label h need q chosen k v u rest next (omega arith) (of_kept fits n.heap new g ty v is) of at_test at_jump lt (dt new g)
       (df new g)
       (is_equal ty v u) refl)))
 

@@ -25,7 +25,7 @@ use Rattle.ps_code_laws.specs.Meets.{nums_left, refs_left}
 use Rattle.ps_code_laws.proofs.Doing.{Way, if_true, place, Comes}
 use Rattle.ps_code_laws.proofs.RowForms.{pushed_nums, pushed_refs}
 use Rattle.ps_code_laws.proofs.Arguments.{fields_of, KindsAre, refs_popped, nums_popped}
-use Rattle.ps_soundness.proofs.Standings.{by_rules}
+use Rattle.fit_soundness.proofs.Levels.{fits}
 
 and_true : (a b : Bool) → a ≡ true → b ≡ true → (a && b) ≡ true
 and_true true b h k = k
@@ -52,7 +52,7 @@ module _ (w : Way) where
   -- what a call does once its arguments are taken
   pub call_acts : (heap : Heap) (p : ℕ) (at : Line) (params : List Param) (gives : TyView) (tree : Node) (text : Option (List ℕ)) (line : Line)
       (scope : Option ℕ) (args : List Value) (nums : List ℤ) (refs : List Value) (f : Frame) (store : Store) → KindsAre params →
-      ValuesOf by_rules heap (types_of_params params) args →
+      ValuesOf fits heap (types_of_params params) args →
       locals_on true (body params gives tree text line) ≤ frame_words → locals_on false (body params gives tree text line) ≤ frame_words →
       act (instr.Call (taken_by_params false params) at) (place w p (pushed_nums (fields_of params) args nums)
       (pushed_refs (fields_of params) args (compiled (Procedure (as_written (body params gives tree text line)) scope) ∷ refs)) f store)

@@ -1,6 +1,6 @@
 -- A body that is called does what it means: its scope is made, the arguments that it keeps are moved there, its clause runs, and it comes back. By
 -- induction on the turns that may be left.
-use Rattle.std.proofs.Common.{◌≡◌, ℕ, ◌+◌, ◌≤◌, Bool, true, false, List, [], ◌∷◌, ◌++◌, length, Option, Some, None, refl, ap, subst, arith}
+use Rattle.std.proofs.Common.{◌≡◌, ℕ, ◌+◌, ◌≤◌, Bool, true, false, List, [], ◌∷◌, ◌++◌, length, Option, Some, None, refl, sym, ap, ◌∙◌, subst, arith}
 use Rattle.ps_gen.specs.ps_base.TyView.{TyView, TyViews}
 use Rattle.ps_gen.specs.ps_base.TyView as types
 use Rattle.ps_gen.specs.ps_base.CodeUnit.{text as text_of}
@@ -14,13 +14,9 @@ use Rattle.ps_gen.specs.ps_program.declared.place.Place.TheVariants.{Plain, Kept
 use Rattle.ps_gen.specs.ps_program.Node.{Param, Node, BodyNode, body}
 use Rattle.std.specs.Prelude.{if◌then◌else◌}
 use Rattle.ps_gen.specs.ps_program.Slots.{depth}
-use Rattle.ps_type_text.specs.Texts.{Field}
 use Rattle.ps_typing_laws.specs.ps_typing.Placing.{is_number}
 use Rattle.ps_typing_laws.specs.ps_typing.Locals.{taken_by_params}
-use Rattle.ps_typing_laws.specs.ps_typing.WellTyped.{Env, Free, types_of_params, Takes, IsTyped, IsBody}
-use Rattle.ps_typing_laws.specs.ps_typing.WellTyped as typed
-use Rattle.ps_typing_laws.specs.Counted.{IsCounted}
-use Rattle.ps_typing_laws.proofs.Tracked.{params_tracked, LocalsBelow, track, track_body, limit_is}
+use Rattle.ps_typing_laws.specs.ps_typing.WellTyped.{types_of_params}
 use Rattle.ps_stepping.specs.ps_heap.Values.{Value}
 use Rattle.ps_stepping.specs.ps_heap.Objects.{Heap, with_new, new_number}
 use Rattle.ps_stepping.specs.ps_heap.Scopes.{new_scope}
@@ -33,18 +29,25 @@ use Rattle.ps_gen.specs.Emission.{size, emit}
 use Rattle.ps_gen.specs.Units.{kept_at, size_kept_at, keeps, size_keeps, body_instrs, type_constant, constants, frame_of, unit_of}
 use Rattle.ps_gen.proofs.Widths.{widths}
 use Rattle.ps_stepping.specs.Config.{Caller, frame_in}
-use Rattle.ps_soundness.specs.Running.{ArePlaces, RunsIn, BodyRuns}
-use Rattle.ps_soundness.specs.Shapes.{AreScopes, IsTypedHeld, type_of_body}
+use Rattle.ps_soundness.specs.Running.{IsScopeText}
+use Rattle.ps_soundness.specs.Shapes.{type_of_body}
+use Rattle.ps_code_laws.specs.Fitting.{IsTypedHeld}
 use Rattle.ps_soundness.proofs.Telling.{Told}
 use Rattle.ps_soundness.proofs.Growing.{grows_not, grows_new}
 use Rattle.ps_soundness.proofs.Calling.{ValuesOf, values_kept}
 use Rattle.ps_code_laws.specs.Literals.{BodyIs, BodiesAre}
 use Rattle.ps_code_laws.specs.Compiled.{WeighsUnits}
 use Rattle.ps_code_laws.specs.Meets.{nums_left, refs_left, standing}
+use Rattle.heap_fit.specs.Slots.{slots_of}
+use Rattle.heap_fit.specs.Bodies.{Level, InScope, Takes, HasSlots, IsFit, IsFitBody}
+use Rattle.heap_fit.specs.Bodies as fit
+use Rattle.fit_soundness.specs.Levels.{AreLevelsAt}
+use Rattle.fit_soundness.proofs.Clauses.{of_clause}
+use Rattle.ps_code_laws.proofs.Counting.{HasLocals, has_locals}
 use Rattle.ps_code_laws.proofs.Standing.{Ahead, Named, all_ahead, all_named, front, behind, after_clause}
 use Rattle.ps_code_laws.proofs.Literals.{AreLiterals, InHeap}
 use Rattle.ps_code_laws.proofs.Holding.{frame_is}
-use Rattle.ps_code_laws.proofs.Building.{clause, as_part}
+use Rattle.ps_code_laws.proofs.Building.{Placed, tree_placed, part}
 use Rattle.ps_code_laws.proofs.Doing.{IsSince, Way, place, Comes, Room, less_room}
 use Rattle.ps_code_laws.proofs.From.{On, From, from_does, then_from}
 use Rattle.ps_code_laws.proofs.ScopeForms.{does_enter}
@@ -56,7 +59,7 @@ use Rattle.ps_code_laws.proofs.Calls.{Entered}
 use Rattle.ps_code_laws.proofs.Operands.{some_depth, context_in, Stand}
 use Rattle.ps_soundness.specs.Valued.{IsValued, AllValued}
 use Rattle.ps_code_laws.proofs.Simulation.{does}
-use Rattle.ps_soundness.proofs.Standings.{by_rules}
+use Rattle.fit_soundness.proofs.Levels.{fits}
 
 width_by : (number : Bool) (place : Place) (rest : List Param) (nums refs : ℕ) → ((n r : ℕ) → widths (keeps rest n r) ≡ size_keeps rest) →
     widths (if number then kept_at place (instr.GetM nums) (λ u i. instr.KeepM u i) ++ keeps rest (nums + 1) refs
@@ -76,43 +79,37 @@ on_any (Ends e s) = tt
 
 module _ (v : Way) where
   -- what a body is known by: its parameters and its clause
-  record Inside (wholes first : List (List Field)) (params : List Param) (tree : Node) (gives : TyView) : Type 0 where
-    env : Env
-    free : Free
-    free' : Free
-    takes : Takes (record { locals = []; scopes = first }) (record { nums = 0; refs = 0 }) params env free
-    typed_tree : IsTyped env free tree gives free'
-    places : ArePlaces wholes params
-    runs : RunsIn (Some wholes) tree
-    fit : BodiesAre v.Body IsValued tree
+  record Inside (inside : List Level) (params : List Param) (tree : Node) (gives : TyView) : Type 0 where
+    own : Option (List ℕ)
+    env : InScope
+    takes : Takes own (record { locals = []; levels = inside }) 0 0 params env
+    fit_tree : IsFit env tree gives
+    bodies : BodiesAre v.Body IsValued tree
     valued : AllValued (types_of_params params)
-    nums_are : free'.nums ≤ (frame_in v.unit).nums
-    refs_are : free'.refs ≤ (frame_in v.unit).refs
+    placed : Placed (frame_in v.unit).nums (frame_in v.unit).refs env.locals (of_clause tree)
     nums_taken : taken_by_params true params ≤ (frame_in v.unit).nums
     refs_taken : taken_by_params false params ≤ (frame_in v.unit).refs
 
   -- after its scope, a body keeps its arguments and does what its clause means
-  clause_does : (told : Told) {wholes first : List (List Field)} {params : List Param} {tree : Node} {gives : TyView}
-      (h : Inside wholes first params tree gives) (turns : ℕ) → Entered v turns → (heap : Heap) (args : List Value) →
-      ValuesOf by_rules heap (types_of_params params) args → AreLiterals v.Body args → (p k : ℕ) (behind_it : List Instr) →
+  clause_does : (told : Told) {inside : List Level} {params : List Param} {tree : Node} {gives : TyView}
+      (h : Inside inside params tree gives) (turns : ℕ) → Entered v turns → (heap : Heap) (args : List Value) →
+      ValuesOf fits heap (types_of_params params) args → AreLiterals v.Body args → (p k : ℕ) (behind_it : List Instr) →
       Ahead v.Allows v.unit p (keeps params 0 0 ++ (emit tree (p + size_keeps params) k ++ behind_it)) → Named v.unit k (constants tree) →
-      From v (begun turns heap h.env.locals wholes first) (Passed (record { nums = 0; refs = 0 }) (arguments_on true params args)
+      From v (begun turns heap h.env.locals inside) (Passed 0 0 (arguments_on true params args)
       (arguments_on false params args)) [] [] (keep_all params args >>= λ u. eval (context_in v turns) tree) gives (depth tree) p
       (p + size_keeps params + size tree)
-  clause_does told {wholes = wholes} {first = first} {params = params} {tree = tree} {gives = gives} h turns enters heap args are literals p k behind_it
+  clause_does told {inside = inside} {params = params} {tree = tree} {gives = gives} h turns enters heap args are literals p k behind_it
       ahead names =
       let q = p + size_keeps params in
       let of_tree = behind v.Allows v.unit p q (keeps params 0 0) _ (ap (λ (n : ℕ). p + n) (width_keeps params 0 0)) ahead in
-      let below : LocalsBelow h.env h.free = (params_tracked h.takes (λ slot ty found. absurd found)).below in
-      let part = as_part told v.Body (λ b h. (v.fits b h).valued) (frame_in v.unit).nums (frame_in v.unit).refs wholes h.typed_tree h.runs h.fit below
-      (clause told v.Body (λ b h. (v.fits b h).valued) (frame_in v.unit).nums (frame_in v.unit).refs wholes h.typed_tree h.runs h.fit below
-      (record { nums_are = h.nums_are; refs_are = h.refs_are })) in
       then_from v (λ u. eval (context_in v turns) tree) (λ u f. Unit {0}) 1 (depth tree) p q (q + size tree) (some_depth tree)
-      (keep_leads v.Body told wholes h.takes h.env.locals args h.places turns heap are literals) (λ f s is. on_any (keep_all params args f s))
-      (keeps_do v told wholes h.takes h.env.locals args (kinds_are params h.valued) h.places turns heap p are literals
+      (keep_leads v.Body told h.takes h.valued h.env.locals args turns heap are literals) (λ f s is. on_any (keep_all params args f s))
+      (keeps_do v told h.takes h.valued h.env.locals args (kinds_are params h.valued) turns heap p are literals
       (let n = h.nums_taken in omega arith) (let n = h.refs_taken in omega arith) (front v.Allows v.unit p (keeps params 0 0) _ ahead))
       (λ new u g done. from_does v (λ f. Unit {0})
-      (does v (begun turns new h.env.locals wholes h.env.scopes) enters q k part (front v.Allows v.unit q (emit tree q k) behind_it of_tree) names))
+      (does v (begun turns new h.env.locals h.env.levels) enters q k
+      (part told v.Body (frame_in v.unit).nums (frame_in v.unit).refs h.fit_tree h.bodies h.placed)
+      (front v.Allows v.unit q (emit tree q k) behind_it of_tree) names))
 
 -- the same way in a body of its own, inside bodies that wait
 abbrev pub within : Way → BodyNode → List Caller → Way
@@ -149,44 +146,39 @@ comes_at : (v : Way) (gives : TyView) (Is : Value → State → Type 0) → Retu
 comes_at v gives Is returns k at (Value_is u f s) h = returns k at u f s h
 comes_at v gives Is returns k at (Ends e s) h = h
 
--- what is known of a body by its typing
-inside_of : (v : Way) {first : List (List Field)} (wholes : List (List Field)) (params : List Param) (gives : TyView) (tree : Node)
-    (text : Option (List ℕ)) (line : Line) {env : Env} {free free' : Free} → frame_in v.unit ≡ frame_of (body params gives tree text line) →
-    Takes (record { locals = []; scopes = first }) (record { nums = 0; refs = 0 }) params env free → IsTyped env free tree gives free' →
-    ArePlaces wholes params → RunsIn (Some wholes) tree → BodiesAre v.Body IsValued tree → AllValued (types_of_params params) →
-    Inside v wholes first params tree gives
-inside_of v wholes params gives tree text line {env = env} {free = free} {free' = free'} frame takes t places runs fit valued =
-    let p = params_tracked takes (λ slot ty found. absurd found) in
-    let h = track t p.below in
-    let is_limit = limit_is free free' params tree gives text line p.nums p.refs h in
-    let nums = ap (λ (of : Frames). of.nums) frame in
-    let refs = ap (λ (of : Frames). of.refs) frame in
+-- what is known of a fit body
+inside_of : (v : Way) {inside : List Level} (params : List Param) (gives : TyView) (tree : Node) (text : Option (List ℕ)) (line : Line)
+    {env : InScope} → frame_in v.unit ≡ frame_of (body params gives tree text line) → HasLocals (body params gives tree text line) →
+    Takes text (record { locals = []; levels = inside }) 0 0 params env → IsFit env tree gives → HasSlots (body params gives tree text line) →
+    BodiesAre v.Body IsValued tree → AllValued (types_of_params params) → Inside v inside params tree gives
+inside_of v {inside = inside} params gives tree text line {env = env} frame counted takes t slots bodies valued =
+    let of = body params gives tree text line in
+    let nums_are : length (slots_of true of) ≡ (frame_in v.unit).nums = counted.long true ∙ sym (ap (λ (x : Frames). x.nums) frame) in
+    let refs_are : length (slots_of false of) ≡ (frame_in v.unit).refs = counted.long false ∙ sym (ap (λ (x : Frames). x.refs) frame) in
+    let frame_nums = ap (λ (x : Frames). x.nums) frame in
+    let frame_refs = ap (λ (x : Frames). x.refs) frame in
     record {
+      own = text;
       env = env;
-      free = free;
-      free' = free';
       takes = takes;
-      typed_tree = t;
-      places = places;
-      runs = runs;
-      fit = fit;
+      fit_tree = t;
+      bodies = bodies;
       valued = valued;
-      nums_are = let a = is_limit true in omega arith;
-      refs_are = let a = is_limit false in omega arith;
+      placed = tree_placed (frame_in v.unit).nums (frame_in v.unit).refs takes slots nums_are refs_are;
       nums_taken = omega arith;
       refs_taken = omega arith;
     }
 
 module _ (told : Told) (w : Way) (callers : List Caller) (turns : ℕ) (scope : Option ℕ) (args : List Value) (s : State) where
   -- From its first instruction a body does what it means, with these arguments and its scope in this one.
-  pub body_does : (wholes scopes : List (List Field)) (of : BodyNode) (ps : TyViews) (g : TyView) (Is : Value → State → Type 0) →
-      types.Proc ps g ≡ type_of_body of → IsBody scopes of → BodyRuns wholes of → AreScopes s.store.held.objects scope wholes scopes →
+  pub body_does : (levels : List Level) (of : BodyNode) (ps : TyViews) (g : TyView) (Is : Value → State → Type 0) →
+      types.Proc ps g ≡ type_of_body of → IsFitBody levels of → AreLevelsAt s.store.held.objects scope levels →
       BodyIs w.Body IsValued of → s.store.turns ≤ turns → Entered (within w of callers) turns → IsTypedHeld s.store.held → WeighsUnits s.store.held.weigh →
-      ValuesOf by_rules s.store.held.objects ps args → AreLiterals w.Body args → InHeap w.Body s.store.held.objects → Returns (within w of callers) g Is →
+      ValuesOf fits s.store.held.objects ps args → AreLiterals w.Body args → InHeap w.Body s.store.held.objects → Returns (within w of callers) g Is →
       Closes w Is (body_meant (context turns (length callers)) of args (frame_of_call of scope args) s) →
       w.Holds (standing (unit_of of) callers 0 [] [] (frame_of_call of scope args) s.store) s.events
   unfolding body_meant scoped ◌>>=◌ after enter frame_of_call inside_of
-  body_does wholes scopes (body params gives tree None line) ps g Is ty_is (typed.of_params {env = env} typed.unscoped takes ended t) runs stand fits few
+  body_does levels (body params gives tree None line) ps g Is ty_is (fit.of_params {env = env} fit.unscoped takes t valued slots) stand fitted few
       enters typed_heap weighs values literals held returns reach =
       let of = body params gives tree None line in
       let v = within w of callers in
@@ -194,10 +186,10 @@ module _ (told : Told) (w : Way) (callers : List Caller) (turns : ℕ) (scope : 
       let heap = s.store.held.objects in
       let given : g ≡ gives = cc in
       let taken : ps ≡ types_of_params params = cc in
-      let are = subst (λ (tys : TyViews). ValuesOf by_rules heap tys args) taken values in
-      let h = inside_of v wholes params gives tree None line refl takes t runs.0 runs.1 fits.1 (w.fits of fits.0).valued.0 in
-      let counted : IsCounted of = (track_body (typed.of_params {line = line} typed.unscoped takes ended t)).counted in
-      let whole = all_ahead w.Allows u 0 (body_instrs params gives tree None) (w.fits of fits.0).unit (w.allowed of fits.0) refl in
+      let are = subst (λ (tys : TyViews). ValuesOf fits heap tys args) taken values in
+      let counted : HasLocals of = has_locals (fit.of_params {around = levels} {line = line} fit.unscoped takes t valued slots) in
+      let h = inside_of v params gives tree None line refl counted takes t slots fitted.1 valued.0 in
+      let whole = all_ahead w.Allows u 0 (body_instrs params gives tree None) (w.fits of fitted.0).unit (w.allowed of fitted.0) refl in
       let names = all_named (spelled (body_instrs params gives tree None)) (type_constant params gives) (constants tree) (frame_of of) in
       let does = clause_does v told h turns enters heap args are literals 0 1 (instr.Return (choice.kind_of gives) ∷ []) whole names in
       let of_tree = behind w.Allows u 0 (0 + size_keeps params) (keeps params 0 0) _ (ap (λ (n : ℕ). 0 + n) (width_keeps params 0 0)) whole in
@@ -206,7 +198,7 @@ module _ (told : Told) (w : Way) (callers : List Caller) (turns : ℕ) (scope : 
       let passed = none_passed params gives tree None line scope args in
       let m = keep_all params args >>= λ x. eval (context turns (length callers)) tree in
       does.by [] [] frame s passed
-      (let room = counted.room in let slots = (w.fits of fits.0).slots in record { on_nums = omega arith; on_refs = omega arith })
+      (let room = counted.room in let few_slots = (w.fits of fitted.0).slots in record { on_nums = omega arith; on_refs = omega arith })
       (record {
         few = few;
         grows = grows_not heap;
@@ -216,19 +208,20 @@ module _ (told : Told) (w : Way) (callers : List Caller) (turns : ℕ) (scope : 
         weighs = weighs;
       })
       (comes_at v gives Is (subst (λ (ty : TyView). Returns v ty Is) given returns) (0 + size_keeps params + size tree) at_return (m frame s) reach)
-  body_does wholes scopes (body params gives tree (Some bytes) line) ps g Is ty_is (typed.of_params {env = env} typed.scoped takes ended t) runs stand
-      fits few enters typed_heap weighs values literals held returns reach =
+  body_does levels (body params gives tree (Some bytes) line) ps g Is ty_is
+      (fit.of_params {env = env} (fit.scoped {first = first} {rest = rest} scope_named) takes t valued slots) stand
+      fitted few enters typed_heap weighs values literals held returns reach =
       let of = body params gives tree (Some bytes) line in
       let v = within w of callers in
       let u = unit_of of in
       let heap = s.store.held.objects in
       let given : g ≡ gives = cc in
       let taken : ps ≡ types_of_params params = cc in
-      let are = subst (λ (tys : TyViews). ValuesOf by_rules heap tys args) taken values in
-      let own = runs.0 in
-      let h = inside_of v (own.fields ∷ wholes) params gives tree (Some bytes) line refl takes t runs.1 runs.2 fits.1 (w.fits of fits.0).valued.0 in
-      let counted : IsCounted of = (track_body (typed.of_params {line = line} typed.scoped takes ended t)).counted in
-      let whole = all_ahead w.Allows u 0 (body_instrs params gives tree (Some bytes)) (w.fits of fits.0).unit (w.allowed of fits.0) refl in
+      let are = subst (λ (tys : TyViews). ValuesOf fits heap tys args) taken values in
+      let own : IsScopeText bytes = record { fields = first ∷ rest; named = scope_named; text_is = refl } in
+      let counted : HasLocals of = has_locals (fit.of_params {around = levels} {line = line} (fit.scoped {first = first} {rest = rest} scope_named) takes t valued slots) in
+      let h = inside_of v params gives tree (Some bytes) line refl counted takes t slots fitted.1 valued.0 in
+      let whole = all_ahead w.Allows u 0 (body_instrs params gives tree (Some bytes)) (w.fits of fitted.0).unit (w.allowed of fitted.0) refl in
       let names = all_named (spelled (body_instrs params gives tree (Some bytes))) (type_constant params gives) (text_of bytes ∷ constants tree)
       (frame_of of) in
       let frame = frame_of_call of scope args in
@@ -236,14 +229,14 @@ module _ (told : Told) (w : Way) (callers : List Caller) (turns : ℕ) (scope : 
       let grown = grows_new heap (new_scope bytes scope) in
       let inner : Frame = record frame { scope = Some (new_number heap) } in
       let now : State = record s { store = and_object (new_scope bytes scope) s.store } in
-      let values_now = values_kept by_rules heap new grown (types_of_params params) args are in
+      let values_now = values_kept fits heap new grown (types_of_params params) args are in
       let does = clause_does v told h turns enters new args values_now literals 5 2 (instr.Return (choice.kind_of gives) ∷ []) whole.1 names.1 in
       let of_tree = behind w.Allows u 5 (5 + size_keeps params) (keeps params 0 0) _ (ap (λ (n : ℕ). 5 + n) (width_keeps params 0 0)) whole.1 in
       let at_return = (after_clause w.Allows u tree (5 + size_keeps params) 2 _ of_tree).0 in
       let passed = none_passed params gives tree (Some bytes) line scope args in
       let m = keep_all params args >>= λ x. eval (context turns (length callers)) tree in
-      let first = begun turns heap env.locals wholes scopes in
-      let since : IsSince w.Body first frame s = record {
+      let outer = begun turns heap env.locals levels in
+      let since : IsSince w.Body outer frame s = record {
         few = few;
         grows = grows_not heap;
         typed = typed_heap;
@@ -252,8 +245,8 @@ module _ (told : Told) (w : Way) (callers : List Caller) (turns : ℕ) (scope : 
         weighs = weighs;
       } in
       let room : Room v (depth tree) [] []
-      = let room = counted.room in let slots = (w.fits of fits.0).slots in record { on_nums = omega arith; on_refs = omega arith } in
-      (does_enter v first 0 1 bytes whole.0 names.0).by [] [] frame s (less_room v 0 (depth tree) [] [] (omega arith) room) since
-      (does.by [] [] inner now (passed_in frame (Some (new_number heap)) passed) room (entered_since first bytes wholes own frame s refl since)
+      = let room = counted.room in let few_slots = (w.fits of fitted.0).slots in record { on_nums = omega arith; on_refs = omega arith } in
+      (does_enter v outer 0 1 bytes whole.0 names.0).by [] [] frame s (less_room v 0 (depth tree) [] [] (omega arith) room) since
+      (does.by [] [] inner now (passed_in frame (Some (new_number heap)) passed) room (entered_since outer bytes levels own frame s refl since)
       (comes_at v gives Is (subst (λ (ty : TyView). Returns v ty Is) given returns) (5 + size_keeps params + size tree) at_return (m inner now)
       (closes_in v Is scope (m inner now) reach)))

@@ -9,11 +9,8 @@ use Rattle.ps_gen.specs.ps_base.declared.instr.Instr.{Instr}
 use Rattle.ps_gen.specs.ps_base.declared.instr.Instr.TheVariants as instr
 use Rattle.ps_gen.specs.ps_program.Node.{Param, Node, BodyNode, body}
 use Rattle.ps_gen.specs.ps_program.Slots.{slot_count}
-use Rattle.ps_type_text.specs.Texts.{Field}
 use Rattle.ps_typing_laws.specs.ps_typing.Locals.{locals_on, taken_by_params}
-use Rattle.ps_typing_laws.specs.ps_typing.WellTyped.{types_of_params, IsBody}
-use Rattle.ps_typing_laws.specs.Counted.{IsCounted}
-use Rattle.ps_typing_laws.proofs.Tracked.{track_body}
+use Rattle.ps_typing_laws.specs.ps_typing.WellTyped.{types_of_params}
 use Rattle.ps_stepping.specs.ps_heap.Ends.{Trapped}
 use Rattle.ps_stepping.specs.ps_heap.Events.{Event, Turn}
 use Rattle.ps_stepping.specs.ps_heap.References.{scope_ids}
@@ -30,8 +27,9 @@ use Rattle.ps_stepping.specs.Config.{frame_words, Caller, Config}
 use Rattle.ps_stepping.specs.Steps.{Goes, Stops}
 use Rattle.ps_stepping.specs.Machine.{act}
 use Rattle.ps_stepping.specs.Procedures.{in_turn, waiting, body_of_call}
-use Rattle.ps_soundness.specs.Shapes.{IsOf, AreOf, IsTypedHeld, IsProcedure}
-use Rattle.ps_soundness.proofs.Growing.{procedure_kept}
+use Rattle.ps_code_laws.specs.Fitting.{IsOf, AreOf, IsTypedHeld}
+use Rattle.heap_fit.specs.Bodies.{Level, IsFitBody}
+use Rattle.fit_soundness.specs.Levels.{IsProcedure}
 use Rattle.ps_soundness.proofs.Calling.{ValuesOf, values_kept}
 use Rattle.ps_code_laws.specs.Compiled.{compiled, compiled_all, compiled_store, WeighsUnits}
 use Rattle.ps_soundness.specs.Valued.{IsValued}
@@ -40,13 +38,15 @@ use Rattle.ps_code_laws.specs.Meets.{standing, HasRoom}
 use Rattle.ps_code_laws.proofs.Literals.{IsLiteral, AreLiterals, InHeap}
 use Rattle.ps_code_laws.proofs.HeldCompiling.{touching_compiled}
 use Rattle.ps_code_laws.proofs.Clauses.{fields_by}
+use Rattle.ps_code_laws.proofs.Counting.{HasLocals, has_locals}
 use Rattle.ps_code_laws.proofs.Standing.{AtBy}
 use Rattle.ps_code_laws.proofs.Doing.{Origin, Way, place, Comes, Does, step, halt_there}
 use Rattle.ps_code_laws.proofs.Operands.{context_in, Stand}
 use Rattle.ps_code_laws.proofs.RowForms.{pushed_nums, pushed_refs, pushed_nums_over, pushed_refs_over}
 use Rattle.ps_code_laws.proofs.CallForms.{Returned, back_behind, call_acts}
 use Rattle.ps_code_laws.proofs.Arguments.{fields_of, kinds_are, values_by, references_are, num_locals, ref_locals}
-use Rattle.ps_soundness.proofs.Standings.{Standing, by_rules}
+use Rattle.fit_soundness.proofs.Levels.{fits, procedure_kept}
+use Rattle.fit_soundness.proofs.Standings.{Standing}
 
 module _ (w : Way) where
   -- From its first instruction a body that is called does what it means where at most so many turns are left, whatever waits that has room: whatever is
@@ -54,7 +54,7 @@ module _ (w : Way) where
   abbrev pub Enters : ℕ → Type 0
   Enters n = (caller : Caller) (of : BodyNode) (scope : Option ℕ) (args : List Value) (ps : TyViews) (g : TyView) (s : State) →
       s.store.turns ≤ n → HasRoom (caller ∷ []) → IsTypedHeld s.store.held → WeighsUnits s.store.held.weigh → IsProcedure s.store.held.objects (types.Proc ps g) of scope →
-      ValuesOf by_rules s.store.held.objects ps args → BodyIs w.Body IsValued of → AreLiterals w.Body args → InHeap w.Body s.store.held.objects →
+      ValuesOf fits s.store.held.objects ps args → BodyIs w.Body IsValued of → AreLiterals w.Body args → InHeap w.Body s.store.held.objects →
       Returned w caller g (body_meant (context n (suc (length w.callers))) of args (frame_of_call of scope args) s) →
       w.Holds (standing (unit_of of) (caller ∷ w.callers) 0 [] [] (frame_of_call of scope args) s.store) s.events
 
@@ -102,16 +102,16 @@ module _ (w : Way) where
       (map word_of (arguments_on true params args) ++ []) (compiled_all (arguments_on false params args) ++ []) (place w (p + 9) nums refs f s.store) →
       HasRoom (waiting (place w (p + 9) nums refs f s.store) ∷ []) → IsTypedHeld s.store.held → WeighsUnits s.store.held.weigh →
       IsProcedure s.store.held.objects (types.Proc (types_of_params params) gives) (body params gives tree text line) scope →
-      ValuesOf by_rules s.store.held.objects (types_of_params params) args → BodyIs w.Body IsValued (body params gives tree text line) → AreLiterals w.Body args →
+      ValuesOf fits s.store.held.objects (types_of_params params) args → BodyIs w.Body IsValued (body params gives tree text line) → AreLiterals w.Body args →
       InHeap w.Body s.store.held.objects →
       Comes w (p + 9) nums refs gives (back_to f (after (turned (with_turns s.store turns)
       (frame_of_call (body params gives tree text line) scope args) s)
       (λ t. touch_scope >>= λ u. body_meant (context m (suc (length w.callers))) (body params gives tree text line) args))) →
       w.Holds before s.events
   unfolding after back_to ◌>>=◌ change frame_of_call
-  call_goes m zero p i before params gives tree text line scope args nums refs f s le enters same at acts room typed weighs is are fits literals held reach =
+  call_goes m zero p i before params gives tree text line scope args nums refs f s le enters same at acts room typed weighs is are fitted literals held reach =
       halt_there w i s same at acts reach
-  call_goes m (suc left) p i before params gives tree text line scope args nums refs f s le enters same at acts room typed weighs is are fits literals held
+  call_goes m (suc left) p i before params gives tree text line scope args nums refs f s le enters same at acts room typed weighs is are fitted literals held
       reach =
       let of = body params gives tree text line in
       let c = place w (p + 9) nums refs f s.store in
@@ -123,7 +123,7 @@ module _ (w : Way) where
       (compiled_all (arguments_on false params args) ++ []) (on_held held (compiled_store taken)) c in
       step w turn i at (acts ∙ ap (λ (held : Held). Goes turn (entered held)) (touching_compiled (scope_ids scope) s.store.held weighs))
       (subst (λ (next : Config). w.Holds next now.events) (sym (body_stands params gives tree text line scope args touched c refl))
-      (enters (waiting c) of scope args (types_of_params params) gives now (omega arith) room typed weighs is are fits literals held
+      (enters (waiting c) of scope args (types_of_params params) gives now (omega arith) room typed weighs is are fitted literals held
       (back_behind w p nums refs gives f s.store
       (body_meant (context m (suc (length w.callers))) of args (frame_of_call of scope args) now) reach)))
 
@@ -137,32 +137,32 @@ module _ (w : Way) where
       else Stops (Trapped TooDeep at_line) 0) →
       HasRoom (waiting (place w (p + 9) nums refs f s.store) ∷ []) → IsTypedHeld s.store.held → WeighsUnits s.store.held.weigh →
       IsProcedure s.store.held.objects (types.Proc (types_of_params params) gives) (body params gives tree text line) scope →
-      ValuesOf by_rules s.store.held.objects (types_of_params params) args → BodyIs w.Body IsValued (body params gives tree text line) → AreLiterals w.Body args →
+      ValuesOf fits s.store.held.objects (types_of_params params) args → BodyIs w.Body IsValued (body params gives tree text line) → AreLiterals w.Body args →
       InHeap w.Body s.store.held.objects →
       Comes w (p + 9) nums refs gives (choose deep (in_frame (frame_of_call (body params gives tree text line) scope args)
       (call_within turns (suc (length w.callers)) (body params gives tree text line) args)) (stop (Trapped TooDeep at_line)) f s) →
       w.Holds before s.events
   unfolding choose stop in_frame back_to call_within take_turn ◌>>=◌
-  depth_goes turns p false i before params gives tree text line at_line scope args nums refs f s le entered same at acts room typed weighs is are fits literals
+  depth_goes turns p false i before params gives tree text line at_line scope args nums refs f s le entered same at acts room typed weighs is are fitted literals
       held reach =
       halt_there w i s same at acts reach
-  depth_goes zero p true i before params gives tree text line at_line scope args nums refs f s le entered same at acts room typed weighs is are fits literals
+  depth_goes zero p true i before params gives tree text line at_line scope args nums refs f s le entered same at acts room typed weighs is are fitted literals
       held reach =
       let none_left : s.store.turns ≡ 0 = omega arith in
       halt_there w i s same at (acts ∙ ap (λ (t : ℕ). in_turn (with_turns (compiled_store s.store) t) (unit_of (body params gives tree text line)) scope
       (map word_of (arguments_on true params args) ++ []) (compiled_all (arguments_on false params args) ++ []) (place w (p + 9) nums refs f s.store))
       none_left) reach
-  depth_goes (suc m) p true i before params gives tree text line at_line scope args nums refs f s le entered same at acts room typed weighs is are fits literals
+  depth_goes (suc m) p true i before params gives tree text line at_line scope args nums refs f s le entered same at acts room typed weighs is are fitted literals
       held reach =
       call_goes m s.store.turns p i before params gives tree text line scope args nums refs f s le (entered m (omega arith)) same at acts room typed weighs is
-      are fits literals held reach
+      are fitted literals held reach
 
   -- the locals of a body that fits
-  few_locals : {scopes : List (List Field)} (params : List Param) (gives : TyView) (tree : Node) (text : Option (List ℕ)) (line : Line) →
-      IsBody scopes (body params gives tree text line) → slot_count (body params gives tree text line) ≤ frame_words →
+  few_locals : {levels : List Level} (params : List Param) (gives : TyView) (tree : Node) (text : Option (List ℕ)) (line : Line) →
+      IsFitBody levels (body params gives tree text line) → slot_count (body params gives tree text line) ≤ frame_words →
       (locals_on true (body params gives tree text line) ≤ frame_words) × (locals_on false (body params gives tree text line) ≤ frame_words)
-  few_locals params gives tree text line typed_body few =
-      let counted : IsCounted (body params gives tree text line) = (track_body typed_body).counted in
+  few_locals params gives tree text line is_body few =
+      let counted : HasLocals (body params gives tree text line) = has_locals is_body in
       let room = counted.room in (omega arith, omega arith)
 
   call_by : (turns : ℕ) (heap : Heap) (known : Standing) (p need : ℕ) (at_line : Line) (params : List Param) (gives : TyView) (tree : Node)
@@ -174,11 +174,11 @@ module _ (w : Way) where
       (pushed_refs (fields_of params) args (compiled (Procedure (as_written (body params gives tree text line)) scope) ∷ []))
       (call_meant (context_in w turns) at_line (Procedure (as_written (body params gives tree text line)) scope) args) gives need p (p + 9)
   unfolding call_meant
-  call_by turns heap known p need at_line params gives tree text line scope args one entered fits literals is are at = record {
+  call_by turns heap known p need at_line params gives tree text line scope args one entered fitted literals is are at = record {
     by = λ nums refs f s room since reach.
         let of = body params gives tree text line in
         let v = compiled (Procedure (as_written of) scope) in
-        let few = few_locals params gives tree text line is.typed (w.fits of fits.0).slots in
+        let few = few_locals params gives tree text line is.fit (w.fits of fitted.0).slots in
         let i = instr.Call (taken_by_params false params) at_line in
         let at_call : Stand w p i = subst (λ (n : ℕ). Stand w p (instr.Call n at_line)) (references_are params) at in
         let values = values_by heap (types_of_params params) args are in
@@ -186,10 +186,10 @@ module _ (w : Way) where
         let begun = depth_goes turns p (nat_lt (length w.callers) most_calls) i
         (place w p (pushed_nums (fields_of params) args nums) (pushed_refs (fields_of params) args (v ∷ refs)) f s.store) params gives tree text line
         at_line scope args nums refs f s since.few entered refl at_call
-        (call_acts w heap p at_line params gives tree text line scope args nums refs f s.store (kinds_are params (w.fits of fits.0).valued.0) values few.0 few.1)
+        (call_acts w heap p at_line params gives tree text line scope args nums refs f s.store (kinds_are params (w.fits of fitted.0).valued.0) values few.0 few.1)
         (let a = room.on_nums in omega arith, let a = room.on_refs in omega arith) since.typed since.weighs
         (procedure_kept heap now since.grows (types.Proc (types_of_params params) gives) of scope is)
-        (values_kept by_rules heap now since.grows (types_of_params params) args values) fits literals since.held.1 reach in
+        (values_kept fits heap now since.grows (types_of_params params) args values) fitted literals since.held.1 reach in
         subst (λ (zs : List ℤ). w.Holds (place w p zs (pushed_refs (fields_of params) args (v ∷ []) ++ refs) f s.store) s.events)
         (sym (pushed_nums_over (fields_of params) args [] nums))
         (subst (λ (vs : List Value). w.Holds (place w p (pushed_nums (fields_of params) args nums) vs f s.store) s.events)
@@ -202,7 +202,7 @@ module _ (w : Way) where
       Stand w p (instr.Call (choice.references tys) line) →
       Does w n (pushed_nums (fields_by tys) args []) (pushed_refs (fields_by tys) args (compiled v ∷ [])) (call_meant (context_in w n.turns) line v args)
       ty need p (p + 9)
-  does_call n p need line tys ty (Procedure (as_written (body params gives tree text own_line)) scope) args one entered is fits are literals at =
+  does_call n p need line tys ty (Procedure (as_written (body params gives tree text own_line)) scope) args one entered is fitted are literals at =
       let of = body params gives tree text own_line in
       let v = Procedure (as_written of) scope in
       let same : tys ≡ types_of_params params = let e = is.ty_is in cc in
@@ -212,6 +212,6 @@ module _ (w : Way) where
       Does w n (pushed_nums (fields_by ts) args []) (pushed_refs (fields_by ts) args (compiled v ∷ [])) (call_meant (context_in w n.turns) line v args)
       t need p (p + 9) in
       subst (λ (ts : TyViews). Done ts ty) (sym same) (subst (λ (t : TyView). Done (types_of_params params) t) (sym same_given)
-      (λ h k stand_at. call_by n.turns n.heap n.known p need line params gives tree text own_line scope args one entered fits literals h k stand_at))
+      (λ h k stand_at. call_by n.turns n.heap n.known p need line params gives tree text own_line scope args one entered fitted literals h k stand_at))
       is are at
-  does_call n p need line tys ty _ args one entered is fits are literals at = absurd is
+  does_call n p need line tys ty _ args one entered is fitted are literals at = absurd is

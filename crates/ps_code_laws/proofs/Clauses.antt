@@ -12,7 +12,7 @@ use Rattle.ps_gen.specs.ps_program.Node.{Param, Node, Nodes, none, more, Arms, n
 use Rattle.ps_gen.specs.ps_program.Node as node
 use Rattle.ps_typing_laws.specs.ps_typing.Checking.{is_equated, is_ordered, is_comparable, is_writable}
 use Rattle.ps_type_text.specs.Texts.{Field, class_text, IsNamed}
-use Rattle.ps_typing_laws.specs.ps_typing.WellTyped.{At, IsOfType, types_of_params}
+use Rattle.ps_typing_laws.specs.ps_typing.WellTyped.{types_of_params}
 use Rattle.ps_stepping.specs.ps_heap.Operators.{is_int}
 use Rattle.ps_stepping.specs.ps_heap.Objects.{Heap}
 use Rattle.ps_stepping.specs.ps_heap.Values.{Value}
@@ -22,17 +22,19 @@ use Rattle.ps_stepping.specs.ps_heap.Library.{LibraryProcedure, library_procedur
 use Rattle.ps_typing_laws.specs.ps_typing.Library.{procedures, caller, two}
 use Rattle.ps_gen.specs.ps_emitter.Giving.{library_result}
 use Rattle.ps_soundness.specs.Running.{IsScopeText, HasField}
-use Rattle.ps_soundness.specs.Shapes.{IsOf}
+use Rattle.ps_code_laws.specs.Fitting.{IsOf}
 use Rattle.ps_soundness.specs.Valued.{IsValued}
 use Rattle.ps_soundness.proofs.Library.{parameters_of, type_given}
 use Rattle.ps_soundness.proofs.Combining.{Sound, sound_then, sound_give}
 use Rattle.ps_soundness.proofs.Calling.{ValuesOf}
-use Rattle.ps_soundness.proofs.Scans.{key_type, SparesAll}
+use Rattle.ps_soundness.proofs.Scans.{key_type, SparesThree}
 use Rattle.ps_soundness.proofs.Loops.{Settable, Turns, Spares}
+use Rattle.heap_fit.specs.Bodies.{Level}
 use Rattle.ps_code_laws.specs.Literals.{BodiesAre, AllBodiesAre}
 use Rattle.ps_code_laws.proofs.Known.{HasPlace, opened}
 use Rattle.ps_code_laws.proofs.Keeps.{on_nums, on_refs, Keeps}
-use Rattle.ps_soundness.proofs.Standings.{Standing, by_rules, in_scopes}
+use Rattle.fit_soundness.proofs.Levels.{fits}
+use Rattle.fit_soundness.proofs.Standings.{Standing, in_levels}
 
 -- the types whose values are numbers, those whose values are references, and those that can be written
 pub data IsNum : TyView → Type 0 where
@@ -70,29 +72,40 @@ pub record IsLoop (nums slot : ℕ) (b c s : Node) : Type 0 where
 
 -- however many turns may be left and calls are round it, and from each heap on, a clause yields a value of its type
 abbrev pub Sounds : Standing → Standing → Node → TyView → Type 0
-Sounds first last t ty = (n depth : ℕ) (heap : Heap) → Sound in_scopes heap first last ty (eval (context n depth) t)
+Sounds first last t ty = (n depth : ℕ) (heap : Heap) → Sound in_levels heap first last ty (eval (context n depth) t)
 
 -- what a loop by `for` keeps of what is known, and of what is known after a turn
 pub record KeepsTypes (known own : Standing) (slot : ℕ) : Type 0 where
-  pub spares : (at : ℕ) → slot ≤ at → Spares in_scopes known at
-  pub counts : (z : ℤ) → Settable in_scopes own known (Plain slot) z
+  pub spares : (at : ℕ) → slot ≤ at → at < slot + 3 → Spares in_levels known at
+  pub counts : (z : ℤ) → Settable in_levels own known (Plain slot) z
 
 -- a control has a number that is an int, from each heap on
 abbrev pub Controls : Standing → Standing → Place → Type 0
-Controls first last control = (z : ℤ) → is_int z ≡ true → Settable in_scopes first last control z
+Controls first last control = (z : ℤ) → is_int z ≡ true → Settable in_levels first last control z
 
 -- and so has it in a scope of its own in each turn, however many turns may be left and calls are round it
-abbrev pub TurnsIn : Standing → List ℕ → Node → Type 0
-TurnsIn known bytes s = (n depth : ℕ) → Turns in_scopes known known (Some bytes) (Kept 0 0) (eval (context n depth) s)
+abbrev pub TurnsIn : Standing → List ℕ → Place → Node → Type 0
+TurnsIn known bytes control s = (n depth : ℕ) → Turns in_levels known known (Some bytes) control (eval (context n depth) s)
+
+-- a local that is none of the three of a loop
+pub record IsApart (slot control : ℕ) : Type 0 where
+  pub first : control ≡ slot → ⊥
+  pub second : control ≡ slot + 1 → ⊥
+  pub third : control ≡ slot + 2 → ⊥
+
+-- where the control of a loop is: in such a local, or kept by the scope of the turn
+pub data IsControl (nums slot : ℕ) (known : Standing) : Place → Type 0 where
+  by_local : {control : ℕ} → control < nums → IsApart slot control → IsControl nums slot known (Plain control)
+  by_scope : {up position : ℕ} → HasPlace known up position types.Int → IsControl nums slot known (Kept up position)
 
 -- what a scan needs: its locals of each row are free, and its procedure, called with a key and what is under it, yields a bool
 pub record IsScan (known : Standing) (strings : Bool) (q s : ℕ) : Type 0 where
-  pub pntrs : SparesAll in_scopes known types.Pntr q
-  pub procedures : SparesAll in_scopes known (caller (key_type strings)) q
-  pub texts : SparesAll in_scopes known types.Str q
-  pub ints : SparesAll in_scopes known types.Int s
+  pub pntrs : SparesThree in_levels known types.Pntr q
+  pub procedures : SparesThree in_levels known (caller (key_type strings)) q
+  pub texts : SparesThree in_levels known types.Str q
+  pub ints : SparesThree in_levels known types.Int s
   pub answers : (n depth : ℕ) (line : Line) (heap : Heap) (procedure : Value) (args : List Value) → IsOf heap (caller (key_type strings)) procedure →
-      ValuesOf by_rules heap (two (key_type strings) types.Pntr) args → Sound in_scopes heap known known types.Bool (call_meant (context n depth) line procedure args)
+      ValuesOf fits heap (two (key_type strings) types.Pntr) args → Sound in_levels heap known known types.Bool (call_meant (context n depth) line procedure args)
 
 -- the types of arguments as those of fields, by which the words of a row go
 abbrev pub fields_by : TyViews → List Field
@@ -140,15 +153,15 @@ mutual
     repeat : {known : Standing} {a c b : Node} → Part P nums refs known a types.Void → Part P nums refs known c types.Bool →
         Part P nums refs known b types.Void →
         Clause P nums refs known (node.Repeat a c b) types.Void
-    loop : {known own : Standing} {slot control : ℕ} {a b c s : Node} {line : Line} → IsLoop nums slot b c s → KeepsTypes known own slot →
-        Controls known own (Plain control) → control < nums → slot + 2 < control → Part P nums refs known a types.Int →
+    loop : {known own : Standing} {slot : ℕ} {a b c s : Node} {control : Place} {line : Line} → IsLoop nums slot b c s → KeepsTypes known own slot →
+        Controls known own control → IsControl nums slot known control → Part P nums refs known a types.Int →
         Part P nums refs known b types.Int → Part P nums refs known c types.Int → Part P nums refs own s types.Void →
-        Clause P nums refs known (node.For slot a b c None (Plain control) s line) types.Void
-    kept_loop : {known own : Standing} {slot : ℕ} {bytes : List ℕ} {wholes : List (List Field)} {a b c s : Node} {line : Line}
-        (its : IsScopeText bytes) → known.wholes ≡ Some wholes → At (IsOfType types.Int) its.fields 0 → IsLoop nums slot b c s →
-        KeepsTypes known known slot → Controls (opened known its.fields wholes) own (Kept 0 0) → TurnsIn known bytes s →
+        Clause P nums refs known (node.For slot a b c None control s line) types.Void
+    scoped_loop : {known own : Standing} {slot : ℕ} {bytes : List ℕ} {levels : List Level} {a b c s : Node} {control : Place} {line : Line}
+        (its : IsScopeText bytes) → known.levels ≡ Some levels → IsLoop nums slot b c s → KeepsTypes known known slot →
+        Controls (opened known its.fields levels) own control → IsControl nums slot (opened known its.fields levels) control → TurnsIn known bytes control s →
         Part P nums refs known a types.Int → Part P nums refs known b types.Int → Part P nums refs known c types.Int → Part P nums refs own s types.Void →
-        Clause P nums refs known (node.For slot a b c (Some bytes) (Kept 0 0) s line) types.Void
+        Clause P nums refs known (node.For slot a b c (Some bytes) control s line) types.Void
     case : {known : Standing} {e d : Node} {arms : Arms} {value ty : TyView} → IsCompared relation.Equal value → Part P nums refs known e value →
         ArmsAre P nums refs known value arms ty → Part P nums refs known d ty →
         Clause P nums refs known (node.Case e arms d value) ty
@@ -213,8 +226,8 @@ mutual
         Part P nums refs known e ty → Clause P nums refs known (node.Let (Kept up position) ty e) types.Void
     let_kept_ref : {known : Standing} {up position : ℕ} {ty : TyView} {e : Node} → IsRef ty → HasPlace known up position ty →
         Part P nums refs known e ty → Clause P nums refs known (node.Let (Kept up position) ty e) types.Void
-    scoped_block : {known : Standing} {bytes : List ℕ} {wholes : List (List Field)} {items : Nodes} {ty : TyView} (its : IsScopeText bytes) →
-        known.wholes ≡ Some wholes → Items P nums refs (opened known its.fields wholes) types.Void items ty →
+    scoped_block : {known : Standing} {bytes : List ℕ} {levels : List Level} {items : Nodes} {ty : TyView} (its : IsScopeText bytes) →
+        known.levels ≡ Some levels → Items P nums refs (opened known its.fields levels) types.Void items ty →
         Clause P nums refs known (node.Block (Some bytes) items) ty
     literal : {known : Standing} {params : List Param} {gives : TyView} {tree : Node} {text : Option (List ℕ)} {line : Line} →
         Clause P nums refs known (node.Proc (body params gives tree text line)) (types.Proc (types_of_params params) gives)
@@ -268,10 +281,10 @@ behind_items (at_end {known = known}) = known
 behind_items (an_item first sounds fit rest) = behind_items rest
 
 pub items_sound : {P : BodyNode → Type 0} {nums refs : ℕ} {known : Standing} {before ty : TyView} {ts : Nodes} (h : Items P nums refs known before ts ty) (n depth : ℕ)
-    (heap : Heap) (v : Value) → IsOf heap before v → Sound in_scopes heap known (behind_items h) ty (eval_all (context n depth) v ts)
+    (heap : Heap) (v : Value) → IsOf heap before v → Sound in_levels heap known (behind_items h) ty (eval_all (context n depth) v ts)
 unfolding eval_all behind_items
-items_sound at_end n depth heap v is = sound_give in_scopes v is
-items_sound (an_item first sounds fit rest) n depth heap v is = sound_then in_scopes (sounds n depth heap) (λ new w g of. items_sound rest n depth new w of)
+items_sound at_end n depth heap v is = sound_give in_levels v is
+items_sound (an_item first sounds fit rest) n depth heap v is = sound_then in_levels (sounds n depth heap) (λ new w g of. items_sound rest n depth new w of)
 
 pub items_fit : {P : BodyNode → Type 0} {nums refs : ℕ} {known : Standing} {before ty : TyView} {ts : Nodes} → Items P nums refs known before ts ty → AllBodiesAre P IsValued ts
 items_fit at_end = tt

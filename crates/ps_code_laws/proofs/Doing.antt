@@ -18,7 +18,8 @@ use Rattle.ps_stepping.specs.ps_heap.Values.{Value, Nothing, word_of, is_one, fl
 use Rattle.ps_stepping.specs.ps_meaning.Meaning.{Frame, Store, State, Outcome, Value_is, Ends, Meaning, give, stop, after, ◌>>=◌, choose, answer, some_out, emit, in_places, is_width, written, with_turns, turned, spent, take_turn, with_local, get, set}
 use Rattle.ps_stepping.specs.ps_heap.Objects.{Heap}
 use Rattle.ps_stepping.specs.ps_meaning.Loops.{while_turns}
-use Rattle.ps_soundness.specs.Shapes.{IsOf, IsTypedHeld, Grows}
+use Rattle.ps_soundness.specs.Over.{Grows}
+use Rattle.ps_code_laws.specs.Fitting.{IsOf, IsTypedHeld}
 use Rattle.ps_soundness.proofs.Growing.{grows_not, grows_then}
 use Rattle.ps_soundness.proofs.Combining.{Sound, sound_then}
 use Rattle.ps_soundness.proofs.Combining as combining
@@ -35,7 +36,7 @@ use Rattle.ps_code_laws.specs.Literals.{Fits, instrs_of}
 use Rattle.ps_code_laws.proofs.Standing.{AtBy}
 use Rattle.ps_code_laws.proofs.Literals.{IsLiteral, InHeap, InFrame}
 use Rattle.ps_code_laws.proofs.Holding.{Left, Holds, holds_then}
-use Rattle.ps_soundness.proofs.Standings.{Standing, IsStanding, in_scopes}
+use Rattle.fit_soundness.proofs.Standings.{Standing, IsStanding, in_levels}
 
 -- A run of a unit, inside bodies that wait, that is to come to something: whatever is so of what a step returns is so of what it
 -- starts from. The events are the meaning's.
@@ -150,11 +151,11 @@ since_left n last ty v f s left = record {
 -- a part that takes turns alone, and yields a value of a type
 pub record Leads (P : BodyNode → Type 0) (n : Origin) (last : Standing) (ty : TyView) (a : Meaning) : Type 0 where
   pub falls : Falling a
-  pub sound : Sound in_scopes n.heap n.known last ty a
+  pub sound : Sound in_levels n.heap n.known last ty a
   pub holds : Holds P a
 
 left_of : (P : BodyNode → Type 0) (n : Origin) (last : Standing) (ty : TyView) (before : State) (o : Outcome) → before.store.turns ≤ n.turns → Grows n.heap before.store.held.objects →
-    WeighsUnits before.store.held.weigh → Falls before.store o → combining.Comes in_scopes before last ty o → Left P o → Behind P n last ty o
+    WeighsUnits before.store.held.weigh → Falls before.store o → combining.Comes in_levels before last ty o → Left P o → Behind P n last ty o
 left_of P n last ty before (Value_is v f s) le g weighs falls h k = record {
   few = let fewer = falls.0 in omega arith;
   grows = grows_then n.heap before.store.held.objects s.store.held.objects g h.grows;
@@ -176,14 +177,14 @@ leads_left {P = P} {n = n} {last = last} {ty = ty} {a = a} {f = f} {s = s} leads
 pub leads_more : {P : BodyNode → Type 0} {n : Origin} {last : Standing} {ty : TyView} {a : Meaning} {m : ℕ} {heap : Heap} → m ≤ n.turns → Grows n.heap heap →
     Leads P n last ty a →
     Leads P (record { turns = m; heap = heap; known = n.known }) last ty a
-leads_more {heap = heap} le g h = record { falls = h.falls; sound = combining.later in_scopes heap g h.sound; holds = h.holds }
+leads_more {heap = heap} le g h = record { falls = h.falls; sound = combining.later in_levels heap g h.sound; holds = h.holds }
 
 -- one part, and then another that needs no value of it
 pub leads_then : {P : BodyNode → Type 0} {n : Origin} {between last : Standing} {tya ty : TyView} {a b : Meaning} → Leads P n between tya a →
     ((new : Heap) → Grows n.heap new → Leads P (after_it n new between) last ty b) → Leads P n last ty (a >>= λ u. b)
 leads_then {P = P} {n = n} {a = a} {b = b} h k = record {
   falls = falls_then a (λ u. b) h.falls (λ u. (k n.heap (grows_not n.heap)).falls);
-  sound = sound_then in_scopes h.sound (λ new u g is. (k new g).sound);
+  sound = sound_then in_levels h.sound (λ new u g is. (k new g).sound);
   holds = holds_then P a (λ u. b) h.holds (λ u literal. (k n.heap (grows_not n.heap)).holds);
 }
 

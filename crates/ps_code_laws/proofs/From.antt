@@ -4,11 +4,12 @@ use Rattle.ps_gen.specs.ps_base.TyView.{TyView}
 use Rattle.ps_stepping.specs.ps_heap.Values.{Value}
 use Rattle.ps_stepping.specs.ps_heap.Objects.{Heap}
 use Rattle.ps_stepping.specs.ps_meaning.Meaning.{Frame, State, Outcome, Value_is, Ends, Meaning, after, ◌>>=◌}
-use Rattle.ps_soundness.specs.Shapes.{IsOf, Grows}
+use Rattle.ps_soundness.specs.Over.{Grows}
+use Rattle.ps_code_laws.specs.Fitting.{IsOf}
 use Rattle.ps_code_laws.specs.Meets.{nums_left, refs_left}
 use Rattle.ps_code_laws.proofs.Literals.{IsLiteral}
 use Rattle.ps_code_laws.proofs.Doing.{Origin, IsSince, since_more, after_it, Behind, since_left, Leads, leads_left, Way, place, Comes, Room, Does, less_room}
-use Rattle.ps_soundness.proofs.Standings.{Standing}
+use Rattle.fit_soundness.proofs.Standings.{Standing}
 
 -- what is so of a value and the locals after a clause that has one
 abbrev pub On : (Value → Frame → Type 0) → Outcome → Type 0

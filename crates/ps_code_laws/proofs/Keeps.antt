@@ -1,6 +1,7 @@
--- A clause leaves each local alone that it can't name: one below the free slots of its row, and not that of a name in scope.
+-- A clause leaves each local alone that it can't name: none of its own slots, and not that of a name in scope.
 use Rattle.std.proofs.Common.{◌≡◌, ℕ, zero, suc, ◌+◌, ◌≤◌, ◌<◌, ℤ, pos, ◌+ℤ◌, Bool, true, false, List, [], ◌∷◌, ◌++◌, Option, Some, None, inl, inr, refl, sym, ap, ◌∙◌, subst, arith, ne_eqb}
-use Rattle.std.specs.Prelude.{nat_eq, nat_lt, if◌then◌else◌}
+use Rattle.std.specs.Prelude.{◌≢◌, nat_eq, nat_lt, if◌then◌else◌}
+use Rattle.std.specs.List.{AllByRecursion}
 use Rattle.ps_gen.specs.ps_base.TyView.{TyView, TyViews}
 use Rattle.ps_gen.specs.ps_base.TyView as types
 use Rattle.ps_gen.specs.ps_base.declared.line.Line.{Line}
@@ -10,10 +11,10 @@ use Rattle.ps_gen.specs.ps_program.Node.{Node, Nodes, none, more, Arms, no_arms,
 use Rattle.ps_gen.specs.ps_program.Node as node
 use Rattle.ps_typing_laws.specs.ps_typing.Placing.{is_number}
 use Rattle.ps_typing_laws.specs.ps_typing.Library.{caller}
-use Rattle.ps_typing_laws.specs.ps_typing.WellTyped.{Some_is, Env, Free, IsLocal, Claim, ◌has◌, all_have, arms_have, behind_loop, behind_scan, Rule, Opens, Declares, IsTyped, AreTyped, AreItems, Arguments}
+use Rattle.ps_typing_laws.specs.ps_typing.WellTyped.{Some_is, Local, IsLocal, Claim, ◌has◌, all_have, arms_have, Rule, Arguments}
 use Rattle.ps_typing_laws.specs.ps_typing.WellTyped as typed
 use Rattle.ps_typing_laws.specs.Counted.{Each}
-use Rattle.ps_typing_laws.proofs.Tracked.{limit, Grows, tree_grows, LocalsBelow, locals_grow, declared, track, track_all, all_grows}
+use Rattle.ps_typing_laws.proofs.Tracked.{clauses_of, item_nodes}
 use Rattle.ps_stepping.specs.ps_heap.Operators.{Answer, Gives, Traps, neg_of, arith_of, is_same}
 use Rattle.ps_stepping.specs.ps_heap.Ends.{OutOfTurns}
 use Rattle.ps_stepping.specs.ps_heap.Values.{Value, Num, Flag, Text, Nil, Pointer, Vector, Procedure, Nothing, as_written, word_of, flag_of, shown}
@@ -30,7 +31,15 @@ use Rattle.ps_stepping.specs.ps_meaning.Frames.{frame_of_call}
 use Rattle.ps_stepping.specs.ps_meaning.Operations.{is_equal, make_meant, read_line, at_end, lib_meant}
 use Rattle.ps_stepping.specs.ps_meaning.Loops.{while_turns, Counting, goes_on, in_turn, for_turns, for_loop, for_meant, Scanning, set_last, scan_call, scan_next, scan_turns, begin_scan}
 use Rattle.ps_stepping.specs.ps_meaning.Evaluation.{Context, most_calls, call_meant, eval, eval_all, eval_each, eval_arms, eval_labels}
+use Rattle.ps_soundness.proofs.Places.{IsSpare}
+use Rattle.ps_soundness.proofs.Sequences.{all_left, all_right}
+use Rattle.heap_fit.specs.Slots.{from, slot_on}
+use Rattle.heap_fit.specs.Bodies.{InScope, Declares, IsFit, AreFit, AreItems}
+use Rattle.heap_fit.specs.Bodies as fit
+use Rattle.fit_soundness.proofs.Rooms.{joint, slot_here, three_has}
+use Rattle.fit_soundness.proofs.Clauses.{of_clause, of_clauses}
 use Rattle.ps_code_laws.proofs.LibraryWalks.{scan_by}
+use Rattle.ps_code_laws.proofs.Shares.{Shared, three_nums, control_slots, scan_slots, rule_has, set_has, block_has, loop_has, first_three_have, fourth_has, scan_has, let_has}
 
 -- a local of one of the two rows
 pub record Spot : Type 0 where
@@ -178,9 +187,9 @@ pub leaves_set : (x : Spot) (slot : ℕ) (ty : TyView) (v : Value) → (is_numbe
 unfolding set
 leaves_set x slot ty v apart f s = other_in_frame x.number x.slot slot v f (is_number ty) apart
 
--- a slot from here on, in this row, isn't that of a local that lies below where it is of this row
-above : (x : Spot) (row : Bool) (first slot : ℕ) → (x.number ≡ row → x.slot < first) → first ≤ slot → row ≡ x.number → slot ≡ x.slot → ⊥
-above x row first slot below le is e = let l = below (sym is) in omega arith
+-- the local is none of the three from this slot on of this row
+abbrev pub NoneOf : Spot → Bool → ℕ → Type 0
+NoneOf x row first = (at : ℕ) → first ≤ at → at < first + 3 → row ≡ x.number → at ≡ x.slot → ⊥
 
 pub leaves_kept : (x : Spot) (up position : ℕ) (ty : TyView) (v : Value) → Leaves x (set (Kept up position) ty v)
 unfolding set change
@@ -262,74 +271,74 @@ leaves_loop x n line loop clause apart control h z =
 
 -- a loop by `for` sets locals of the number row, from its slot on
 leaves_for : (x : Spot) (n : ℕ) (line : Line) (slot : ℕ) (scope : Option (List ℕ)) (control : Place) (a b c clause : Meaning) →
-    (x.number ≡ true → x.slot < slot) → ((v : Value) → Leaves x (set control types.Int v)) →
+    NoneOf x true slot → ((v : Value) → Leaves x (set control types.Int v)) →
     Leaves x a → Leaves x b → Leaves x c → Leaves x clause → Leaves x (for_meant n line slot scope control a b c clause)
 unfolding for_meant
-leaves_for x n line slot scope control a b c clause below at_control ha hb hc h =
-    let apart : true ≡ x.number → slot ≡ x.slot → ⊥ = above x true slot slot below (omega arith) in
+leaves_for x n line slot scope control a b c clause others at_control ha hb hc h =
+    let apart : true ≡ x.number → slot ≡ x.slot → ⊥ = others slot (omega arith) (omega arith) in
     leaves_then x a _ ha (λ start. leaves_then x (set (Plain slot) types.Int start) _ (leaves_set x slot types.Int start (λ is e. apart is e))
     (λ u.
     leaves_then x b _ hb (λ limit. leaves_then x (set (Plain (slot + 1)) types.Int limit) _
-    (leaves_set x (slot + 1) types.Int limit (above x true slot (slot + 1) below (omega arith))) (λ u.
+    (leaves_set x (slot + 1) types.Int limit (others (slot + 1) (omega arith) (omega arith))) (λ u.
     leaves_then x c _ hc (λ step. leaves_then x (set (Plain (slot + 2)) types.Int step) _
-    (leaves_set x (slot + 2) types.Int step (above x true slot (slot + 2) below (omega arith))) (λ u.
+    (leaves_set x (slot + 2) types.Int step (others (slot + 2) (omega arith) (omega arith))) (λ u.
     leaves_loop x n line (record { slot = slot; scope = scope; control = control; limit = word_of limit; step = word_of step }) clause apart at_control h
     (word_of start)))))))
 
--- Scans: their locals lie above this one, in both rows.
+-- Scans: their locals are others than this one, in both rows.
 leaves_set_then : (x : Spot) (slot : ℕ) (ty : TyView) (v : Value) (next : Meaning) → (is_number ty ≡ x.number → slot ≡ x.slot → ⊥) → Leaves x next →
     Leaves x (set (Plain slot) ty v >>= λ u. next)
 leaves_set_then x slot ty v next apart h = leaves_then x (set (Plain slot) ty v) (λ u. next) (leaves_set x slot ty v apart) (λ u. h)
 
-leaves_last : (x : Spot) (scan : Scanning) → (x.number ≡ true → x.slot < scan.nums) → (x.number ≡ false → x.slot < scan.refs) → (key : Key) →
+leaves_last : (x : Spot) (scan : Scanning) → NoneOf x true scan.nums → NoneOf x false scan.refs → (key : Key) →
     Leaves x (set_last scan key)
-leaves_last x scan nums_above refs_above (string_key bytes) =
-    leaves_set x (scan.refs + 2) types.Str (Text bytes) (above x false scan.refs (scan.refs + 2) refs_above (omega arith))
-leaves_last x scan nums_above refs_above (int_key z) =
-    leaves_set x (scan.nums + 1) types.Int (Num z) (above x true scan.nums (scan.nums + 1) nums_above (omega arith))
+leaves_last x scan others_in_nums others_in_refs (string_key bytes) =
+    leaves_set x (scan.refs + 2) types.Str (Text bytes) (others_in_refs (scan.refs + 2) (omega arith) (omega arith))
+leaves_last x scan others_in_nums others_in_refs (int_key z) =
+    leaves_set x (scan.nums + 1) types.Int (Num z) (others_in_nums (scan.nums + 1) (omega arith) (omega arith))
 
-leaves_scan_call : (x : Spot) (scan : Scanning) → (x.number ≡ true → x.slot < scan.nums) → (x.number ≡ false → x.slot < scan.refs) →
+leaves_scan_call : (x : Spot) (scan : Scanning) → NoneOf x true scan.nums → NoneOf x false scan.refs →
     ((args : List Value) → Leaves x (scan.call args)) → (count : ℕ) (again : Key → Meaning) (found : Found) → ((key : Key) → Leaves x (again key)) →
     Leaves x (scan_call scan count again found)
 unfolding scan_call
-leaves_scan_call x scan nums_above refs_above called count again found h =
-    leaves_then x (set_last scan found.key) _ (leaves_last x scan nums_above refs_above found.key) (λ u.
-    leaves_set_then x (scan.nums + 2) types.Int (Num (pos 1)) _ (above x true scan.nums (scan.nums + 2) nums_above (omega arith))
+leaves_scan_call x scan others_in_nums others_in_refs called count again found h =
+    leaves_then x (set_last scan found.key) _ (leaves_last x scan others_in_nums others_in_refs found.key) (λ u.
+    leaves_set_then x (scan.nums + 2) types.Int (Num (pos 1)) _ (others_in_nums (scan.nums + 2) (omega arith) (omega arith))
     (leaves_then x (scan.call (scan_arguments found)) _ (called (scan_arguments found)) (λ more.
-    leaves_set_then x scan.nums types.Int (Num (pos (suc count))) _ (above x true scan.nums scan.nums nums_above (omega arith))
+    leaves_set_then x scan.nums types.Int (Num (pos (suc count))) _ (others_in_nums scan.nums (omega arith) (omega arith))
     (leaves_choose x (flag_of more) _ _ (leaves_then x take_turn _ (leaves_turn x) (λ t. h found.key)) (leaves_give x (Num (pos (suc count))))))))
 
-leaves_scan_next : (x : Spot) (scan : Scanning) → (x.number ≡ true → x.slot < scan.nums) → (x.number ≡ false → x.slot < scan.refs) →
+leaves_scan_next : (x : Spot) (scan : Scanning) → NoneOf x true scan.nums → NoneOf x false scan.refs →
     ((args : List Value) → Leaves x (scan.call args)) → (count : ℕ) (again : Key → Meaning) (found : Option Found) →
     ((key : Key) → Leaves x (again key)) → Leaves x (scan_next scan count again found)
 unfolding scan_next
-leaves_scan_next x scan nums_above refs_above called count again None h = leaves_give x (Num (pos count))
-leaves_scan_next x scan nums_above refs_above called count again (Some found) h =
+leaves_scan_next x scan others_in_nums others_in_refs called count again None h = leaves_give x (Num (pos count))
+leaves_scan_next x scan others_in_nums others_in_refs called count again (Some found) h =
     leaves_then x (touch (found.object ∷ [])) _ (leaves_touch x (found.object ∷ [])) (λ u.
-    leaves_choose x (nat_eq count most_scan_calls) _ _ (leaves_stop x _) (leaves_scan_call x scan nums_above refs_above called count again found h))
+    leaves_choose x (nat_eq count most_scan_calls) _ _ (leaves_stop x _) (leaves_scan_call x scan others_in_nums others_in_refs called count again found h))
 
-leaves_scan_turns : (x : Spot) (n : ℕ) (scan : Scanning) → (x.number ≡ true → x.slot < scan.nums) → (x.number ≡ false → x.slot < scan.refs) →
+leaves_scan_turns : (x : Spot) (n : ℕ) (scan : Scanning) → NoneOf x true scan.nums → NoneOf x false scan.refs →
     ((args : List Value) → Leaves x (scan.call args)) → (last : Option Key) (count : ℕ) → Leaves x (scan_turns n scan last count)
 unfolding scan_turns
-leaves_scan_turns x zero scan nums_above refs_above called last count =
+leaves_scan_turns x zero scan others_in_nums others_in_refs called last count =
     leaves_with_heap x _ (λ heap. leaves_attempt x scan.line (next_key scan.strings heap scan.table last) _
-    (λ found. leaves_scan_next x scan nums_above refs_above called count (λ key. stop OutOfTurns) found (λ key. leaves_stop x OutOfTurns)))
-leaves_scan_turns x (suc n) scan nums_above refs_above called last count =
+    (λ found. leaves_scan_next x scan others_in_nums others_in_refs called count (λ key. stop OutOfTurns) found (λ key. leaves_stop x OutOfTurns)))
+leaves_scan_turns x (suc n) scan others_in_nums others_in_refs called last count =
     leaves_with_heap x _ (λ heap. leaves_attempt x scan.line (next_key scan.strings heap scan.table last) _
-    (λ found. leaves_scan_next x scan nums_above refs_above called count (λ key. scan_turns n scan (Some key) (suc count)) found
-    (λ key. leaves_scan_turns x n scan nums_above refs_above called (Some key) (suc count))))
+    (λ found. leaves_scan_next x scan others_in_nums others_in_refs called count (λ key. scan_turns n scan (Some key) (suc count)) found
+    (λ key. leaves_scan_turns x n scan others_in_nums others_in_refs called (Some key) (suc count))))
 
-leaves_begin_scan : (x : Spot) (strings : Bool) (refs nums : ℕ) (a f : Meaning) (next : Value → Value → Meaning) → (x.number ≡ true → x.slot < nums) →
-    (x.number ≡ false → x.slot < refs) → Leaves x a → Leaves x f → ((table procedure : Value) → Leaves x (next table procedure)) →
+leaves_begin_scan : (x : Spot) (strings : Bool) (refs nums : ℕ) (a f : Meaning) (next : Value → Value → Meaning) → NoneOf x true nums →
+    NoneOf x false refs → Leaves x a → Leaves x f → ((table procedure : Value) → Leaves x (next table procedure)) →
     Leaves x (begin_scan strings refs nums a f next)
 unfolding begin_scan
-leaves_begin_scan x strings refs nums a f next nums_above refs_above ha hf h =
-    leaves_then x a _ ha (λ table. leaves_set_then x refs types.Pntr table _ (above x false refs refs refs_above (omega arith))
+leaves_begin_scan x strings refs nums a f next others_in_nums others_in_refs ha hf h =
+    leaves_then x a _ ha (λ table. leaves_set_then x refs types.Pntr table _ (others_in_refs refs (omega arith) (omega arith))
     (leaves_then x f _ hf (λ procedure. leaves_set_then x (refs + 1) (caller (if strings then types.Str else types.Int)) procedure _
-    (above x false refs (refs + 1) refs_above (omega arith))
-    (leaves_set_then x nums types.Int (Num (pos 0)) _ (above x true nums nums nums_above (omega arith))
-    (leaves_set_then x (nums + 1) types.Int (Num (pos 0)) _ (above x true nums (nums + 1) nums_above (omega arith))
-    (leaves_set_then x (nums + 2) types.Int (Num (pos 0)) _ (above x true nums (nums + 2) nums_above (omega arith)) (h table procedure)))))))
+    (others_in_refs (refs + 1) (omega arith) (omega arith))
+    (leaves_set_then x nums types.Int (Num (pos 0)) _ (others_in_nums nums (omega arith) (omega arith))
+    (leaves_set_then x (nums + 1) types.Int (Num (pos 0)) _ (others_in_nums (nums + 1) (omega arith) (omega arith))
+    (leaves_set_then x (nums + 2) types.Int (Num (pos 0)) _ (others_in_nums (nums + 2) (omega arith) (omega arith)) (h table procedure)))))))
 
 -- clauses that each keep a local
 abbrev pub KeepClaim : Spot → Claim → Type 0
@@ -465,153 +474,135 @@ keeps_by_rule x (typed.call {f = f} {args = args} {line = line} are) h c =
     leaves_then x (eval c f) _ (h.0 c)
     (λ v. leaves_each x c args (call_meant c line v) (keep_arguments x are h.1) (λ args. leaves_call x c line v args))
 
+-- the slots of a clause are others than this local
+abbrev pub apart_from : Spot → Shared
+apart_from x = record {
+  Has = λ taken. AllByRecursion (λ (slot : ℕ). slot ≢ x.slot) (taken x.number);
+  left = λ first rest h. all_left (λ (slot : ℕ). slot ≢ x.slot) (first x.number) (rest x.number) h;
+  right = λ first rest h. all_right (λ (slot : ℕ). slot ≢ x.slot) (first x.number) (rest x.number) h;
+  like = λ taken other same h. subst (AllByRecursion (λ (slot : ℕ). slot ≢ x.slot)) (same x.number) h;
+}
+
+-- the three of a loop, and those of a scan
+pub loop_others : (x : Spot) (slot : ℕ) → (apart_from x).Has (three_nums slot) → NoneOf x true slot
+loop_others x slot apart at low high row e =
+    three_has slot at low high (λ (other : ℕ). other ≢ x.slot)
+    (subst (λ (b : Bool). AllByRecursion (λ (other : ℕ). other ≢ x.slot) (if b then from slot 3 else [])) (sym row) apart) e
+
+scan_others : (x : Spot) (refs nums : ℕ) → (apart_from x).Has (scan_slots refs nums) → NoneOf x true nums × NoneOf x false refs
+scan_others x refs nums apart = (
+  λ at low high row e. three_has nums at low high (λ (other : ℕ). other ≢ x.slot)
+      (subst (λ (b : Bool). AllByRecursion (λ (other : ℕ). other ≢ x.slot) (if b then from nums 3 else from refs 3)) (sym row) apart) e,
+  λ at low high row e. three_has refs at low high (λ (other : ℕ). other ≢ x.slot)
+      (subst (λ (b : Bool). AllByRecursion (λ (other : ℕ). other ≢ x.slot) (if b then from nums 3 else from refs 3)) (sym row) apart) e,
+)
+
 -- no name in scope has this local
-abbrev pub Unnamed : Spot → Env → Type 0
-Unnamed x env = (ty : TyView) → Some_is (IsLocal x.slot ty) env.locals → is_number ty ≡ x.number → ⊥
+abbrev pub Unnamed : Spot → InScope → Type 0
+Unnamed x env = IsSpare x.number x.slot env.locals
 
--- the local lies below the free slots of its row
-abbrev pub IsFree : Spot → Free → Type 0
-IsFree x free = x.slot < limit x.number free
-
--- and goes on to lie below them where they grow
-below_further : (number : Bool) (slot : ℕ) (free behind : Free) → Grows free behind → slot < limit number free → slot < limit number behind
-below_further true slot free behind grows below = let g = grows.nums in let l : slot < free.nums = below in omega arith
-below_further false slot free behind grows below = let g = grows.refs in let l : slot < free.refs = below in omega arith
-
-pub still_free : (x : Spot) (free behind : Free) → Grows free behind → IsFree x free → IsFree x behind
-still_free x free behind grows below = below_further x.number x.slot free behind grows below
-
--- a local of the number row, and of the other one
-free_nums : (x : Spot) (free : Free) → IsFree x free → x.number ≡ true → x.slot < free.nums
-free_nums x free below is = subst (λ (number : Bool). x.slot < limit number free) is below
-
-free_refs : (x : Spot) (free : Free) → IsFree x free → x.number ≡ false → x.slot < free.refs
-free_refs x free below is = subst (λ (number : Bool). x.slot < limit number free) is below
-
-next_above : (number : Bool) (slot : ℕ) (free : Free) (row : Bool) → slot < limit number free → row ≡ number →
-    (if row then free.nums else free.refs) ≡ slot → ⊥
-next_above true slot free true below is e = let l : slot < free.nums = below in omega arith
-next_above true slot free false below is e = absurd cc
-next_above false slot free true below is e = absurd cc
-next_above false slot free false below is e = let l : slot < free.refs = below in omega arith
+name_apart : (x : Spot) (slot : ℕ) (ty : TyView) (locals : List Local) → IsSpare x.number x.slot locals → Some_is (IsLocal slot ty) locals →
+    is_number ty ≡ x.number → slot ≡ x.slot → ⊥
+name_apart x slot ty [] spare found number e = absurd found
+name_apart x slot ty (local ∷ locals) spare (inl is) number e = spare.0 (sym number ∙ ap is_number (sym is.1)) (sym e ∙ sym is.0)
+name_apart x slot ty (local ∷ locals) spare (inr found) number e = name_apart x slot ty locals spare.1 found number e
 
 -- a name that is declared has a slot of its own
-pub declared_apart : (x : Spot) {env with_name : Env} {free behind : Free} {place : Place} {ty : TyView} → Declares env free place ty with_name behind →
-    IsFree x free → (v : Value) → Leaves x (set place ty v)
-declared_apart x (typed.as_local {free = free} {slot = slot} {ty = ty} e) below v =
-    leaves_set x slot ty v (λ is same. next_above x.number x.slot free (is_number ty) below is (sym e ∙ same))
-declared_apart x (typed.as_kept {position = position} {ty = ty} name scopes is) below v = leaves_kept x 0 position ty v
+own_slot : (x : Spot) (slot : ℕ) (ty : TyView) → (apart_from x).Has (λ numbers. slot_on numbers ty (Plain slot)) → is_number ty ≡ x.number → slot ≡ x.slot → ⊥
+own_slot x slot ty apart number e =
+    (subst (AllByRecursion (λ (other : ℕ). other ≢ x.slot)) (slot_here ty slot)
+    (subst (λ (b : Bool). AllByRecursion (λ (other : ℕ). other ≢ x.slot) (slot_on b ty (Plain slot))) (sym number) apart)).0 e
 
-pub declared_unnamed : (x : Spot) {env with_name : Env} {free behind : Free} {place : Place} {ty : TyView} →
-    Declares env free place ty with_name behind →
-    IsFree x free → Unnamed x env → Unnamed x with_name
-declared_unnamed x (typed.as_local {free = free} {slot = slot} {ty = ty} e) below h t (inl (same, is_ty)) is =
-    next_above x.number x.slot free (is_number ty) below (ap is_number is_ty ∙ is) (sym e ∙ same)
-declared_unnamed x (typed.as_local e) below h t (inr found) is = h t found is
-declared_unnamed x (typed.as_kept name scopes at) below h t found is = h t found is
+declared_apart : (x : Spot) {scope : Option (List ℕ)} {env own : InScope} {place : Place} {ty : TyView} → Declares scope env place ty own →
+    (apart_from x).Has (λ numbers. slot_on numbers ty place) → (v : Value) → Leaves x (set place ty v)
+declared_apart x (fit.as_local {slot = slot} {ty = ty}) apart v = leaves_set x slot ty v (own_slot x slot ty apart)
+declared_apart x (fit.as_kept {position = position} {ty = ty} level around is at) apart v = leaves_kept x 0 position ty v
 
-keeps_block : (x : Spot) {around first last : _} (scope : Option (List ℕ)) (items : Nodes) → Opens scope around first last →
-    ((c : Context) (v : Value) → Leaves x (eval_all c v items)) → Keeps x (node.Block scope items)
+pub declared_unnamed : (x : Spot) {scope : Option (List ℕ)} {env own : InScope} {place : Place} {ty : TyView} → Declares scope env place ty own →
+    (apart_from x).Has (λ numbers. slot_on numbers ty place) → Unnamed x env → Unnamed x own
+declared_unnamed x (fit.as_local {slot = slot} {ty = ty}) apart spare = (λ number e. own_slot x slot ty apart (sym number) (sym e), spare)
+declared_unnamed x (fit.as_kept level around is at) apart spare = spare
+
+keeps_block : (x : Spot) (scope : Option (List ℕ)) (items : Nodes) → ((c : Context) (v : Value) → Leaves x (eval_all c v items)) → Keeps x (node.Block scope items)
 unfolding eval
-keeps_block x None items typed.unscoped h c = h c Nothing
-keeps_block x (Some text) items typed.scoped h c = leaves_scoped x text _ (h c Nothing)
+keeps_block x None items h c = h c Nothing
+keeps_block x (Some text) items h c = leaves_scoped x text _ (h c Nothing)
 
-keeps_for : (x : Spot) {around first last : _} (slot : ℕ) (a b c : Node) (scope : Option (List ℕ)) (control : Place) (s : Node) (line : Line) →
-    Opens scope around first last → (x.number ≡ true → x.slot < slot) → ((v : Value) → Leaves x (set control types.Int v)) → Keeps x a → Keeps x b →
-    Keeps x c → Keeps x s → Keeps x (node.For slot a b c scope control s line)
+keeps_for : (x : Spot) (slot : ℕ) (a b c : Node) (scope : Option (List ℕ)) (control : Place) (s : Node) (line : Line) → NoneOf x true slot →
+    ((v : Value) → Leaves x (set control types.Int v)) → Keeps x a → Keeps x b → Keeps x c → Keeps x s → Keeps x (node.For slot a b c scope control s line)
 unfolding eval
-keeps_for x slot a b c scope control s line opens below at_control ha hb hc h context =
-    leaves_for x context.bound line slot scope control (eval context a) (eval context b) (eval context c) (eval context s) below at_control (ha context)
+keeps_for x slot a b c scope control s line others at_control ha hb hc h context =
+    leaves_for x context.bound line slot scope control (eval context a) (eval context b) (eval context c) (eval context s) others at_control (ha context)
     (hb context)
     (hc context) (h context)
 
-keeps_scan : (x : Spot) (strings : Bool) (a f : Node) (refs nums : ℕ) (line : Line) → (x.number ≡ true → x.slot < nums) →
-    (x.number ≡ false → x.slot < refs) → Keeps x a → Keeps x f → Keeps x (node.Scan strings a f refs nums line)
+keeps_scan : (x : Spot) (strings : Bool) (a f : Node) (refs nums : ℕ) (line : Line) → NoneOf x true nums → NoneOf x false refs → Keeps x a → Keeps x f →
+    Keeps x (node.Scan strings a f refs nums line)
 unfolding eval
-keeps_scan x strings a f refs nums line nums_above refs_above ha hf context =
-    leaves_begin_scan x strings refs nums (eval context a) (eval context f) _ nums_above refs_above (ha context) (hf context) (λ table procedure.
-    leaves_scan_turns x context.bound (scan_by context line strings refs nums table procedure) nums_above refs_above
+keeps_scan x strings a f refs nums line others_in_nums others_in_refs ha hf context =
+    leaves_begin_scan x strings refs nums (eval context a) (eval context f) _ others_in_nums others_in_refs (ha context) (hf context) (λ table procedure.
+    leaves_scan_turns x context.bound (scan_by context line strings refs nums table procedure) others_in_nums others_in_refs
     (λ args. leaves_call x context line procedure args) None 0)
-
--- inside a scan, and inside a loop by `for`
-scan_grows : (free : Free) → Grows free (behind_scan free)
-scan_grows free = record { nums = omega arith; refs = omega arith }
-
-loop_grows : (free : Free) → Grows free (behind_loop free)
-loop_grows free = record { nums = omega arith; refs = omega arith }
-
-pub locals_in_scan : (env : Env) (free : Free) → LocalsBelow env free → LocalsBelow env (behind_scan free)
-locals_in_scan env free locals = locals_grow env free (behind_scan free) (scan_grows free) locals
-
-pub locals_in_loop : (env : Env) (free : Free) → LocalsBelow env free → LocalsBelow env (behind_loop free)
-locals_in_loop env free locals = locals_grow env free (behind_loop free) (loop_grows free) locals
 
 mutual
   unfolding eval eval_all
 
-  pub keeps : (x : Spot) {env : Env} {free free' : Free} {t : Node} {ty : TyView} → IsTyped env free t ty free' → LocalsBelow env free → IsFree x free →
-      Unnamed x env → Keeps x t
-  keeps x (typed.by_rule r are) locals below apart = keeps_by_rule x r (keeps_each x are locals below apart)
-  keeps x (typed.name {place = place} {ty = ty} is) locals below apart = λ c. leaves_get x place ty
-  keeps x (typed.set_name {env = env} {place = Plain slot} {ty = ty} {e = e} is te) locals below apart = λ c.
-      leaves_then x (eval c e) _ (keeps x te locals below apart c)
-      (λ v. leaves_set x slot ty v (λ number same. apart ty (subst (λ (n : ℕ). Some_is (IsLocal n ty) env.locals) same is) number))
-  keeps x (typed.set_name {place = Kept up position} {ty = ty} {e = e} is te) locals below apart = λ c.
-      leaves_then x (eval c e) _ (keeps x te locals below apart c) (λ v. leaves_kept x up position ty v)
-  keeps x (typed.block {scope = scope} {items = items} opens are is) locals below apart =
-      keeps_block x scope items opens (λ c v. keeps_items x are locals below apart c v)
-  keeps x (typed.loop {env = env} {own = own} {free = free} {behind = behind} {between = between} {slot = slot} {a = a} {b = b} {c = c} {s = s}
-      {scope = scope} {control = control} {line = line} slot_is opens declares is are t) locals below apart =
-      let d = declared declares (locals_in_loop env free locals) in
-      let grows : Grows free behind = record { nums = let y = d.nums in omega arith; refs = let y = d.refs in omega arith } in
-      let in_loop = still_free x free (behind_loop free) (loop_grows free) below in
-      let further = still_free x free behind grows below in
-      let three = keeps_each x are (locals_grow env free behind grows locals) further apart in
-      let last = all_grows (track_all are (locals_grow env free behind grows locals)) in
-      let body = keeps x t (locals_grow own behind between last d.below) (still_free x behind between last further)
-      (declared_unnamed x declares in_loop apart) in
-      keeps_for x slot a b c scope control s line opens (λ row. let l = free_nums x free below row in omega arith) (declared_apart x declares in_loop)
-      three.0 three.1.0 three.1.1.0 body
-  keeps x (typed.scan {env = env} {free = free} {string = string} {a = a} {f = f} {q = q} {s = s} {line = line} q_is s_is are) locals below apart =
-      let both = keeps_each x are (locals_in_scan env free locals) (still_free x free (behind_scan free) (scan_grows free) below) apart in
-      keeps_scan x string a f q s line (λ row. let l = free_nums x free below row in omega arith)
-      (λ row. let l = free_refs x free below row in omega arith) both.0 both.1.0
-  keeps x (typed.literal is_body) locals below apart = λ c. leaves_made_procedure x _
+  pub keeps : (x : Spot) {env : InScope} {t : Node} {ty : TyView} → IsFit env t ty → (apart_from x).Has (of_clause t) → Unnamed x env → Keeps x t
+  keeps x (fit.by_rule rule names parts) apart spare = keeps_by_rule x rule (keeps_each x parts (rule_has (apart_from x) rule apart) spare)
+  keeps x (fit.name {place = place} {ty = ty} at) apart spare = λ c. leaves_get x place ty
+  keeps x (fit.set_name {env = env} {place = Plain slot} {ty = ty} {e = e} at te) apart spare = λ c.
+      leaves_then x (eval c e) _ (keeps x te (set_has (apart_from x) (Plain slot) ty e apart) spare c)
+      (λ v. leaves_set x slot ty v (name_apart x slot ty env.locals spare at))
+  keeps x (fit.set_name {place = Kept up position} {ty = ty} {e = e} at te) apart spare = λ c.
+      leaves_then x (eval c e) _ (keeps x te (set_has (apart_from x) (Kept up position) ty e apart) spare c) (λ v. leaves_kept x up position ty v)
+  keeps x (fit.block {scope = scope} {items = items} opens are) apart spare =
+      keeps_block x scope items (λ c v. keeps_items x are (block_has (apart_from x) scope items apart) spare c v)
+  keeps x (fit.loop {slot = slot} {a = a} {b = b} {c = c} {s = s} {scope = scope} {control = control} {line = line} opens declares are t) apart spare =
+      let whole = loop_has (apart_from x) slot a b c scope control s line apart in
+      let clauses = of_clauses (a ∷ b ∷ c ∷ s ∷ []) in
+      let own = (apart_from x).left (joint (three_nums slot) (control_slots control)) clauses whole in
+      let parts = (apart_from x).right (joint (three_nums slot) (control_slots control)) clauses whole in
+      let at_control = (apart_from x).right (three_nums slot) (control_slots control) own in
+      let three = keeps_each x are (first_three_have (apart_from x) a b c s parts) spare in
+      keeps_for x slot a b c scope control s line (loop_others x slot ((apart_from x).left (three_nums slot) (control_slots control) own))
+      (declared_apart x declares at_control) three.0 three.1.0 three.1.1.0
+      (keeps x t (fourth_has (apart_from x) a b c s parts) (declared_unnamed x declares at_control spare))
+  keeps x (fit.scan {string = string} {a = a} {f = f} {q = q} {s = s} {line = line} are) apart spare =
+      let whole = scan_has (apart_from x) string a f q s line apart in
+      let both = keeps_each x are ((apart_from x).right (scan_slots q s) (of_clauses (a ∷ f ∷ [])) whole) spare in
+      let others = scan_others x q s ((apart_from x).left (scan_slots q s) (of_clauses (a ∷ f ∷ [])) whole) in
+      keeps_scan x string a f q s line others.0 others.1 both.0 both.1.0
+  keeps x (fit.literal is_body) apart spare = λ c. leaves_made_procedure x _
 
-  pub keeps_each : (x : Spot) {env : Env} {free free' : Free} {claims : List Claim} → AreTyped env free claims free' → LocalsBelow env free →
-      IsFree x free →
-      Unnamed x env → Each (KeepClaim x) claims
-  keeps_each x typed.no_more locals below apart = tt
-  keeps_each x (typed.one_more {env = env} {free = free} {between = between} first others) locals below apart =
-      let grows = tree_grows (track first locals) in
-      (keeps x first locals below apart, keeps_each x others (locals_grow env free between grows locals) (still_free x free between grows below) apart)
+  pub keeps_each : (x : Spot) {env : InScope} {claims : List Claim} → AreFit env claims → (apart_from x).Has (of_clauses (clauses_of claims)) → Unnamed x env →
+      Each (KeepClaim x) claims
+  keeps_each x fit.AreFit.no_more apart spare = tt
+  keeps_each x (fit.one_more {clause = clause} {rest = rest} first others) apart spare = (
+    keeps x first ((apart_from x).left (of_clause clause) (of_clauses (clauses_of rest)) apart) spare,
+    keeps_each x others ((apart_from x).right (of_clause clause) (of_clauses (clauses_of rest)) apart) spare,
+  )
 
-  keeps_items : (x : Spot) {env last : Env} {free free' : Free} {before ty : TyView} {items : Nodes} → AreItems env free before items ty last free' →
-      LocalsBelow env free → IsFree x free → Unnamed x env → (c : Context) (v : Value) → Leaves x (eval_all c v items)
-  keeps_items x typed.at_end locals below apart c v = leaves_give x v
-  keeps_items x (typed.a_clause {env = env} {free = free} {between = between} {item = item} first others) locals below apart c v =
-      let grows = tree_grows (track first locals) in
-      leaves_then x (eval c item) _ (keeps x first locals below apart c)
-      (λ w. keeps_items x others (locals_grow env free between grows locals) (still_free x free between grows below) apart c w)
-  keeps_items x (typed.a_value {env = env} {with_name = with_name} {free = free} {behind = behind} {between = between} {place = place} {e = e}
-      {rest = rest}
-      {of = of} isnt declares te others) locals below apart c v =
-      let d = declared declares locals in
-      let grows : Grows free behind = record { nums = let y = d.nums in omega arith; refs = let y = d.refs in omega arith } in
-      let of_e = tree_grows (track te (locals_grow env free behind grows locals)) in
-      let further = still_free x free behind grows below in
+  keeps_items : (x : Spot) {scope : Option (List ℕ)} {env last : InScope} {before ty : TyView} {items : Nodes} → AreItems scope env before items ty last →
+      (apart_from x).Has (of_clauses (item_nodes items)) → Unnamed x env → (c : Context) (v : Value) → Leaves x (eval_all c v items)
+  keeps_items x fit.at_end apart spare c v = leaves_give x v
+  keeps_items x (fit.a_clause {item = item} {rest = rest} first others) apart spare c v =
+      leaves_then x (eval c item) _ (keeps x first ((apart_from x).left (of_clause item) (of_clauses (item_nodes rest)) apart) spare c)
+      (λ w. keeps_items x others ((apart_from x).right (of_clause item) (of_clauses (item_nodes rest)) apart) spare c w)
+  keeps_items x (fit.a_value {place = place} {e = e} {rest = rest} {of = of} isnt declares te others) apart spare c v =
+      let whole = let_has (apart_from x) place of e rest apart in
+      let after = joint (of_clause e) (of_clauses (item_nodes rest)) in
+      let own = (apart_from x).left (λ numbers. slot_on numbers of place) after whole in
+      let parts = (apart_from x).right (λ numbers. slot_on numbers of place) after whole in
       leaves_then x (eval c (node.Let place of e)) _
-      (leaves_then x (eval c e) _ (keeps x te (locals_grow env free behind grows locals) further apart c)
-      (λ w. declared_apart x declares below w))
-      (λ w. keeps_items x others (locals_grow with_name behind between of_e d.below) (still_free x behind between of_e further)
-      (declared_unnamed x declares below apart) c w)
-  keeps_items x (typed.a_literal {env = env} {with_name = with_name} {free = free} {behind = behind} {between = between} {place = place}
-      {procedure = procedure} {rest = rest} {of = of} declares te others) locals below apart c v =
-      let d = declared declares locals in
-      let grows : Grows free behind = record { nums = let y = d.nums in omega arith; refs = let y = d.refs in omega arith } in
-      let of_e = tree_grows (track te d.below) in
-      let further = still_free x free behind grows below in
-      leaves_then x (eval c (node.Let place of (node.Proc procedure))) _
-      (leaves_then x (eval c (node.Proc procedure)) _ (leaves_made_procedure x procedure) (λ w. declared_apart x declares below w))
-      (λ w. keeps_items x others (locals_grow with_name behind between of_e d.below) (still_free x behind between of_e further)
-      (declared_unnamed x declares below apart) c w)
+      (leaves_then x (eval c e) _ (keeps x te ((apart_from x).left (of_clause e) (of_clauses (item_nodes rest)) parts) spare c)
+      (λ w. declared_apart x declares own w))
+      (λ w. keeps_items x others ((apart_from x).right (of_clause e) (of_clauses (item_nodes rest)) parts) (declared_unnamed x declares own spare) c w)
+  keeps_items x (fit.a_literal {place = place} {procedure = procedure} {rest = rest} {of = of} declares te others) apart spare c v =
+      let e = node.Proc procedure in
+      let whole = let_has (apart_from x) place of e rest apart in
+      let after = joint (of_clause e) (of_clauses (item_nodes rest)) in
+      let own = (apart_from x).left (λ numbers. slot_on numbers of place) after whole in
+      let parts = (apart_from x).right (λ numbers. slot_on numbers of place) after whole in
+      leaves_then x (eval c (node.Let place of e)) _
+      (leaves_then x (eval c e) _ (leaves_made_procedure x procedure) (λ w. declared_apart x declares own w))
+      (λ w. keeps_items x others ((apart_from x).right (of_clause e) (of_clauses (item_nodes rest)) parts) (declared_unnamed x declares own spare) c w)

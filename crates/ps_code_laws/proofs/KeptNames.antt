@@ -1,5 +1,5 @@
 -- A name that a scope keeps, in the machine's heap: its place is found there, and what is read and written there is what is meant, compiled.
-use Rattle.std.proofs.Common.{◌≡◌, ℕ, List, set, Option, Some, sym, ap, ◌∙◌}
+use Rattle.std.proofs.Common.{◌≡◌, ℕ, zero, suc, List, [], ◌∷◌, set, Option, Some, inl, inr, sym, ap, ◌∙◌, subst, arith}
 use Rattle.std.specs.Prelude.{codes}
 use Rattle.ps_gen.specs.ps_base.TyView.{TyView}
 use Rattle.ps_stepping.specs.text_forms.declared.forms.Form.{Form}
@@ -9,19 +9,19 @@ use Rattle.ps_stepping.proofs.of_text_forms.ClassForms.{class-told}
 use Rattle.ps_type_text.specs.Texts.{Field, class_text}
 use Rattle.ps_stepping.specs.ps_heap.Values.{Value, Num, word_of}
 use Rattle.ps_stepping.specs.ps_heap.Objects.{Heap, Object, Scope, object_at, with_object, kept_as}
-use Rattle.ps_stepping.specs.ps_heap.Scopes.{scope_at, scope_out, with_name_in, with_name, with_kept_name}
+use Rattle.ps_stepping.specs.ps_heap.Scopes.{scope_at, parent_in, scope_out, with_name_in, with_name, with_kept_name}
 use Rattle.ps_stepping.specs.Steps.{Step}
 use Rattle.ps_stepping.specs.Objects.{when_number, when_reference}
 use Rattle.ps_stepping.specs.Procedures.{of_scope}
 use Rattle.ps_typing_laws.specs.ps_typing.WellTyped.{At, IsOfType}
-use Rattle.ps_soundness.specs.Shapes.{IsScopeAt}
 use Rattle.ps_soundness.proofs.Fields.{form_at}
-use Rattle.ps_soundness.proofs.Scopes.{front_at, IsName}
 use Rattle.ps_code_laws.specs.Compiled.{compiled, compiled_all, compiled_heap}
 use Rattle.ps_code_laws.proofs.Clauses.{IsNum, IsRef}
 use Rattle.ps_code_laws.proofs.Compiling.{compiled_found, values_put, object_compiled, object_put, out_compiled}
 use Rattle.ps_code_laws.proofs.Attempts.{number_form, reference_form, kept_word}
 use Rattle.ps_soundness.proofs.Names.{IsFound}
+use Rattle.heap_fit.specs.Bodies.{Level}
+use Rattle.fit_soundness.specs.Levels.{IsLevelAt, AreLevelsAt}
 
 abbrev pub text_of : List Field → List ℕ
 text_of whole = class_text (codes "scope") whole
@@ -41,21 +41,43 @@ pub record IsThere (heap : Heap) (scope : Option ℕ) (up position : ℕ) (ty : 
   pub at_scope : IsFound heap scope up whole names
   pub at : At (IsOfType ty) whole position
 
-pub declared_there : (heap : Heap) (scope : Option ℕ) (up position : ℕ) (ty : TyView) → IsName heap scope up position ty →
-    IsThere heap scope up position ty
-declared_there heap scope up position ty n =
-    record { whole = n.whole; names = n.names; at_scope = n.at_scope; at = front_at n.fields n.whole position ty n.front n.at }
-
--- one of the current scope
-pub next_there : (heap : Heap) (scope : Option ℕ) (whole fields : List Field) (position : ℕ) (ty : TyView) → IsScopeAt heap scope whole fields →
-    At (IsOfType ty) whole position → IsThere heap scope 0 position ty
+further_there : (heap : Heap) (scope : Option ℕ) (first : Level) (up position : ℕ) (ty : TyView) (s : IsLevelAt heap scope first) →
+    IsThere heap s.parent up position ty → IsThere heap scope (suc up) position ty
 unfolding scope_out
-next_there heap scope whole fields position ty s at = record {
-  whole = whole;
+further_there heap scope first up position ty s n = record {
+  whole = n.whole;
+  names = n.names;
+  at_scope = record {
+    id = n.at_scope.id;
+    out = ap (λ (o : Option ℕ). scope_out heap (parent_in (scope_at heap o)) up) s.scope_is
+        ∙ ap (λ (found : Option Object). scope_out heap (parent_in found) up) s.is ∙ n.at_scope.out;
+    parent = n.at_scope.parent;
+    is = n.at_scope.is;
+    named = n.at_scope.named;
+  };
+  at = n.at;
+}
+
+innermost_there : (heap : Heap) (scope : Option ℕ) (level : Level) (position : ℕ) (ty : TyView) → IsLevelAt heap scope level →
+    At (IsOfType ty) level.names position → IsThere heap scope 0 position ty
+unfolding scope_out
+innermost_there heap scope level position ty s at = record {
+  whole = level.names;
   names = s.names;
   at_scope = record { id = s.id; out = s.scope_is; parent = s.parent; is = s.is; named = s.named };
   at = at;
 }
+
+pub place_there : (heap : Heap) (levels : List Level) (scope : Option ℕ) (up position : ℕ) (ty : TyView) →
+    At (λ (level : Level). At (IsOfType ty) level.names position) levels up → AreLevelsAt heap scope levels → IsThere heap scope up position ty
+place_there heap [] scope up position ty at h = absurd at
+place_there heap (level ∷ levels) scope zero position ty (inl at) h = innermost_there heap scope level position ty h.0 at.1
+place_there heap (level ∷ levels) scope zero position ty (inr at) h = absurd (let e = at.1 in omega arith)
+place_there heap (level ∷ levels) scope (suc up) position ty (inl at) h = absurd (let e = at.0 in omega arith)
+place_there heap (level ∷ levels) scope (suc up) position ty (inr (before, e, at)) h =
+    let further : At (λ (round : Level). At (IsOfType ty) round.names position) levels up
+    = subst (At (λ (round : Level). At (IsOfType ty) round.names position) levels) (let same : before ≡ up = omega arith in same) at in
+    further_there heap scope level up position ty h.0 (place_there heap levels h.0.parent up position ty further h.1)
 
 -- the form of the name at a place
 pub form_there : (heap : Heap) (scope : Option ℕ) (up position : ℕ) (ty : TyView) (n : IsThere heap scope up position ty) →

@@ -1,29 +1,30 @@
 -- What is known of the scopes round a clause.
-use Rattle.std.proofs.Common.{◌≡◌, ℕ, List, [], ◌∷◌, Some}
+use Rattle.std.proofs.Common.{◌≡◌, ℕ, List, [], ◌∷◌, Some, inl, refl, sym, subst}
 use Rattle.ps_gen.specs.ps_base.TyView.{TyView}
 use Rattle.ps_type_text.specs.Texts.{Field}
-use Rattle.ps_typing_laws.specs.ps_typing.WellTyped.{At, IsOfType}
-use Rattle.ps_soundness.proofs.Standings.{Standing}
+use Rattle.ps_typing_laws.specs.ps_typing.WellTyped.{Local, At, IsOfType}
+use Rattle.heap_fit.specs.Bodies.{Level}
+use Rattle.fit_soundness.proofs.Standings.{Standing, within}
 
--- A name of this type that a scope round a clause keeps: it has had its declaration, or it is the next of the current scope.
-pub record IsKept (known : Standing) (up position : ℕ) (ty : TyView) : Type 0 where
-  pub wholes : List (List Field)
-  pub are : known.wholes ≡ Some wholes
-  pub at : At (λ (names : List Field). At (IsOfType ty) names position) known.scopes up
+-- A name of this type that a scope round a clause keeps, whether or not it has had its declaration.
+pub record HasPlace (known : Standing) (up position : ℕ) (ty : TyView) : Type 0 where
+  pub levels : List Level
+  pub are : known.levels ≡ Some levels
+  pub at : At (λ (level : Level). At (IsOfType ty) level.names position) levels up
 
-pub record IsNext (known : Standing) (position : ℕ) (ty : TyView) : Type 0 where
-  pub whole : List Field
-  pub wholes : List (List Field)
-  pub fields : List Field
-  pub scopes : List (List Field)
-  pub are : known.wholes ≡ Some (whole ∷ wholes)
-  pub scopes_are : known.scopes ≡ fields ∷ scopes
-  pub at : At (IsOfType ty) whole position
+-- a new scope with these names
+abbrev pub new_level : List Field → Level
+new_level names = record { names = names; declared = [] }
 
-pub data HasPlace (known : Standing) : ℕ → ℕ → TyView → Type 0 where
-  declared : {up position : ℕ} {ty : TyView} → IsKept known up position ty → HasPlace known up position ty
-  next : {position : ℕ} {ty : TyView} → IsNext known position ty → HasPlace known 0 position ty
+-- what is known inside it
+abbrev pub opened : Standing → List Field → List Level → Standing
+opened known names levels = within known.locals (new_level names ∷ levels)
 
--- what is known inside a new scope with these names
-abbrev pub opened : Standing → List Field → List (List Field) → Standing
-opened known fields wholes = record { locals = known.locals; wholes = Some (fields ∷ wholes); scopes = [] ∷ known.scopes }
+-- a name of the innermost scope
+pub next_place : (locals : List Local) (levels : List Level) (position : ℕ) (ty : TyView) {level : Level} {around : List Level} → levels ≡ level ∷ around →
+    At (IsOfType ty) level.names position → HasPlace (within locals levels) 0 position ty
+next_place locals levels position ty e at = record {
+  levels = levels;
+  are = refl;
+  at = subst (λ (of : List Level). At (λ (level : Level). At (IsOfType ty) level.names position) of 0) (sym e) (inl (refl, at));
+}

@@ -3,7 +3,9 @@ pub mod HeldCompiling
 pub mod CommitCompiling
 pub mod LibraryCompiling
 pub mod Standing
+pub mod Shares
 pub mod Keeps
+pub mod Counting
 pub mod Known
 pub mod LibraryResults
 pub mod Giving
@@ -41,6 +43,7 @@ pub mod Simulation
 pub mod Called
 pub mod Inside
 pub mod Bodies
+pub mod KeptBodies
 mod Rows
 pub use Rattle.ps_typing_laws.proofs as of_ps_typing_laws
 pub use Rattle.ps_stepping.proofs as of_ps_stepping

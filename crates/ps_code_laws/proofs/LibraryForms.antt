@@ -18,7 +18,7 @@ use Rattle.ps_stepping.specs.Config.{Config, frame_words, frame_in}
 use Rattle.ps_stepping.specs.Steps.{Step, Goes, attempted}
 use Rattle.ps_stepping.specs.Machine.{act}
 use Rattle.ps_stepping.specs.Library.{gives_nothing, gives_num, gives_ref, answered_by, call_on_heap, library_of}
-use Rattle.ps_soundness.specs.Shapes.{IsOf, AreOf}
+use Rattle.ps_code_laws.specs.Fitting.{IsOf, AreOf}
 use Rattle.ps_soundness.proofs.HeapCalls.{taken_by, given_by}
 use Rattle.ps_soundness.proofs.Library.{parameters_of, type_given}
 use Rattle.ps_code_laws.specs.Compiled.{compiled, compiled_all, compiled_events}

@@ -12,8 +12,8 @@ use Rattle.ps_gen.specs.ps_base.declared.instr.Instr.{Instr}
 use Rattle.ps_gen.specs.ps_base.declared.instr.Instr.TheVariants as instr
 use Rattle.ps_gen.specs.ps_program.declared.place.Place.{Place}
 use Rattle.ps_gen.specs.ps_program.declared.place.Place.TheVariants.{Plain, Kept}
-use Rattle.ps_type_text.specs.Texts.{Field}
-use Rattle.ps_typing_laws.specs.ps_typing.WellTyped.{At as IsNth, IsOfType}
+use Rattle.ps_gen.specs.ps_emitter.Choices as choice
+use Rattle.ps_gen.specs.Emission.{size_at}
 use Rattle.ps_stepping.specs.ps_heap.Operators.{is_int, is_same}
 use Rattle.ps_stepping.specs.ps_heap.Objects.{Heap}
 use Rattle.ps_stepping.specs.ps_heap.Ends.{Trapped}
@@ -22,14 +22,16 @@ use Rattle.ps_stepping.specs.ps_meaning.Meaning.{Frame, Store, State, Outcome, V
 use Rattle.ps_stepping.specs.ps_meaning.Loops.{Counting, goes_on, in_turn, for_turns, for_loop, for_meant}
 use Rattle.ps_stepping.specs.Config.{Config, constants_in, constant_at, frame_in}
 use Rattle.ps_stepping.specs.Machine.{turn_to, started, counted, act}
+use Rattle.heap_fit.specs.Bodies.{Level}
 use Rattle.ps_code_laws.specs.Compiled.{compiled_store}
 use Rattle.ps_soundness.specs.Running.{IsScopeText}
-use Rattle.ps_soundness.specs.Shapes.{IsOf, Grows}
+use Rattle.ps_soundness.specs.Over.{Grows}
+use Rattle.ps_code_laws.specs.Fitting.{IsOf}
 use Rattle.ps_soundness.proofs.Combining.{Sound}
 use Rattle.ps_soundness.proofs.Growing.{grows_not, grows_then}
 use Rattle.ps_soundness.proofs.Loops.{goes_on_int}
-use Rattle.ps_code_laws.proofs.Known.{HasPlace, next, opened}
-use Rattle.ps_code_laws.proofs.Clauses.{int, KeepsTypes, Controls}
+use Rattle.ps_code_laws.proofs.Known.{opened}
+use Rattle.ps_code_laws.proofs.Clauses.{int, KeepsTypes, Controls, IsControl, by_local, by_scope}
 use Rattle.ps_code_laws.proofs.Keeps.{on_nums, Same, Leaves, other_local, leaves_set, leaves_then, leaves_kept, leaves_scoped}
 use Rattle.ps_code_laws.proofs.Falls.{falls_set, falls_then, falls_scoped}
 use Rattle.ps_code_laws.proofs.Staying.{Stays, stays_then, stays_set}
@@ -40,7 +42,7 @@ use Rattle.ps_code_laws.proofs.Doing.{Origin, IsSince, after_it, Leads, leads_mo
 use Rattle.ps_code_laws.proofs.From.{On, From, from_does, then_from, fewer_from}
 use Rattle.ps_code_laws.proofs.ScopeForms.{does_set_kept}
 use Rattle.ps_code_laws.proofs.Scoping.{from_scoped}
-use Rattle.ps_soundness.proofs.Standings.{Standing, in_scopes}
+use Rattle.fit_soundness.proofs.Standings.{Standing, in_levels}
 
 same_local : (row : ℕ → Value) (slot : ℕ) (v : Value) → with_local row slot v slot ≡ v
 same_local row slot v = if_true (nat_eq slot slot) v (row slot) (eq-eqb slot slot refl)
@@ -268,84 +270,108 @@ module _ (w : Way) where
   does_for n own_known slot scope control need q na nb nc p pa pb pc a b c clause line h le_a le_b le_c la lb lc da at_a db at_b dc at_c at_start
       keeps_b keeps_c keeps_limit =
       let three = h.three in
-      let sets : (at : ℕ) (heap : Heap) (v : Value) → slot ≤ at → IsOf heap types.Int v →
+      let sets : (at : ℕ) (heap : Heap) (v : Value) → slot ≤ at → at < slot + 3 → IsOf heap types.Int v →
       Leads w.Body (after_it n heap n.known) n.known types.Void (set (Plain at) types.Int v)
-      = λ at heap v le is. record {
+      = λ at heap v le below is. record {
         falls = falls_set (Plain at) types.Int v;
-        sound = h.typed.spares at le heap v;
+        sound = h.typed.spares at le below heap v;
         holds = holds_set w.Body (Plain at) types.Int v (int_literal w.Body heap v is);
       } in
       let chain : From w n (λ f. Unit {0}) [] [] (for_meant n.turns line slot scope control a b c clause) types.Void need p (q + 9)
       = then_from w _ (λ v g. Unit {0}) na need p pa (q + 9) le_a la (λ f s is. on_unit (a f s)) (from_does w _ da)
       (λ h1 first g1 is1. then_from w _ (λ u g. Reads slot (word_of first) g) 0 need pa (pa + 5) (q + 9) (omega arith)
-      (sets slot h1 first (omega arith) is1)
+      (sets slot h1 first (omega arith) (omega arith) is1)
       (λ f s is. first_post slot first f s) (from_does w _ (does_set w (after_it n h1 n.known) pa slot first int (omega arith) at_a))
       (λ h2 u g2 is2. let k2 = grows_then n.heap h1 h2 g1 g2 in
       then_from w _ (λ v g. Reads slot (word_of first) g) nb need (pa + 5) pb (q + 9) le_b (leads_more (omega arith) k2 lb)
       (λ f s is. reads_on slot (word_of first) f (b f s) is (keeps_b f s)) (from_does w _ (later w h2 k2 db))
       (λ h3 limit g3 is3. then_from w _ (λ u g. Two slot (word_of first) (word_of limit) g) 0 need pb (pb + 5) (q + 9) (omega arith)
-      (sets (slot + 1) h3 limit (omega arith) is3) (λ f s is. second_post slot (word_of first) limit f s is)
+      (sets (slot + 1) h3 limit (omega arith) (omega arith) is3) (λ f s is. second_post slot (word_of first) limit f s is)
       (from_does w _ (does_set w (after_it n h3 n.known) pb (slot + 1) limit int (omega arith) at_b))
       (λ h4 v g4 is4. let k4 = grows_then n.heap h2 h4 k2 (grows_then h2 h3 h4 g3 g4) in
       then_from w _ (λ v g. Two slot (word_of first) (word_of limit) g) nc need (pb + 5) pc (q + 9) le_c (leads_more (omega arith) k4 lc)
       (λ f s is. two_on slot (word_of first) (word_of limit) f (c f s) is (keeps_c f s) (keeps_limit f s)) (from_does w _ (later w h4 k4 dc))
       (λ h5 by_step g5 is5. then_from w _ (λ u g. Three slot (word_of first) (word_of limit) (word_of by_step) g) 0 need pc (pc + 5) (q + 9)
       (omega arith)
-      (sets (slot + 2) h5 by_step (omega arith) is5) (λ f s is. third_post slot (word_of first) (word_of limit) by_step f s is)
+      (sets (slot + 2) h5 by_step (omega arith) (omega arith) is5) (λ f s is. third_post slot (word_of first) (word_of limit) by_step f s is)
       (from_does w _ (does_set w (after_it n h5 n.known) pc (slot + 2) by_step int (omega arith) at_c))
       (λ h6 x g6 is6. loop_does n own_known slot scope control need (pc + 5 + 13) q clause (word_of limit) (word_of by_step) h (pc + 5) line at_start
       refl h6
       (grows_then n.heap h4 h6 k4 (grows_then h4 h5 h6 g5 g6)) (word_of first))))))) in
       record { by = λ nums refs f s room known reach. chain.by nums refs f s tt room known reach }
 
-  -- The turns of a loop whose control is a local.
-  module _ (n : Origin) (own : Standing) (slot control ns need turn q : ℕ) (clause : Meaning) (three : slot + 2 < (frame_in w.unit).nums)
-      (apart : slot + 2 < control) (below : control < (frame_in w.unit).nums) (few : ns ≤ need) (one : 1 ≤ need)
-      (controls : Controls n.known own (Plain control)) (leads : Leads w.Body (after_it n n.heap own) own types.Void clause)
-      (get_at : AtBy w.Allows w.unit turn (instr.GetM slot)) (set_at : AtBy w.Allows w.unit (turn + 5) (instr.SetM control))
-      (does : Does w (after_it n n.heap own) [] [] clause types.Void ns (turn + 5 + 5) q) where
-    -- the control has the number of the turn
-    plain_does : (z limit step : ℤ) → From w n (Three slot z limit step) [] [] (set (Plain control) types.Int (Num z)) types.Void 1 turn (turn + 5 + 5)
-    unfolding set
-    plain_does z limit step = record {
-      by = λ nums refs f s is room known reach. quiet w (instr.GetM slot) get_at
-          (if_lt slot (frame_in w.unit).nums _ _ (omega arith) ∙ push_goes w (turn + 5) (word_of (f.nums slot)) nums refs f s.store room)
-          (subst (λ (x : ℤ). w.Holds (place w (turn + 5) (x ∷ nums) refs f s.store) s.events) (sym is.control_is)
-          (set_goes w (turn + 5) control (Num z) nums refs f s below set_at reach));
-    }
+  -- the control of a loop has the number of its turn
+  control_does : (n : Origin) (slot p : ℕ) (control : Place) → IsControl (frame_in w.unit).nums slot n.known control → slot + 2 < (frame_in w.unit).nums →
+      AtBy w.Allows w.unit p (instr.GetM slot) → AtBy w.Allows w.unit (p + 5) (choice.set control types.Int) → (z limit step : ℤ) →
+      From w n (Three slot z limit step) [] [] (set control types.Int (Num z)) types.Void 1 p (p + 5 + size_at control)
+  unfolding set
+  control_does n slot p (Plain control) (by_local below apart) three get_at set_at z limit step = record {
+    by = λ nums refs f s is room known reach. quiet w (instr.GetM slot) get_at
+        (if_lt slot (frame_in w.unit).nums _ _ (omega arith) ∙ push_goes w (p + 5) (word_of (f.nums slot)) nums refs f s.store room)
+        (subst (λ (x : ℤ). w.Holds (place w (p + 5) (x ∷ nums) refs f s.store) s.events) (sym is.control_is)
+        (set_goes w (p + 5) control (Num z) nums refs f s below set_at reach));
+  }
+  control_does n slot p (Kept up position) (by_scope there) three get_at keep_at z limit step = record {
+    by = λ nums refs f s is room known reach. quiet w (instr.GetM slot) get_at
+        (if_lt slot (frame_in w.unit).nums _ _ (omega arith) ∙ push_goes w (p + 5) (word_of (f.nums slot)) nums refs f s.store room)
+        (subst (λ (x : ℤ). w.Holds (place w (p + 5) (x ∷ nums) refs f s.store) s.events) (sym is.control_is)
+        ((does_set_kept w n (p + 5) up position (Num z) int there keep_at).by nums refs f s (less_room w 0 1 nums refs (omega arith) room) known reach));
+  }
 
-    plain_post : (z limit step : ℤ) (f : Frame) (s : State) → Three slot z limit step f →
-        On (λ v g. Three slot z limit step g) (set (Plain control) types.Int (Num z) f s)
-    unfolding set
-    plain_post z limit step f s is = record {
-      control_is = ap word_of (other_local f.nums control slot (Num z) (λ e. omega arith)) ∙ is.control_is;
-      limit_is = ap word_of (other_local f.nums control (slot + 1) (Num z) (λ e. omega arith)) ∙ is.limit_is;
-      step_is = ap word_of (other_local f.nums control (slot + 2) (Num z) (λ e. omega arith)) ∙ is.step_is;
-    }
+  -- and the three locals of the loop have theirs
+  control_post : {nums slot : ℕ} {known : Standing} {control : Place} → IsControl nums slot known control → (z limit step : ℤ) (f : Frame) (s : State) →
+      Three slot z limit step f → On (λ v g. Three slot z limit step g) (set control types.Int (Num z) f s)
+  unfolding set change
+  control_post {slot = slot} (by_local {control = control} below apart) z limit step f s is = record {
+    control_is = ap word_of (other_local f.nums control slot (Num z) apart.first) ∙ is.control_is;
+    limit_is = ap word_of (other_local f.nums control (slot + 1) (Num z) apart.second) ∙ is.limit_is;
+    step_is = ap word_of (other_local f.nums control (slot + 2) (Num z) apart.third) ∙ is.step_is;
+  }
+  control_post (by_scope there) z limit step f s is = is
 
-    set_leads : (z : ℤ) → is_int z ≡ true → Leads w.Body n own types.Void (set (Plain control) types.Int (Num z))
+  control_keeps : {nums slot : ℕ} {known : Standing} {control : Place} → IsControl nums slot known control → (z : ℤ) →
+      Leaves (on_nums slot) (set control types.Int (Num z)) × Leaves (on_nums (slot + 1)) (set control types.Int (Num z))
+      × Leaves (on_nums (slot + 2)) (set control types.Int (Num z))
+  control_keeps {slot = slot} (by_local {control = control} below apart) z = (
+    leaves_set (on_nums slot) control types.Int (Num z) (λ number e. apart.first e),
+    leaves_set (on_nums (slot + 1)) control types.Int (Num z) (λ number e. apart.second e),
+    leaves_set (on_nums (slot + 2)) control types.Int (Num z) (λ number e. apart.third e),
+  )
+  control_keeps {slot = slot} (by_scope {up = up} {position = position} there) z = (
+    leaves_kept (on_nums slot) up position types.Int (Num z),
+    leaves_kept (on_nums (slot + 1)) up position types.Int (Num z),
+    leaves_kept (on_nums (slot + 2)) up position types.Int (Num z),
+  )
+
+  -- The turns of a loop without scopes.
+  module _ (n : Origin) (own : Standing) (slot ns need turn q : ℕ) (control : Place) (clause : Meaning) (three : slot + 2 < (frame_in w.unit).nums)
+      (at : IsControl (frame_in w.unit).nums slot n.known control) (few : ns ≤ need) (one : 1 ≤ need)
+      (controls : Controls n.known own control) (leads : Leads w.Body (after_it n n.heap own) own types.Void clause)
+      (get_at : AtBy w.Allows w.unit turn (instr.GetM slot)) (set_at : AtBy w.Allows w.unit (turn + 5) (choice.set control types.Int))
+      (does : Does w (after_it n n.heap own) [] [] clause types.Void ns (turn + 5 + size_at control) q) where
+    set_leads : (z : ℤ) → is_int z ≡ true → Leads w.Body n own types.Void (set control types.Int (Num z))
     set_leads z is = record {
-      falls = falls_set (Plain control) types.Int (Num z);
+      falls = falls_set control types.Int (Num z);
       sound = controls z is n.heap;
-      holds = holds_set w.Body (Plain control) types.Int (Num z) tt;
+      holds = holds_set w.Body control types.Int (Num z) tt;
     }
 
     plain_turn : (z limit step : ℤ) → is_int z ≡ true →
-        From w n (Three slot z limit step) [] [] (turn_meant None (Plain control) clause z) types.Void need turn q
+        From w n (Three slot z limit step) [] [] (turn_meant None control clause z) types.Void need turn q
     plain_turn z limit step is =
-        then_from w (λ u. clause) (λ v g. Three slot z limit step g) 1 need turn (turn + 5 + 5) q one (set_leads z is) (plain_post z limit step)
-        (plain_does z limit step)
-        (λ new u g done. from_does w _ (moved w ns need (turn + 5 + 5) q q few refl (later w new g does)))
+        then_from w (λ u. clause) (λ v g. Three slot z limit step g) 1 need turn (turn + 5 + size_at control) q one (set_leads z is)
+        (control_post at z limit step) (control_does n slot turn control at three get_at set_at z limit step)
+        (λ new u g done. from_does w _ (moved w ns need (turn + 5 + size_at control) q q few refl (later w new g does)))
 
-    plain_leads : (z : ℤ) → is_int z ≡ true → Leads w.Body n own types.Void (turn_meant None (Plain control) clause z)
+    plain_leads : (z : ℤ) → is_int z ≡ true → Leads w.Body n own types.Void (turn_meant None control clause z)
     plain_leads z is = leads_then (set_leads z is) (λ new g. leads_more (omega arith) g leads)
 
-    plain_keeps : (x : ℕ) → x ≤ slot + 2 → Leaves (on_nums x) clause → (z : ℤ) → Leaves (on_nums x) (turn_meant None (Plain control) clause z)
-    plain_keeps x le h z =
-        leaves_then (on_nums x) (set (Plain control) types.Int (Num z)) _ (leaves_set (on_nums x) control types.Int (Num z) (λ number e. omega arith)) (λ u. h)
+    plain_keeps : (x : ℕ) (z : ℤ) → Leaves (on_nums x) (set control types.Int (Num z)) → Leaves (on_nums x) clause →
+        Leaves (on_nums x) (turn_meant None control clause z)
+    plain_keeps x z k h = leaves_then (on_nums x) (set control types.Int (Num z)) _ k (λ u. h)
 
     pub plain_stands : KeepsTypes n.known own slot → AtBy w.Allows w.unit q (instr.ForNext slot turn) → turn < q → Leaves (on_nums slot) clause →
-        Leaves (on_nums (slot + 1)) clause → Leaves (on_nums (slot + 2)) clause → Stands n own slot None (Plain control) need turn q clause
+        Leaves (on_nums (slot + 1)) clause → Leaves (on_nums (slot + 2)) clause → Stands n own slot None control need turn q clause
     plain_stands typed next_at back keeps keeps_limit keeps_step = record {
       typed = typed;
       leads = plain_leads;
@@ -353,92 +379,67 @@ module _ (w : Way) where
       does = plain_turn;
       next_at = next_at;
       back = back;
-      keeps = plain_keeps slot (omega arith) keeps;
-      keeps_limit = plain_keeps (slot + 1) (omega arith) keeps_limit;
-      keeps_step = plain_keeps (slot + 2) (omega arith) keeps_step;
+      keeps = λ z. plain_keeps slot z (control_keeps at z).0 keeps;
+      keeps_limit = λ z. plain_keeps (slot + 1) z (control_keeps at z).1 keeps_limit;
+      keeps_step = λ z. plain_keeps (slot + 2) z (control_keeps at z).2 keeps_step;
     }
 
-  -- The turns of a loop whose control is kept: each has a scope of its own.
-  module _ (n : Origin) (own : Standing) (slot ns need turn q k : ℕ) (clause : Meaning) (bytes : List ℕ) (wholes : List (List Field))
-      (its : IsScopeText bytes) (are : n.known.wholes ≡ Some wholes) (at : IsNth (IsOfType types.Int) its.fields 0)
-      (three : slot + 2 < (frame_in w.unit).nums) (few : ns ≤ need) (one : 1 ≤ need)
-      (controls : Controls (opened n.known its.fields wholes) own (Kept 0 0)) (leads : Leads w.Body (after_it n n.heap own) own types.Void clause)
-      (sound : (z : ℤ) → is_int z ≡ true → Sound in_scopes n.heap n.known n.known types.Void (turn_meant (Some bytes) (Kept 0 0) clause z))
+  -- The turns of a loop each of which has a scope of its own.
+  module _ (n : Origin) (own : Standing) (slot ns need turn q k : ℕ) (control : Place) (clause : Meaning) (bytes : List ℕ) (levels : List Level)
+      (its : IsScopeText bytes) (are : n.known.levels ≡ Some levels) (three : slot + 2 < (frame_in w.unit).nums)
+      (at : IsControl (frame_in w.unit).nums slot (opened n.known its.fields levels) control) (few : ns ≤ need) (one : 1 ≤ need)
+      (controls : Controls (opened n.known its.fields levels) own control) (leads : Leads w.Body (after_it n n.heap own) own types.Void clause)
+      (sound : (z : ℤ) → is_int z ≡ true → Sound in_levels n.heap n.known n.known types.Void (turn_meant (Some bytes) control clause z))
       (stays : Stays clause) (scope_at : AtBy w.Allows w.unit turn (instr.Scope k))
       (named : constant_at (constants_in w.unit) k ≡ Some (text bytes)) (get_at : AtBy w.Allows w.unit (turn + 5) (instr.GetM slot))
-      (keep_at : AtBy w.Allows w.unit (turn + 5 + 5) (instr.KeepM 0 0))
-      (does : Does w (after_it n n.heap own) [] [] clause types.Void ns (turn + 5 + 5 + 9) q) (leave_at : AtBy w.Allows w.unit q instr.Leave) where
+      (set_at : AtBy w.Allows w.unit (turn + 5 + 5) (choice.set control types.Int))
+      (does : Does w (after_it n n.heap own) [] [] clause types.Void ns (turn + 5 + 5 + size_at control) q) (leave_at : AtBy w.Allows w.unit q instr.Leave) where
     abbrev inside : Heap → Origin
-    inside new = after_it n new (opened n.known its.fields wholes)
+    inside new = after_it n new (opened n.known its.fields levels)
 
-    next_is : HasPlace (opened n.known its.fields wholes) 0 0 types.Int
-    next_is = next (record {
-      whole = its.fields;
-      wholes = wholes;
-      fields = [];
-      scopes = n.known.scopes;
-      are = refl;
-      scopes_are = refl;
-      at = at;
-    })
-
-    kept_does : (new : Heap) (z limit step : ℤ) →
-        From w (inside new) (Three slot z limit step) [] [] (set (Kept 0 0) types.Int (Num z)) types.Void 1 (turn + 5) (turn + 5 + 5 + 9)
-    kept_does new z limit step = record {
-      by = λ nums refs f s is room known reach. quiet w (instr.GetM slot) get_at
-          (if_lt slot (frame_in w.unit).nums _ _ (omega arith) ∙ push_goes w (turn + 5 + 5) (word_of (f.nums slot)) nums refs f s.store room)
-          (subst (λ (x : ℤ). w.Holds (place w (turn + 5 + 5) (x ∷ nums) refs f s.store) s.events) (sym is.control_is)
-          ((does_set_kept w (inside new) (turn + 5 + 5) 0 0 (Num z) int next_is keep_at).by nums refs f s (less_room w 0 1 nums refs (omega arith) room)
-          known reach));
-    }
-
-    kept_post : (z limit step : ℤ) (f : Frame) (s : State) → Three slot z limit step f →
-        On (λ v g. Three slot z limit step g) (set (Kept 0 0) types.Int (Num z) f s)
-    unfolding set change
-    kept_post z limit step f s is = is
-
-    kept_leads : (new : Heap) (z : ℤ) → is_int z ≡ true → Leads w.Body (inside new) own types.Void (set (Kept 0 0) types.Int (Num z))
-    kept_leads new z is = record {
-      falls = falls_set (Kept 0 0) types.Int (Num z);
+    inner_leads : (new : Heap) (z : ℤ) → is_int z ≡ true → Leads w.Body (inside new) own types.Void (set control types.Int (Num z))
+    inner_leads new z is = record {
+      falls = falls_set control types.Int (Num z);
       sound = controls z is new;
-      holds = holds_set w.Body (Kept 0 0) types.Int (Num z) tt;
+      holds = holds_set w.Body control types.Int (Num z) tt;
     }
 
     turn_leads : (new : Heap) → Grows n.heap new → (z : ℤ) → is_int z ≡ true →
-        Leads w.Body (inside new) own types.Void (set (Kept 0 0) types.Int (Num z) >>= λ u. clause)
-    turn_leads new g z is = leads_then (kept_leads new z is) (λ last l. leads_more (omega arith) (grows_then n.heap new last g l) leads)
+        Leads w.Body (inside new) own types.Void (set control types.Int (Num z) >>= λ u. clause)
+    turn_leads new g z is = leads_then (inner_leads new z is) (λ last l. leads_more (omega arith) (grows_then n.heap new last g l) leads)
 
-    kept_turn : (z limit step : ℤ) → is_int z ≡ true →
-        From w n (Three slot z limit step) [] [] (turn_meant (Some bytes) (Kept 0 0) clause z) types.Void need turn (q + 1)
-    kept_turn z limit step is =
-        from_scoped w {last = own} turn q k bytes wholes its are scope_at named leave_at
-        (stays_then (set (Kept 0 0) types.Int (Num z)) (λ u. clause) (stays_set (Kept 0 0) types.Int (Num z)) (λ u. stays))
+    scoped_turn : (z limit step : ℤ) → is_int z ≡ true →
+        From w n (Three slot z limit step) [] [] (turn_meant (Some bytes) control clause z) types.Void need turn (q + 1)
+    scoped_turn z limit step is =
+        from_scoped w {last = own} turn q k bytes levels its are scope_at named leave_at
+        (stays_then (set control types.Int (Num z)) (λ u. clause) (stays_set control types.Int (Num z)) (λ u. stays))
         (λ f scope so. record { control_is = so.control_is; limit_is = so.limit_is; step_is = so.step_is }) (λ new g. turn_leads new g z is)
-        (λ new g. then_from w (λ u. clause) (λ v g. Three slot z limit step g) 1 need (turn + 5) (turn + 5 + 5 + 9) q one (kept_leads new z is)
-        (kept_post z limit step) (kept_does new z limit step)
-        (λ last u l done. from_does w _ (moved w ns need (turn + 5 + 5 + 9) q q few refl (later w last (grows_then n.heap new last g l) does))))
+        (λ new g. then_from w (λ u. clause) (λ v g. Three slot z limit step g) 1 need (turn + 5) (turn + 5 + 5 + size_at control) q one
+        (inner_leads new z is) (control_post at z limit step) (control_does (inside new) slot (turn + 5) control at three get_at set_at z limit step)
+        (λ last u l done. from_does w _ (moved w ns need (turn + 5 + 5 + size_at control) q q few refl
+        (later w last (grows_then n.heap new last g l) does))))
 
-    scoped_leads : (z : ℤ) → is_int z ≡ true → Leads w.Body n n.known types.Void (turn_meant (Some bytes) (Kept 0 0) clause z)
+    scoped_leads : (z : ℤ) → is_int z ≡ true → Leads w.Body n n.known types.Void (turn_meant (Some bytes) control clause z)
     scoped_leads z is = record {
-      falls = falls_scoped bytes _ (falls_then _ _ (falls_set (Kept 0 0) types.Int (Num z)) (λ u. leads.falls));
+      falls = falls_scoped bytes _ (falls_then _ _ (falls_set control types.Int (Num z)) (λ u. leads.falls));
       sound = sound z is;
-      holds = holds_scoped w.Body bytes _ (holds_then w.Body _ _ (holds_set w.Body (Kept 0 0) types.Int (Num z) tt) (λ u literal. leads.holds));
+      holds = holds_scoped w.Body bytes _ (holds_then w.Body _ _ (holds_set w.Body control types.Int (Num z) tt) (λ u literal. leads.holds));
     }
 
-    kept_keeps : (x : ℕ) → Leaves (on_nums x) clause → (z : ℤ) → Leaves (on_nums x) (turn_meant (Some bytes) (Kept 0 0) clause z)
-    kept_keeps x h z =
-        leaves_scoped (on_nums x) bytes _ (leaves_then (on_nums x) (set (Kept 0 0) types.Int (Num z)) _ (leaves_kept (on_nums x) 0 0 types.Int (Num z)) (λ u. h))
+    scoped_keeps : (x : ℕ) (z : ℤ) → Leaves (on_nums x) (set control types.Int (Num z)) → Leaves (on_nums x) clause →
+        Leaves (on_nums x) (turn_meant (Some bytes) control clause z)
+    scoped_keeps x z k h = leaves_scoped (on_nums x) bytes _ (leaves_then (on_nums x) (set control types.Int (Num z)) _ k (λ u. h))
 
-    pub kept_stands : KeepsTypes n.known n.known slot → AtBy w.Allows w.unit (q + 1) (instr.ForNext slot turn) → turn < q + 1 → Leaves (on_nums slot) clause →
-        Leaves (on_nums (slot + 1)) clause → Leaves (on_nums (slot + 2)) clause → Stands n n.known slot (Some bytes) (Kept 0 0) need turn (q + 1) clause
-    kept_stands typed next_at back keeps keeps_limit keeps_step = record {
+    pub scoped_stands : KeepsTypes n.known n.known slot → AtBy w.Allows w.unit (q + 1) (instr.ForNext slot turn) → turn < q + 1 → Leaves (on_nums slot) clause →
+        Leaves (on_nums (slot + 1)) clause → Leaves (on_nums (slot + 2)) clause → Stands n n.known slot (Some bytes) control need turn (q + 1) clause
+    scoped_stands typed next_at back keeps keeps_limit keeps_step = record {
       typed = typed;
       leads = scoped_leads;
       three = three;
-      does = kept_turn;
+      does = scoped_turn;
       next_at = next_at;
       back = back;
-      keeps = kept_keeps slot keeps;
-      keeps_limit = kept_keeps (slot + 1) keeps_limit;
-      keeps_step = kept_keeps (slot + 2) keeps_step;
+      keeps = λ z. scoped_keeps slot z (control_keeps at z).0 keeps;
+      keeps_limit = λ z. scoped_keeps (slot + 1) z (control_keeps at z).1 keeps_limit;
+      keeps_step = λ z. scoped_keeps (slot + 2) z (control_keeps at z).2 keeps_step;
     }

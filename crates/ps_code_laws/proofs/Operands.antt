@@ -13,7 +13,8 @@ use Rattle.ps_stepping.specs.ps_meaning.Meaning.{Meaning, ◌>>=◌}
 use Rattle.ps_stepping.specs.ps_meaning.Evaluation.{Context, eval}
 use Rattle.ps_stepping.specs.ps_meaning.Calls.{context}
 use Rattle.ps_stepping.specs.Config.{frame_in}
-use Rattle.ps_soundness.specs.Shapes.{IsOf, Grows}
+use Rattle.ps_soundness.specs.Over.{Grows}
+use Rattle.ps_code_laws.specs.Fitting.{IsOf}
 use Rattle.ps_soundness.proofs.Growing.{grows_then, of_kept}
 use Rattle.ps_code_laws.specs.Meets.{nums_left, refs_left}
 use Rattle.ps_code_laws.proofs.Standing.{AtBy, Ahead, ahead_at}
@@ -24,7 +25,7 @@ use Rattle.ps_code_laws.specs.Literals.{BodiesAre}
 use Rattle.ps_code_laws.proofs.Holding.{Holds, holds_eval, calls_hold}
 use Rattle.ps_code_laws.proofs.Clauses as clause
 use Rattle.ps_code_laws.proofs.Doing.{Origin, after_it, Leads, leads_more, Way, Does, later, does_then, does_over, nums_few, refs_few}
-use Rattle.ps_soundness.proofs.Standings.{by_rules}
+use Rattle.fit_soundness.proofs.Levels.{fits}
 
 -- where a clause stands on this way, and so many turns may be left: inside the bodies that wait
 abbrev pub context_in : Way → ℕ → Context
@@ -104,7 +105,7 @@ module _ (w : Way) where
       does_then w (λ v. b >>= λ u. op v u) na need need p q k le_a (omega by_arith) la da
       (λ h1 v g1 is. does_over w (nums_left tya v) (refs_left tya v) (λ u. op v u) 1 nb ni need q r k (nums_few tya v) (refs_few tya v) le_b le_o
       (leads_more (omega by_arith) g1 lb) (later w h1 g1 db)
-      (λ h2 u g2 of. dop h2 v u (grows_then n.heap h1 h2 g1 g2) (of_kept by_rules h1 h2 g2 tya v is) of))
+      (λ h2 u g2 of. dop h2 v u (grows_then n.heap h1 h2 g1 g2) (of_kept fits h1 h2 g2 tya v is) of))
 
   -- three
   pub does_three : {n : Origin} {a b d : Meaning} {tya tyb tyd ty : TyView} (op : Value → Value → Value → Meaning) (na nb nd ni need p q r t k : ℕ) →
@@ -127,5 +128,5 @@ module _ (w : Way) where
       (let e = length-append (nums_left tyb u) (nums_left tya v) in let few = nums_few tyb u in let also = nums_few tya v in omega by_arith)
       (let e = length-append (refs_left tyb u) (refs_left tya v) in let few = refs_few tyb u in let also = refs_few tya v in omega by_arith)
       le_d le_o (leads_more (omega by_arith) k2 ld) (later w h2 k2 dd)
-      (λ h3 x g3 so. dop h3 v u x (grows_then n.heap h2 h3 k2 g3) (of_kept by_rules h1 h3 (grows_then h1 h2 h3 g2 g3) tya v is) (of_kept by_rules h2 h3 g3 tyb u of)
+      (λ h3 x g3 so. dop h3 v u x (grows_then n.heap h2 h3 k2 g3) (of_kept fits h1 h3 (grows_then h1 h2 h3 g2 g3) tya v is) (of_kept fits h2 h3 g3 tyb u of)
       so)))

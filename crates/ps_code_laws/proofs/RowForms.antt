@@ -24,7 +24,7 @@ use Rattle.ps_stepping.specs.Config.{Config, constants_in, constant_at}
 use Rattle.ps_stepping.specs.Machine.{Step, act}
 use Rattle.ps_stepping.specs.Steps.{pop_num, attempted}
 use Rattle.ps_stepping.specs.Objects.{make, pop_fields, pop_nums, pop_refs}
-use Rattle.ps_soundness.specs.Shapes.{IsOf, AreOf}
+use Rattle.ps_code_laws.specs.Fitting.{IsOf, AreOf}
 use Rattle.ps_soundness.proofs.Fields.{kept_in_class, all_kept_in_vector}
 use Rattle.ps_code_laws.specs.Compiled.{compiled, compiled_all, compiled_object}
 use Rattle.ps_code_laws.specs.Meets.{nums_left, refs_left}
@@ -34,7 +34,7 @@ use Rattle.ps_code_laws.proofs.Doing.{Origin, Way, place, Does, does_meant}
 use Rattle.ps_code_laws.proofs.Operands.{Stand}
 use Rattle.ps_code_laws.proofs.Attempts.{at_num, at_ref, quiet_attempt, quiet_made, text_there, compiled_steps, object_steps}
 use Rattle.ps_code_laws.proofs.VectorForms.{text_of, element_number, element_reference, element_kept}
-use Rattle.ps_soundness.proofs.Standings.{by_rules}
+use Rattle.fit_soundness.proofs.Levels.{fits}
 
 -- The words of values of fields, over those that were there; the last one's are on top.
 abbrev pub pushed_nums : List Field → List Value → List ℤ → List ℤ
@@ -202,7 +202,7 @@ module _ (w : Way) where
       (λ values d. make Pointer (Structure class values) d))
       (ap forms_of class_is ∙ class-told name fields named)
       ∙ fields_taken n.heap fields kinds (p + 5) vs are [] nums refs f s.store (λ values d. make Pointer (Structure class values) d)
-      ∙ ap make_of (append-nil (compiled_all vs) ∙ ap compiled_all (sym (kept_in_class by_rules n.heap name fields vs named are)
+      ∙ ap make_of (append-nil (compiled_all vs) ∙ ap compiled_all (sym (kept_in_class fits n.heap name fields vs named are)
       ∙ ap (λ (text_is : List ℕ). kept_all (forms_of text_is) vs) (sym class_is)))
       ∙ object_steps w (p + 5) nums refs f s Pointer (λ id. refl) pntr (Structure class (kept_all (forms_of class) vs)) room)
       (quiet_made Pointer (Structure class (kept_all (forms_of class) vs))) at
@@ -247,7 +247,7 @@ module _ (w : Way) where
       ∙ refs_taken ref (p + 13) vs [] (word_of low ∷ nums) refs f s.store
       (λ us d. pop_num d (λ low e. attempted line (vector_of (text_of t) low us) (λ object. make Vector object e)))
       ∙ compiled_steps w compiled_object (p + 13) nums refs (types.Vector t) f s line (of (kept_elements (text_of t) vs)) _ _ (made Vector)
-      (ap of (append-nil (compiled_all vs) ∙ ap compiled_all (sym (all_kept_in_vector by_rules n.heap t vs are)))
+      (ap of (append-nil (compiled_all vs) ∙ ap compiled_all (sym (all_kept_in_vector fits n.heap t vs are)))
       ∙ vector_compiled (text_of t) (word_of low) (kept_elements (text_of t) vs))
       (λ object. object_steps w (p + 13) nums refs f s Vector (λ id. refl) (vector {element = t}) object room))
       (quiet_attempt line (of (kept_elements (text_of t) vs)) (made Vector) (quiet_made Vector)) (at_ref w _ _ ref at)

@@ -1,5 +1,5 @@
--- Programs of which the law speaks: they are well typed, they run, and they have units.
-use Rattle.std.proofs.Common.{ℕ, ◌^◌, ◌<◌, FitsSigned, w32, List, [], ◌∷◌, inl, refl, pos, true, false, Some, None, arith}
+-- Programs of which the laws speak: they are well typed, they run, and they have units; and one is fit alone.
+use Rattle.std.proofs.Common.{ℕ, ◌^◌, ◌<◌, ◌≤◌, ◌≢◌, rules, Bool, FitsSigned, w32, List, [], ◌∷◌, inl, refl, pos, true, false, Some, None, arith}
 use Rattle.std.specs.List.{AllByRecursion}
 use Rattle.std.specs.Prelude.{codes}
 use Rattle.std.proofs.lemmas.Int.{fits_signed_from_abs}
@@ -17,9 +17,19 @@ use Rattle.ps_soundness.specs.Running.{IsScopeText, BodyRuns}
 use Rattle.ps_soundness.proofs.Telling.{Told}
 use Rattle.ps_stepping.specs.ps_meaning.Runs.{Given}
 use Rattle.ps_gen.specs.Units.{HasUnit}
+use Rattle.ps_gen.specs.ps_program.Slots.{slot_count}
+use Rattle.ps_stepping.specs.Config.{frame_words}
+use Rattle.heap_fit.specs.Bodies.{IsFitBody}
+use Rattle.heap_fit.specs.Bodies as fit
+use Rattle.heap_fit.specs.Typed.{TypedBodiesAreFit}
+use Rattle.heap_fit.proofs.TypedFits.{fits_body}
+use Rattle.fit_soundness.specs.Laws.{program as of_nothing}
+use Rattle.ps_stepping.specs.ps_heap.Held.{row, nothing_stored}
+use Rattle.ps_gen.specs.ps_base.declared.instr.Instr.{Instr}
+use Rattle.ps_code_laws.specs.Literals.{instrs_of}
 use Rattle.ps_code_laws.specs.Compiled.{WeighsUnits}
 use Rattle.ps_code_laws.specs.Meets.{IsFittingHeap}
-use Rattle.ps_code_laws.proofs.Bodies.{RunsAsMeant, all_true, program_runs}
+use Rattle.ps_code_laws.proofs.Bodies.{RunsAsMeant, all_true, each_true, program_runs, typed_program_runs}
 
 abbrev line : Line
 line = record { 0 = 1 }
@@ -101,8 +111,16 @@ has_unit = (
   ),
 )
 
+-- a heap that holds nothing is such a one as the laws speak of
+nothing_fits : (may : Instr → Bool) → IsFittingHeap may nothing_stored
+nothing_fits may = search rules
+
+-- typed bodies are fit
+fitted : TypedBodiesAreFit
+fitted = λ scopes wholes levels of is_body runs sm are. fits_body wholes levels is_body runs sm are
+
 it_runs : Told → (weigh : Routine → ℕ) (given : Given) → WeighsUnits weigh → IsFittingHeap (λ i. true) given.heap → RunsAsMeant (λ i. true) weigh given program
-it_runs told weigh given weighs heap = program_runs told (λ i. true) program weigh given weighs heap is_typed it_has_a_run ((tt, tt), tt) refl (has_unit, tt) (all_true (program ∷ []))
+it_runs told weigh given weighs heap = typed_program_runs told fitted (λ i. true) program weigh given weighs heap is_typed it_has_a_run ((tt, tt), tt) refl (has_unit, tt) (all_true (program ∷ []))
 
 -- let v = @1 of string ["ab"]; write v(1) ++ "c"
 abbrev strings : Node
@@ -136,7 +154,7 @@ strings_have_a_run = (tt, ((tt, (tt, refl, (refl, tt))), ((((tt, refl), refl), t
 
 strings_run : Told → (weigh : Routine → ℕ) (given : Given) → WeighsUnits weigh → IsFittingHeap (λ i. true) given.heap → HasUnit of_strings →
     RunsAsMeant (λ i. true) weigh given of_strings
-strings_run told weigh given weighs heap has = program_runs told (λ i. true) of_strings weigh given weighs heap strings_are_typed strings_have_a_run ((tt, tt), tt) refl (has, tt) (all_true (of_strings ∷ []))
+strings_run told weigh given weighs heap has = typed_program_runs told fitted (λ i. true) of_strings weigh given weighs heap strings_are_typed strings_have_a_run ((tt, tt), tt) refl (has, tt) (all_true (of_strings ∷ []))
 
 -- let make = proc(int k -> proc( -> int)); proc( -> int); k
 -- for i = 1 to 2 do write make(i)()
@@ -212,4 +230,48 @@ procedures_have_a_run = (
 procedures_run : Told → (weigh : Routine → ℕ) (given : Given) → WeighsUnits weigh → IsFittingHeap (λ i. true) given.heap →
     AllByRecursion HasUnit (of_procedures ∷ make ∷ reads_k ∷ []) → RunsAsMeant (λ i. true) weigh given of_procedures
 procedures_run told weigh given weighs heap have =
-    program_runs told (λ i. true) of_procedures weigh given weighs heap procedures_are_typed procedures_have_a_run ((tt, tt), (((tt, tt), (tt, tt)), ((tt, tt), tt))) refl have (all_true (of_procedures ∷ make ∷ reads_k ∷ []))
+    typed_program_runs told fitted (λ i. true) of_procedures weigh given weighs heap procedures_are_typed procedures_have_a_run ((tt, tt), (((tt, tt), (tt, tt)), ((tt, tt), tt))) refl have (all_true (of_procedures ∷ make ∷ reads_k ∷ []))
+
+-- let n = 3; for i = 1 to n do write i
+-- The slots are in another order than the typing rules give: so it is fit, and has no types by the rules.
+abbrev turned : Node
+turned = node.Block None (more (node.Let (Plain 4) types.Int (num 3))
+    (more (node.For 0 (num 1) (node.Name (Plain 4) types.Int) (num 1) None (Plain 3)
+    (node.Write (node.Name (Plain 3) types.Int) node.Empty false types.Int line) line) none))
+
+others : (m n : ℕ) → m < n → n ≢ m
+others m n low e = absurd (omega (arith, low, e))
+
+turned_fits : IsFitBody [] (of_nothing types.Void turned line)
+unfolding row
+turned_fits = fit.of_params fit.unscoped fit.no_more
+    (fit.block fit.unscoped (fit.a_value refl fit.as_local (fit.by_rule typed.int refl fit.no_more)
+    (fit.a_clause (fit.loop fit.unscoped fit.as_local
+    (fit.one_more (fit.by_rule typed.int refl fit.no_more) (fit.one_more (fit.name (inl (refl, refl)))
+    (fit.one_more (fit.by_rule typed.int refl fit.no_more) fit.no_more)))
+    (fit.by_rule (typed.write refl) tt (fit.one_more (fit.name (inl (refl, refl)))
+    (fit.one_more (fit.by_rule typed.empty tt fit.no_more) fit.no_more))))
+    fit.at_end)))
+    (tt, tt)
+    (record {
+      nums_apart = (
+        ((λ e. absurd (omega (arith, e))), ((λ e. absurd (omega (arith, e))), ((λ e. absurd (omega (arith, e))), ((λ e. absurd (omega (arith, e))), tt)))),
+        (
+          (others 0 1 (omega arith), (others 0 2 (omega arith), (others 0 3 (omega arith), tt))),
+          ((others 1 2 (omega arith), (others 1 3 (omega arith), tt)), ((others 2 3 (omega arith), tt), (tt, tt))),
+        ),
+      );
+      nums_in = (omega arith, (omega arith, (omega arith, (omega arith, (omega arith, tt)))));
+      refs_apart = tt;
+      refs_in = tt;
+      few = omega arith;
+    })
+
+turned_runs : Told → (weigh : Routine → ℕ) (given : Given) → WeighsUnits weigh → IsFittingHeap (λ i. true) given.heap →
+    HasUnit (of_nothing types.Void turned line) → RunsAsMeant (λ i. true) weigh given (of_nothing types.Void turned line)
+turned_runs told weigh given weighs heap has =
+    let few : slot_count (of_nothing types.Void turned line) ≤ frame_words = omega arith in
+    program_runs told (λ i. true) types.Void turned line weigh given weighs heap turned_fits (
+      record { fits = record { valued = (tt, tt); slots = few; unit = has }; each_may = each_true (instrs_of (of_nothing types.Void turned line)) },
+      ((tt, tt), ((tt, tt, tt, (tt, tt)), tt)),
+    )

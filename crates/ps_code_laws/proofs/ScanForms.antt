@@ -29,12 +29,13 @@ use Rattle.ps_stepping.specs.Steps.{Step, and_touched, on, attempted, with_num}
 use Rattle.ps_stepping.specs.Machine.{act, back}
 use Rattle.ps_stepping.specs.Objects.{object_of}
 use Rattle.ps_stepping.specs.Scans.{last_of, called_with, touched_now, scan_found, scan_on, one_more}
-use Rattle.ps_soundness.specs.Shapes.{IsOf, AreOf, Grows}
+use Rattle.ps_soundness.specs.Over.{Grows}
+use Rattle.ps_code_laws.specs.Fitting.{IsOf, AreOf}
 use Rattle.ps_soundness.proofs.Operators.{OnYield}
 use Rattle.ps_soundness.proofs.Growing.{grows_not, grows_then, of_kept}
 use Rattle.ps_soundness.proofs.Calling.{ValuesOf}
 use Rattle.ps_soundness.proofs.Tables.{IsKeyOf, MayBeFound, next_key_typed}
-use Rattle.ps_soundness.proofs.Scans.{key_type, SparesAll, arguments_are}
+use Rattle.ps_soundness.proofs.Scans.{key_type, SparesThree, arguments_are}
 use Rattle.ps_soundness.proofs.Combining.{Sound}
 use Rattle.ps_code_laws.specs.Compiled.{compiled, compiled_heap, compiled_held}
 use Rattle.ps_code_laws.proofs.HeldCompiling.{touches_weigh, touching_compiled}
@@ -50,7 +51,8 @@ use Rattle.ps_code_laws.proofs.From.{On, From, from_does, then_from, then_from_h
 use Rattle.ps_code_laws.proofs.Operands.{context_in, Stand}
 use Rattle.ps_code_laws.proofs.Attempts.{object_pops, having_goes}
 use Rattle.ps_code_laws.proofs.Calls.{Entered, does_call}
-use Rattle.ps_soundness.proofs.Standings.{by_rules, in_scopes}
+use Rattle.fit_soundness.proofs.Levels.{fits}
+use Rattle.fit_soundness.proofs.Standings.{in_levels}
 
 -- After a call the frame is the one before.
 
@@ -151,7 +153,7 @@ literal_key P (int_key z) = tt
 
 arguments_of : (strings : Bool) (heap : Heap) (found : Found) → MayBeFound strings heap (Some found) →
     AreOf heap (fields_by (two (key_type strings) types.Pntr)) (scan_arguments found)
-arguments_of strings heap found h = let are = arguments_are by_rules strings heap found h in (are.0, (are.1.0, tt))
+arguments_of strings heap found h = let are = arguments_are fits strings heap found h in (are.0, (are.1.0, tt))
 
 references_are : (strings : Bool) → choice.references (two (key_type strings) types.Pntr) ≡ (if strings then 2 else 1)
 references_are true = refl
@@ -183,11 +185,11 @@ pub record Scans (w : Way) (n : Origin) (strings : Bool) (q s : ℕ) (line : Lin
   pub refs_fit : q + 2 < (frame_in w.unit).refs
   pub nums_fit : s + 2 < (frame_in w.unit).nums
   pub deep : 2 ≤ need
-  pub texts : SparesAll in_scopes n.known types.Str q
-  pub ints : SparesAll in_scopes n.known types.Int s
+  pub texts : SparesThree in_levels n.known types.Str q
+  pub ints : SparesThree in_levels n.known types.Int s
   pub answers : (heap : Heap) (procedure : Value) (args : List Value) → IsOf heap (caller (key_type strings)) procedure →
-      ValuesOf by_rules heap (two (key_type strings) types.Pntr) args →
-      Sound in_scopes heap n.known n.known types.Bool (call_meant (context_in w n.turns) line procedure args)
+      ValuesOf fits heap (two (key_type strings) types.Pntr) args →
+      Sound in_levels heap n.known n.known types.Bool (call_meant (context_in w n.turns) line procedure args)
   pub entered : Entered w n.turns
   pub scan_at : Stand w turn (choice.scan strings q s (turn + 17 + 9 + 9) line)
   pub call_at : Stand w (turn + 17) (instr.Call (if strings then 2 else 1) line)
@@ -275,7 +277,7 @@ module _ (w : Way) where
 
     -- a local that has another value
     since_set : {f : Frame} {t : State} (slot : ℕ) (ty : TyView) (v : Value) → IsLiteral w.Body v →
-        Sound in_scopes t.store.held.objects n.known n.known types.Void (set (Plain slot) ty v) → IsSince w.Body n f t → IsSince w.Body n (frame_with f ty slot v) t
+        Sound in_levels t.store.held.objects n.known n.known types.Void (set (Plain slot) ty v) → IsSince w.Body n f t → IsSince w.Body n (frame_with f ty slot v) t
     unfolding set
     since_set {f = f} {t = t} slot ty v literal sound since =
         let typed = sound.runs f t (grows_not t.store.held.objects) since.typed since.are in
@@ -285,12 +287,12 @@ module _ (w : Way) where
     since_found : (key : Key) (f : Frame) (t : State) → IsSince w.Body n f t → IsSince w.Body n (found_frame q s key f) t
     since_found (string_key bytes) f t since =
         let heap = t.store.held.objects in
-        since_set (s + 2) types.Int (Num (pos 1)) tt (h.ints (s + 2) (omega arith) heap (Num (pos 1)))
-        (since_set (q + 2) types.Str (Text bytes) tt (h.texts (q + 2) (omega arith) heap (Text bytes)) since)
+        since_set (s + 2) types.Int (Num (pos 1)) tt (h.ints (s + 2) (omega arith) (omega arith) heap (Num (pos 1)))
+        (since_set (q + 2) types.Str (Text bytes) tt (h.texts (q + 2) (omega arith) (omega arith) heap (Text bytes)) since)
     since_found (int_key z) f t since =
         let heap = t.store.held.objects in
-        since_set (s + 2) types.Int (Num (pos 1)) tt (h.ints (s + 2) (omega arith) heap (Num (pos 1)))
-        (since_set (s + 1) types.Int (Num z) tt (h.ints (s + 1) (omega arith) heap (Num z)) since)
+        since_set (s + 2) types.Int (Num (pos 1)) tt (h.ints (s + 2) (omega arith) (omega arith) heap (Num (pos 1)))
+        (since_set (s + 1) types.Int (Num z) tt (h.ints (s + 1) (omega arith) (omega arith) heap (Num z)) since)
 
     -- the end of a scan: the count is its value
     get_goes : (count : ℕ) (nums : List ℤ) (refs : List Value) (g : Frame) (t : State) → word_of (g.nums s) ≡ pos count → Room w need nums refs →
@@ -327,7 +329,7 @@ module _ (w : Way) where
     unfolding choose take_turn ◌>>=◌ give
     answered_goes m count again key more nums refs g t low goes_on is few room since true on_it reach =
         let after_it = counted_frame s (suc count) g in
-        let since_it = since_set s types.Int (Num (pos (suc count))) tt (h.ints s (omega arith) t.store.held.objects (Num (pos (suc count)))) since in
+        let since_it = since_set s types.Int (Num (pos (suc count))) tt (h.ints s (omega arith) (omega arith) t.store.held.objects (Num (pos (suc count)))) since in
         turn_goes w (last_at + 5) turn (place w (turn + 17 + 9) (word_of more ∷ nums) refs g t.store) (instr.ScanMore s turn) nums nums refs refs types.Int
         after_it t t.store.turns (λ u. again key) refl h.more_at
         (more_acts count more nums refs g t.store low is.count_is ∙ if_true (is_one (word_of more)) _ _ on_it
@@ -381,7 +383,7 @@ module _ (w : Way) where
         let args = scan_arguments found in
         let c = context_in w n.turns in
         let tys = two (key_type strings) types.Pntr in
-        let now : IsOf heap (caller (key_type strings)) procedure = of_kept by_rules n.heap heap since.grows (caller (key_type strings)) procedure procedure_of in
+        let now : IsOf heap (caller (key_type strings)) procedure = of_kept fits n.heap heap since.grows (caller (key_type strings)) procedure procedure_of in
         let literals : AreLiterals w.Body args = (literal_key w.Body found.key, (tt, tt)) in
         let since_g = since_found found.key f t since in
         let since_origin : IsSince w.Body origin g t = record {
@@ -394,7 +396,7 @@ module _ (w : Way) where
         } in
         let leads : Leads w.Body origin n.known types.Bool (call_meant c line procedure args) = record {
           falls = falls_call c (calls_fall n.turns (length w.callers)) line procedure args;
-          sound = h.answers heap procedure args now (arguments_are by_rules strings heap found may);
+          sound = h.answers heap procedure args now (arguments_are fits strings heap found may);
           holds = holds_call w.Body c (calls_hold w.Body n.turns (length w.callers)) line procedure args literal literals;
         } in
         (does_call w origin (turn + 17) need line tys types.Bool procedure args (let deep = h.deep in omega arith) h.entered now literal
@@ -504,11 +506,11 @@ module _ (w : Way) where
     scan_does zero count last nums refs f t few low is room since reach =
         found_goes zero count (λ key. stop OutOfTurns) last nums refs f t (next_key strings t.store.held.objects table last) low
         (λ low_next key nums refs g x less at room since rest. absurd (omega arith))
-        (next_key_typed by_rules strings t.store.held.objects table last since.typed.0) is few room since (next_acts count last nums refs f t is since) reach
+        (next_key_typed fits strings t.store.held.objects table last since.typed.0) is few room since (next_acts count last nums refs f t is since) reach
     scan_does (suc m) count last nums refs f t few low is room since reach =
         found_goes (suc m) count (λ key. scan_turns m scan (Some key) (suc count)) last nums refs f t (next_key strings t.store.held.objects table last) low
         (λ low_next key nums refs g x less at room since rest. scan_does m (suc count) (Some key) nums refs g x (omega arith) low_next at room since rest)
-        (next_key_typed by_rules strings t.store.held.objects table last since.typed.0) is few room since (next_acts count last nums refs f t is since) reach
+        (next_key_typed fits strings t.store.held.objects table last since.typed.0) is few room since (next_acts count last nums refs f t is since) reach
 
   -- The beginning of a scan: the table and the procedure are kept in locals, and three numbers are 0.
 
@@ -584,10 +586,10 @@ module _ (w : Way) where
   unfolding begin_scan
   does_scan n strings q s need na nf p pa pf line a f is refs_fit nums_fit deep le_a le_f la lf da at_table df at_procedure at1 at2 at3 at4 at5 at6 keeps scans =
       let end = pf + 5 + 5 + 5 + 5 + 5 + 5 + 5 + 17 + 9 + 9 + 5 in
-      let sets : (at : ℕ) (heap : Heap) → s ≤ at → Leads w.Body (after_it n heap n.known) n.known types.Void (set (Plain at) types.Int (Num (pos 0)))
-      = λ at heap le. record {
+      let sets : (at : ℕ) (heap : Heap) → s ≤ at → at < s + 3 → Leads w.Body (after_it n heap n.known) n.known types.Void (set (Plain at) types.Int (Num (pos 0)))
+      = λ at heap le below. record {
         falls = falls_set (Plain at) types.Int (Num (pos 0));
-        sound = is.ints at le heap (Num (pos 0));
+        sound = is.ints at le below heap (Num (pos 0));
         holds = holds_set w.Body (Plain at) types.Int (Num (pos 0)) tt;
       } in
       let chain : From w n (λ f. Unit {0}) [] [] (begin_scan strings q s a f (λ table procedure. scan_turns n.turns
@@ -597,7 +599,7 @@ module _ (w : Way) where
       (λ h1 table g1 table_of. then_from w _ (λ u g. Tabled q table g) 0 need pa (pa + 5) end (omega arith)
       (record {
         falls = falls_set (Plain q) types.Pntr table;
-        sound = is.pntrs q (omega arith) h1 table;
+        sound = is.pntrs q (omega arith) (omega arith) h1 table;
         holds = holds_set w.Body (Plain q) types.Pntr table (pointer_literal h1 table table_of);
       })
       (λ f t so. table_put q table f t) (from_does w _ (does_set_ref w (after_it n h1 n.known) pa q table pntr (omega arith) at_table))
@@ -607,18 +609,18 @@ module _ (w : Way) where
       (λ h3 procedure g3 procedure_of literal. then_from w _ (λ u g. Prepared q table procedure g) 0 need pf (pf + 5) end (omega arith)
       (record {
         falls = falls_set (Plain (q + 1)) (caller (key_type strings)) procedure;
-        sound = is.procedures (q + 1) (omega arith) h3 procedure;
+        sound = is.procedures (q + 1) (omega arith) (omega arith) h3 procedure;
         holds = holds_set w.Body (Plain (q + 1)) (caller (key_type strings)) procedure literal;
       })
       (λ f t so. procedure_put strings q table procedure f t so)
       (from_does w _ (does_set_ref w (after_it n h3 n.known) pf (q + 1) procedure proc (omega arith) at_procedure))
-      (λ h4 u4 g4 v4. then_from w _ (λ u g. Counted q s table procedure g) 1 need (pf + 5) (pf + 5 + 5 + 5) end (omega arith) (sets s h4 (omega arith))
+      (λ h4 u4 g4 v4. then_from w _ (λ u g. Counted q s table procedure g) 1 need (pf + 5) (pf + 5 + 5 + 5) end (omega arith) (sets s h4 (omega arith) (omega arith))
       (λ f t so. count_put q s table procedure f t so) (from_does w _ (does_zero (after_it n h4 n.known) (pf + 5) s (omega arith) at1 at2))
       (λ h5 u5 g5 v5. then_from w _ (λ u g. Counted q s table procedure g) 1 need (pf + 5 + 5 + 5) (pf + 5 + 5 + 5 + 5 + 5) end (omega arith)
-      (sets (s + 1) h5 (omega arith)) (λ f t so. key_put q s table procedure f t so)
+      (sets (s + 1) h5 (omega arith) (omega arith)) (λ f t so. key_put q s table procedure f t so)
       (from_does w _ (does_zero (after_it n h5 n.known) (pf + 5 + 5 + 5) (s + 1) (omega arith) at3 at4))
       (λ h6 u6 g6 v6. then_from w _ (λ u g. IsScanning strings q s table procedure 0 None g) 1 need (pf + 5 + 5 + 5 + 5 + 5)
-      (pf + 5 + 5 + 5 + 5 + 5 + 5 + 5) end (omega arith) (sets (s + 2) h6 (omega arith)) (λ f t so. begun strings q s table procedure f t so)
+      (pf + 5 + 5 + 5 + 5 + 5 + 5 + 5) end (omega arith) (sets (s + 2) h6 (omega arith) (omega arith)) (λ f t so. begun strings q s table procedure f t so)
       (from_does w _ (does_zero (after_it n h6 n.known) (pf + 5 + 5 + 5 + 5 + 5) (s + 2) nums_fit at5 at6))
       (λ h7 u7 g7 v7.
       let k7 = grows_then h3 h4 h7 g4 (grows_then h4 h5 h7 g5 (grows_then h5 h6 h7 g6 g7)) in
@@ -626,7 +628,7 @@ module _ (w : Way) where
       record {
         by = λ nums refs f t so room since reach.
             scan_does (after_it n h7 n.known) strings q s line (pf + 5 + 5 + 5 + 5 + 5 + 5 + 5) need (scans h7) table procedure
-            (of_kept by_rules h1 h7 t7 types.Pntr table table_of) (of_kept by_rules h3 h7 k7 (caller (key_type strings)) procedure procedure_of) literal n.turns 0 None nums refs
+            (of_kept fits h1 h7 t7 types.Pntr table table_of) (of_kept fits h3 h7 k7 (caller (key_type strings)) procedure procedure_of) literal n.turns 0 None nums refs
             f t since.few (omega arith) so room since reach;
       }))))))) in
       record { by = λ nums refs f t room since reach. chain.by nums refs f t tt room since reach }

@@ -6,7 +6,6 @@ use Rattle.ps_gen.specs.ps_base.CodeUnit.{ConstantView, text, literal}
 use Rattle.ps_gen.specs.ps_base.declared.instr.Instr.TheVariants as instr
 use Rattle.ps_gen.specs.ps_program.declared.place.Place.TheVariants.{Kept}
 use Rattle.ps_gen.specs.ps_program.Node.{BodyNode}
-use Rattle.ps_type_text.specs.Texts.{Field}
 use Rattle.ps_stepping.specs.ps_heap.Values.{Value, Num, Procedure, as_written, word_of}
 use Rattle.ps_stepping.specs.ps_heap.Held.{reading_name, assigned_name}
 use Rattle.ps_stepping.specs.ps_heap.Objects.{new_number}
@@ -17,27 +16,23 @@ use Rattle.ps_stepping.specs.Config.{constants_in, constant_at}
 use Rattle.ps_stepping.specs.Machine.{Step, on, push_num, push_ref}
 use Rattle.ps_stepping.specs.Objects.{holding, having}
 use Rattle.ps_stepping.specs.Procedures.{procedure_of}
-use Rattle.ps_soundness.proofs.Scopes.{found}
+use Rattle.heap_fit.specs.Bodies.{Level}
 use Rattle.ps_code_laws.specs.Compiled.{compiled, compiled_routine, compiled_store}
-use Rattle.ps_code_laws.proofs.Known.{HasPlace, declared, next}
+use Rattle.ps_code_laws.proofs.Known.{HasPlace}
 use Rattle.ps_code_laws.proofs.Clauses.{IsNum, IsRef}
 use Rattle.ps_code_laws.proofs.Compiling.{number_compiled, new_scope_compiled, and_object_compiled, kept_name_compiled, with_kept_name_compiled}
 use Rattle.ps_code_laws.proofs.HeldCompiling.{reading_name_compiled, assigned_name_compiled}
-use Rattle.ps_code_laws.proofs.KeptNames.{IsThere, declared_there, next_there, level_there, number_there, reference_there, word_kept}
+use Rattle.ps_code_laws.proofs.KeptNames.{IsThere, place_there, level_there, number_there, reference_there, word_kept}
 use Rattle.ps_code_laws.proofs.Doing.{Origin, IsSince, IsQuietly, Way, place, Does, does_meant, push_ref_goes}
 use Rattle.ps_code_laws.proofs.Operands.{Stand}
 use Rattle.ps_code_laws.proofs.Attempts.{text_there, number_held, reference_held, held_steps}
-use Rattle.ps_soundness.proofs.Standings.{AreAround}
+use Rattle.fit_soundness.proofs.Standings.{AreAround}
 
 pub there_of : {P : BodyNode → Type 0} {n : Origin} {up position : ℕ} {ty : TyView} (f : Frame) (s : State) → HasPlace n.known up position ty → IsSince P n f s →
     IsThere s.store.held.objects f.scope up position ty
-there_of {n = n} {up = up} {position = position} {ty = ty} f s (declared kept) since =
-    declared_there s.store.held.objects f.scope up position ty (found s.store.held.objects kept.wholes n.known.scopes f.scope up position ty kept.at
-    (subst (λ (wholes : Option (List (List Field))). AreAround s.store.held.objects f.scope wholes n.known.scopes) kept.are since.are.1))
-there_of {n = n} {position = position} {ty = ty} f s (next h) since =
-    let around = subst (λ (scopes : List (List Field)). AreAround s.store.held.objects f.scope (Some (h.whole ∷ h.wholes)) scopes) h.scopes_are
-    (subst (λ (wholes : Option (List (List Field))). AreAround s.store.held.objects f.scope wholes n.known.scopes) h.are since.are.1) in
-    next_there s.store.held.objects f.scope h.whole h.fields position ty around.0 h.at
+there_of {n = n} {up = up} {position = position} {ty = ty} f s there since =
+    place_there s.store.held.objects there.levels f.scope up position ty there.at
+    (subst (λ (levels : Option (List Level)). AreAround s.store.held.objects f.scope levels) there.are since.are.1)
 
 quiet_get : (up position : ℕ) (ty : TyView) → IsQuietly (get (Kept up position) ty)
 unfolding get change

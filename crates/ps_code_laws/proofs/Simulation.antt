@@ -24,7 +24,8 @@ use Rattle.ps_gen.specs.ps_program.Slots.{reaches, depth}
 use Rattle.ps_typing_laws.specs.ps_typing.Checking.{isnt_void}
 use Rattle.ps_stepping.specs.ps_heap.Operators.{neg_of, arith_of}
 use Rattle.ps_stepping.specs.ps_heap.Library.{LibraryProcedure, library_procedure}
-use Rattle.ps_soundness.specs.Shapes.{IsOf, AreOf, Grows}
+use Rattle.ps_soundness.specs.Over.{Grows}
+use Rattle.ps_code_laws.specs.Fitting.{IsOf, AreOf}
 use Rattle.ps_soundness.proofs.Library.{parameters_of, type_given}
 use Rattle.ps_soundness.proofs.Growing.{grows_not, grows_then, of_kept}
 use Rattle.ps_soundness.proofs.Combining.{sound_then}
@@ -36,7 +37,7 @@ use Rattle.ps_stepping.specs.ps_meaning.Operations.{compares, join_meant, part_m
 use Rattle.ps_stepping.specs.ps_meaning.Evaluation.{call_meant, eval, eval_all, eval_each, eval_arms, eval_labels}
 use Rattle.ps_gen.specs.ps_emitter.Choices as choice
 use Rattle.ps_type_text.specs.Texts.{Field, type_text}
-use Rattle.ps_gen.specs.Emission.{items_in, size, size_all, size_arms, size_labels, count, count_all, count_arms, emit, emit_all, emit_arms, emit_labels}
+use Rattle.ps_gen.specs.Emission.{items_in, size_at, size, size_all, size_arms, size_labels, count, count_all, count_arms, emit, emit_all, emit_arms, emit_labels}
 use Rattle.ps_gen.specs.Units.{unit_of, constants, constants_of_all, constants_of_arms}
 use Rattle.ps_gen.proofs.of_ps_emitter.ChoiceWidths.{width_arith, width_compare, width_by_type}
 use Rattle.ps_gen.proofs.Widths.{width_arms, width_labels, count_of_all, count_of_arms}
@@ -64,10 +65,11 @@ use Rattle.ps_code_laws.proofs.VectorForms.{does_fill, does_element, does_set_el
 use Rattle.ps_code_laws.proofs.RowForms.{pushed_nums, pushed_refs, all_nums, all_refs, does_make, does_list}
 use Rattle.ps_code_laws.proofs.Comparing.{compare_acts}
 use Rattle.ps_code_laws.proofs.Branches.{does_label, does_chosen, does_default}
-use Rattle.ps_code_laws.proofs.Loops.{Stands, does_for, plain_stands, kept_stands}
+use Rattle.ps_code_laws.proofs.Loops.{Stands, does_for, plain_stands, scoped_stands}
 use Rattle.ps_code_laws.proofs.Calls.{Entered, does_call}
 use Rattle.ps_code_laws.proofs.ScanForms.{does_scan}
-use Rattle.ps_soundness.proofs.Standings.{Standing, by_rules, in_scopes}
+use Rattle.fit_soundness.proofs.Levels.{fits}
+use Rattle.fit_soundness.proofs.Standings.{Standing, in_levels}
 
 one_or_other : (b : Bool) (x y : ℕ) → (b ≡ true → 1 ≤ x) → (b ≡ false → 1 ≤ y) → 1 ≤ x + y
 one_or_other true x y h k = let l = h refl in omega by_arith
@@ -128,6 +130,10 @@ kinds_of : {P : BodyNode → Type 0} {nums refs : ℕ} {known : Standing} {ts : 
     AllByRecursion (λ (field : Field). Kind field.ty) fields
 kinds_of clause.no_arg = tt
 kinds_of (clause.one_arg kind h rest) = (kind, kinds_of rest)
+
+width_set : (control : Place) → width_of (choice.set control types.Int) ≡ size_at control
+width_set (Plain slot) = refl
+width_set (Kept up position) = refl
 
 module _ (w : Way) where
   -- the instructions that are chosen by a type
@@ -320,20 +326,20 @@ module _ (w : Way) where
         (omega by_arith) (omega by_arith) (leads_of w n te) (does n entered at k te (front w.Allows w.unit at (emit e at k) _ h) names)
         (λ new v g is_so. taken_ref w is v (does_set_kept_ref w (after_it n new n.known) (at + size e) up position v is there
         (at_set_kept_ref is (after_clause w.Allows w.unit e at k _ h).0))))
-    clause_does n entered at k (clause.scoped_block {bytes = bytes} {wholes = wholes} {items = items} its are ti) h names =
+    clause_does n entered at k (clause.scoped_block {bytes = bytes} {levels = levels} {items = items} its are ti) h names =
         let whole = node.Block (Some bytes) items in
         let inside = at + 5 in
         let q = inside + size_all items in
         let context = context_in w n.turns in
         to_end w (q + 1) (at + size whole) (omega by_arith)
-        (does_scoped w {last = behind_items ti} at q k bytes wholes its are h.0 names.0 (after_clauses w.Allows w.unit items inside (k + 1) _ h.1).0
+        (does_scoped w {last = behind_items ti} at q k bytes levels its are h.0 names.0 (after_clauses w.Allows w.unit items inside (k + 1) _ h.1).0
         (stays_all context Nothing items)
         (λ new g. record {
           falls = falls_all context (calls_fall n.turns (length w.callers)) Nothing items;
           sound = items_sound ti n.turns (length w.callers) new Nothing tt;
           holds = holds_all w.Body context (calls_hold w.Body n.turns (length w.callers)) Nothing items tt (items_fit ti);
         })
-        (λ new g. does_all (after_it n new (opened n.known its.fields wholes)) entered inside (k + 1) (depth whole) 0 Nothing ti (omega by_arith)
+        (λ new g. does_all (after_it n new (opened n.known its.fields levels)) entered inside (k + 1) (depth whole) 0 Nothing ti (omega by_arith)
         (front w.Allows w.unit inside (emit_all items inside (k + 1)) _ h.1) names.1))
     clause_does n entered at k (clause.literal {params = params} {gives = gives} {tree = tree} {text = text} {line = line}) h names =
         moved w 1 (depth (node.Proc (body params gives tree text line))) at (at + 5) (at + 5) (omega by_arith) refl
@@ -362,11 +368,11 @@ module _ (w : Way) where
         (does_then_held w (λ v. eval_each (context_in w n.turns) args (call_meant (context_in w n.turns) line v)) (depth f) (depth whole) (depth whole)
         at q (q + size_all args + 9) (omega by_arith) (omega by_arith) (leads_of w n tf)
         (does n entered at k tf (front w.Allows w.unit at (emit f at k) _ h) (named_front w.unit k (constants f) _ names))
-        (λ new v g is fits. does_args (after_it n new n.known) entered q (k + count f) (depth whole) 1 (q + size_all args + 9) [] (compiled v ∷ [])
+        (λ new v g is fitted. does_args (after_it n new n.known) entered q (k + count f) (depth whole) 1 (q + size_all args + 9) [] (compiled v ∷ [])
         (omega by_arith) (omega by_arith) targs (omega by_arith) (front w.Allows w.unit q (emit_all args q (k + count f)) _ rest) names_args
         (call_meant (context_in w n.turns) line v)
         (λ last vs l are held. does_call w (after_it n last n.known) (q + size_all args) (depth whole) line tys ty v vs (omega by_arith) entered
-        (of_kept by_rules new last l (types.Proc tys ty) v is) fits are held at_call)))
+        (of_kept fits new last l (types.Proc tys ty) v is) fitted are held at_call)))
     clause_does n entered at k (clause.library {code = code} {args = args} {line = line} {of = of} {ty = ty} is targs) h names =
         let whole = node.Lib code args line in
         let q = at + size_all args in
@@ -456,7 +462,7 @@ module _ (w : Way) where
         let leads_test : Leads w.Body n n.known types.Bool (eval (context_in w n.turns) a >>= λ u. eval (context_in w n.turns) c)
         = record {
           falls = falls_then (eval (context_in w n.turns) a) _ (falls_in w n.turns a) (λ u. falls_in w n.turns c);
-          sound = sound_then in_scopes (sounds_in ta n.turns (length w.callers) n.heap) (λ new u g is. sounds_in tc n.turns (length w.callers) new);
+          sound = sound_then in_levels (sounds_in ta n.turns (length w.callers) n.heap) (λ new u g is. sounds_in tc n.turns (length w.callers) new);
           holds = holds_then w.Body (eval (context_in w n.turns) a) _ (holds_in w n.turns a (bodies_in ta)) (λ u is. holds_in w n.turns c (bodies_in tc));
         } in
         to_end w (clause_at + size a + size c + 5) (at + size whole) (omega by_arith)
@@ -465,21 +471,22 @@ module _ (w : Way) where
         (omega by_arith) (omega by_arith) leads_test (leads_of w n tb) test
         (does n entered between k tb (front w.Allows w.unit between (emit b between k) _ h.1) (named_front w.unit k (constants b) _ names))
         (omega by_arith) again.0 n.turns n.heap (omega by_arith) (grows_not n.heap)))
-    clause_does n entered at k (clause.loop {own = own_known} {slot = slot} {control = control} {a = a} {b = b} {c = c} {s = s} {line = line} is typed
-        controls below apart ta tb tc ts) h names =
-        let whole = node.For slot a b c None (Plain control) s line in
+    clause_does n entered at k (clause.loop {own = own_known} {slot = slot} {a = a} {b = b} {c = c} {s = s} {control = control} {line = line} is typed
+        controls in_place ta tb tc ts) h names =
+        let whole = node.For slot a b c None control s line in
         let context = context_in w n.turns in
         let limit_at = at + size a + 5 in
         let step_at = limit_at + size b + 5 in
         let turn = step_at + size c + 5 + 13 in
-        let clause_at = turn + 0 + 5 + 5 in
+        let clause_at = turn + 0 + 5 + size_at control in
         let own = k + count a + count b + count c in
         let rest_a = after_clause w.Allows w.unit a at k _ h in
         let rest_b = after_clause w.Allows w.unit b limit_at (k + count a) _ rest_a.1 in
         let rest_c = after_clause w.Allows w.unit c step_at (k + count a + count b) _ rest_b.1 in
         let in_turn = rest_c.1.1 in
-        let same_place : turn + 5 + 5 ≡ clause_at = omega by_arith in
-        let of_s = ahead_at w.Allows w.unit (turn + 5 + 5) clause_at _ same_place in_turn.1.1 in
+        let set_next : turn + 5 + width_of (choice.set control types.Int) ≡ clause_at = ap (λ (n : ℕ). turn + 5 + n) (width_set control) ∙ omega by_arith in
+        let same_place : turn + 5 + size_at control ≡ clause_at = omega by_arith in
+        let of_s = ahead_at w.Allows w.unit (turn + 5 + width_of (choice.set control types.Int)) clause_at _ set_next in_turn.1.1 in
         let rest_s = after_clause w.Allows w.unit s clause_at (own + 0) _ of_s in
         let names_b = names_behind w.unit a k _ names in
         let names_c = names_behind w.unit b (k + count a) _ names_b in
@@ -488,14 +495,14 @@ module _ (w : Way) where
         let q = clause_at + size s in
         let start_at : Stand w (step_at + size c + 5) (instr.ForStart slot (q + 9) line)
         = subst (λ (end : ℕ). Stand w (step_at + size c + 5) (instr.ForStart slot end line)) (omega by_arith) rest_c.1.0 in
-        let stands : Stands w n own_known slot None (Plain control) (depth whole) turn q (eval context s)
-        = plain_stands w n own_known slot control (depth s) (depth whole) turn q (eval context s) is.three apart below (omega by_arith) (omega by_arith)
+        let stands : Stands w n own_known slot None control (depth whole) turn q (eval context s)
+        = plain_stands w n own_known slot (depth s) (depth whole) turn q control (eval context s) is.three in_place (omega by_arith) (omega by_arith)
         controls (leads_of w (after_it n n.heap own_known) ts) in_turn.0 in_turn.1.0
-        (from_place w clause_at (turn + 5 + 5) (sym same_place)
+        (from_place w clause_at (turn + 5 + size_at control) (sym same_place)
         (does (after_it n n.heap own_known) entered clause_at (own + 0) ts (front w.Allows w.unit clause_at (emit s clause_at (own + 0)) _ of_s) names_s))
         typed rest_s.0 (omega by_arith) (is.keeps context) (is.keeps_limit context) (is.keeps_step context) in
         to_end w (q + 9) (at + size whole) (omega by_arith)
-        (does_for w n own_known slot None (Plain control) (depth whole) q (depth a) (depth b) (depth c) at (at + size a) (limit_at + size b)
+        (does_for w n own_known slot None control (depth whole) q (depth a) (depth b) (depth c) at (at + size a) (limit_at + size b)
         (step_at + size c)
         (eval context a) (eval context b) (eval context c) (eval context s) line stands (omega by_arith)
         (omega by_arith) (omega by_arith)
@@ -507,20 +514,21 @@ module _ (w : Way) where
         (does n entered step_at (k + count a + count b) tc (front w.Allows w.unit step_at (emit c step_at (k + count a + count b)) _ rest_b.1)
         (named_front w.unit (k + count a + count b) (constants c) _ names_c)) rest_c.0 start_at
         (is.limit_keeps context) (is.step_keeps context) (is.step_keeps_limit context))
-    clause_does n entered at k (clause.kept_loop {own = own_known} {slot = slot} {bytes = bytes} {wholes = wholes} {a = a} {b = b} {c = c} {s = s}
-        {line = line} its are first is typed controls turns ta tb tc ts) h names =
-        let whole = node.For slot a b c (Some bytes) (Kept 0 0) s line in
+    clause_does n entered at k (clause.scoped_loop {own = own_known} {slot = slot} {bytes = bytes} {levels = levels} {a = a} {b = b} {c = c} {s = s}
+        {control = control} {line = line} its are is typed controls in_place turns ta tb tc ts) h names =
+        let whole = node.For slot a b c (Some bytes) control s line in
         let context = context_in w n.turns in
         let limit_at = at + size a + 5 in
         let step_at = limit_at + size b + 5 in
         let turn = step_at + size c + 5 + 13 in
-        let clause_at = turn + 5 + 5 + 9 in
+        let clause_at = turn + 5 + 5 + size_at control in
         let own = k + count a + count b + count c in
         let rest_a = after_clause w.Allows w.unit a at k _ h in
         let rest_b = after_clause w.Allows w.unit b limit_at (k + count a) _ rest_a.1 in
         let rest_c = after_clause w.Allows w.unit c step_at (k + count a + count b) _ rest_b.1 in
         let in_turn = rest_c.1.1 in
-        let of_s = in_turn.1.1.1 in
+        let of_s = ahead_at w.Allows w.unit (turn + 5 + 5 + width_of (choice.set control types.Int)) clause_at _
+        (ap (λ (n : ℕ). turn + 5 + 5 + n) (width_set control)) in_turn.1.1.1 in
         let rest_s = after_clause w.Allows w.unit s clause_at (own + 1) _ of_s in
         let names_b = names_behind w.unit a k _ names in
         let names_c = names_behind w.unit b (k + count a) _ names_b in
@@ -528,14 +536,14 @@ module _ (w : Way) where
         let q = clause_at + size s in
         let start_at : Stand w (step_at + size c + 5) (instr.ForStart slot (q + 1 + 9) line)
         = subst (λ (end : ℕ). Stand w (step_at + size c + 5) (instr.ForStart slot end line)) (omega by_arith) rest_c.1.0 in
-        let stands : Stands w n n.known slot (Some bytes) (Kept 0 0) (depth whole) turn (q + 1) (eval context s)
-        = kept_stands w n own_known slot (depth s) (depth whole) turn q own (eval context s) bytes wholes its are first is.three (omega by_arith)
+        let stands : Stands w n n.known slot (Some bytes) control (depth whole) turn (q + 1) (eval context s)
+        = scoped_stands w n own_known slot (depth s) (depth whole) turn q own control (eval context s) bytes levels its are is.three in_place (omega by_arith)
         (omega by_arith) controls (leads_of w (after_it n n.heap own_known) ts) (λ z z_is. turns n.turns (length w.callers) z z_is n.heap)
         (stays_eval context s) in_turn.0 names_s.0 in_turn.1.0 in_turn.1.1.0
         (does (after_it n n.heap own_known) entered clause_at (own + 1) ts (front w.Allows w.unit clause_at (emit s clause_at (own + 1)) _ of_s) names_s.1)
         rest_s.0 typed rest_s.1.0 (omega by_arith) (is.keeps context) (is.keeps_limit context) (is.keeps_step context) in
         to_end w (q + 1 + 9) (at + size whole) (omega by_arith)
-        (does_for w n n.known slot (Some bytes) (Kept 0 0) (depth whole) (q + 1) (depth a) (depth b) (depth c) at (at + size a) (limit_at + size b)
+        (does_for w n n.known slot (Some bytes) control (depth whole) (q + 1) (depth a) (depth b) (depth c) at (at + size a) (limit_at + size b)
         (step_at + size c)
         (eval context a) (eval context b) (eval context c) (eval context s) line stands (omega by_arith)
         (omega by_arith) (omega by_arith)
@@ -863,7 +871,7 @@ module _ (w : Way) where
         (let e = length-append (refs_left field.ty v) br in let few = refs_few field.ty v in omega by_arith)
         tail (omega by_arith) (after_clause w.Allows w.unit t at k _ h) (names_behind w.unit t k _ names) (λ vs. next (v ∷ vs))
         (λ final vs l are held. from_place w (at + (size t + size_all ts)) (at + size t + size_all ts) (omega by_arith)
-        (d final (v ∷ vs) (grows_then n.heap new final g l) (of_kept by_rules new final l field.ty v is, are) (literal, held))))
+        (d final (v ∷ vs) (grows_then n.heap new final g l) (of_kept fits new final l field.ty v is, are) (literal, held))))
 
     -- the values of elements
     does_items : (n : Origin) (entered : Entered w n.turns) (at k need before end : ℕ) {ts : Nodes} {of ty : TyView} (bn : List ℤ) (br : List Value) →
@@ -886,7 +894,7 @@ module _ (w : Way) where
         (let e = length-append (refs_left of v) br in let few = refs_few of v in omega by_arith)
         tail (omega by_arith) (after_clause w.Allows w.unit t at k _ h) (names_behind w.unit t k _ names) (λ vs. next (v ∷ vs))
         (λ final vs l are many. from_place w (at + (size t + size_all ts)) (at + size t + size_all ts) (omega by_arith)
-        (d final (v ∷ vs) (grows_then n.heap new final g l) (of_kept by_rules new final l of v is, are) (omega by_arith))))
+        (d final (v ∷ vs) (grows_then n.heap new final g l) (of_kept fits new final l of v is, are) (omega by_arith))))
 
     does_all : (n : Origin) (entered : Entered w n.turns) (at k need before : ℕ) {first ty : TyView} {ts : Nodes} (v : Value) →
         Items w.Body (nums_of w) (refs_of w) n.known first ts ty →
@@ -939,7 +947,7 @@ module _ (w : Way) where
         (λ new g. jump_does w jump_at next (omega by_arith) at_jump.0
         (does_arms (after_it n new n.known) entered next (names_a + count a) need (before + length (fold_all deepest label labels) + 1) end by v default
         others trest
-        (of_kept by_rules n.heap new g value v is) (omega by_arith) behind_a.1 (names_behind w.unit a names_a _ its_names) (omega by_arith)
+        (of_kept fits n.heap new g value v is) (omega by_arith) behind_a.1 (names_behind w.unit a names_a _ its_names) (omega by_arith)
         (λ last l. from_place w (at + size_arms (more_arms (arm labels a) rest)) (next + size_arms rest) (omega by_arith)
         (d last (grows_then n.heap new last g l)))))
 
@@ -972,7 +980,7 @@ module _ (w : Way) where
         (does n entered label_at k tl (front w.Allows w.unit label_at (emit l label_at k) _ of_label) (named_front w.unit k (constants l) _ names))
         rest_l.0 at_jump.0 (omega by_arith) found
         (λ new g. does_labels (after_it n new n.known) entered (q + 1 + 5) (k + count l) need (before + 1) chosen end by v next others trest
-        (of_kept by_rules n.heap new g value v is) (omega by_arith) at_jump.1 (names_behind w.unit l k _ names) (omega by_arith)
+        (of_kept fits n.heap new g value v is) (omega by_arith) at_jump.1 (names_behind w.unit l k _ names) (omega by_arith)
         (λ last l2. found last (grows_then n.heap new last g l2))
         (λ last l2. from_place w (at + size_labels (more l rest)) (q + 1 + 5 + size_labels rest) (omega by_arith)
         (missed last (grows_then n.heap new last g l2))))

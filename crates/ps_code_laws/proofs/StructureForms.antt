@@ -17,7 +17,7 @@ use Rattle.ps_stepping.specs.Config.{constants_in, constant_at}
 use Rattle.ps_stepping.specs.Machine.{Step, push_num}
 use Rattle.ps_stepping.specs.Objects.{when_number, when_reference}
 use Rattle.ps_soundness.specs.Running.{HasField}
-use Rattle.ps_soundness.specs.Shapes.{IsOf}
+use Rattle.ps_code_laws.specs.Fitting.{IsOf}
 use Rattle.ps_soundness.proofs.Fields.{form_in_field, kept_in_field}
 use Rattle.ps_code_laws.specs.Compiled.{compiled, compiled_heap}
 use Rattle.ps_code_laws.specs.Meets.{nums_left, refs_left}
@@ -27,7 +27,7 @@ use Rattle.ps_code_laws.proofs.Clauses.{IsNum, IsRef, Kind, of_num, of_ref}
 use Rattle.ps_code_laws.proofs.Doing.{Origin, Way, place, Does, does_meant, push_goes}
 use Rattle.ps_code_laws.proofs.Operands.{Stand}
 use Rattle.ps_code_laws.proofs.Attempts.{at_num, at_ref, quiet_give, quiet_with_heap, quiet_read, quiet_put, number_form, reference_form, kept_word, object_pops, text_there, compiled_steps, number_read, reference_read, change_steps, over_num, over_ref}
-use Rattle.ps_soundness.proofs.Standings.{by_rules}
+use Rattle.fit_soundness.proofs.Levels.{fits}
 
 field_number : (class : List ℕ) (i : ℕ) {ty : TyView} → HasField class i ty → IsNum ty → (s : Step) → when_number (form_in (forms_of class) i) s ≡ s
 field_number class i {ty = ty} has num s = ap (λ (form : Option Form). when_number form s) (form_in_field class i ty has) ∙ number_form num s
@@ -99,7 +99,7 @@ module _ (w : Way) where
       ∙ field_reference class i has ref _ ∙ object_pops n.heap o is _ _
       ∙ compiled_steps w compiled_heap (p + 13) nums refs types.Void f s line
       (with_field s.store.held.objects o class i (kept_as (form_in (forms_of class) i) v)) _ _ (assign (Part (id_of o) i))
-      (ap (λ (x : Value). with_field (compiled_heap s.store.held.objects) (compiled o) class i (compiled x)) (sym (kept_in_field by_rules n.heap class i ty v has of))
+      (ap (λ (x : Value). with_field (compiled_heap s.store.held.objects) (compiled o) class i (compiled x)) (sym (kept_in_field fits n.heap class i ty v has of))
       ∙ with_field_compiled s.store.held.objects o class i (kept_as (form_in (forms_of class) i) v))
       (λ heap. change_steps w (p + 13) nums refs f s (Part (id_of (compiled o)) i) (Part (id_of o) i) heap
       (ap (λ (id : ℕ). Part id i) (id_compiled o))))

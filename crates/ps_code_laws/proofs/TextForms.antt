@@ -7,7 +7,7 @@ use Rattle.ps_stepping.specs.ps_heap.Values.{Value, Text, word_of}
 use Rattle.ps_stepping.specs.ps_heap.Texts.{join_of, part_of}
 use Rattle.ps_stepping.specs.ps_meaning.Meaning.{made_text}
 use Rattle.ps_stepping.specs.ps_meaning.Operations.{join_meant, part_meant}
-use Rattle.ps_soundness.specs.Shapes.{IsOf}
+use Rattle.ps_code_laws.specs.Fitting.{IsOf}
 use Rattle.ps_code_laws.specs.Compiled.{compiled}
 use Rattle.ps_code_laws.proofs.Doing.{Origin, Way, Does, does_meant}
 use Rattle.ps_code_laws.proofs.Operands.{Stand}

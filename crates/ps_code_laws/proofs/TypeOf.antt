@@ -5,7 +5,7 @@ use Rattle.ps_gen.specs.ps_program.Node.{Node, Nodes, BodyNode}
 use Rattle.ps_gen.specs.ps_emitter.Giving.{result_of, type_of, type_of_last}
 use Rattle.ps_code_laws.proofs.Clauses.{Clause, Items}
 use Rattle.ps_code_laws.proofs.Clauses as clause
-use Rattle.ps_soundness.proofs.Standings.{Standing}
+use Rattle.fit_soundness.proofs.Standings.{Standing}
 
 mutual
   pub type_is : {P : BodyNode → Type 0} {nums refs : ℕ} {known : Standing} {t : Node} {ty : TyView} → Clause P nums refs known t ty → type_of t ≡ ty

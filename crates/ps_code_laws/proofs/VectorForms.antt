@@ -18,7 +18,7 @@ use Rattle.ps_gen.specs.ps_emitter.Choices as choice
 use Rattle.ps_stepping.specs.Config.{constants_in, constant_at}
 use Rattle.ps_stepping.specs.Machine.{Step, push_num}
 use Rattle.ps_stepping.specs.Objects.{when_number, when_reference, type_of_object, type_of, of_type}
-use Rattle.ps_soundness.specs.Shapes.{IsOf}
+use Rattle.ps_code_laws.specs.Fitting.{IsOf}
 use Rattle.ps_soundness.proofs.Growing.{of_kept}
 use Rattle.ps_soundness.proofs.Fields.{kept_in_vector}
 use Rattle.ps_code_laws.specs.Compiled.{compiled, compiled_object, compiled_heap}
@@ -29,7 +29,7 @@ use Rattle.ps_code_laws.proofs.Clauses.{IsNum, IsRef, vector, Kind, of_num, of_r
 use Rattle.ps_code_laws.proofs.Doing.{Origin, Way, place, Does, does_meant, push_goes}
 use Rattle.ps_code_laws.proofs.Operands.{Stand}
 use Rattle.ps_code_laws.proofs.Attempts.{at_num, at_ref, quiet_give, quiet_attempt, quiet_with_heap, quiet_made, quiet_read, quiet_put, number_form, reference_form, kept_word, text_there, compiled_steps, number_read, reference_read, object_steps, change_steps, over_num, over_ref}
-use Rattle.ps_soundness.proofs.Standings.{by_rules}
+use Rattle.fit_soundness.proofs.Levels.{fits}
 
 -- the text of a vector's type, where a value denotes one
 abbrev pub text_of : TyView → List ℕ
@@ -84,7 +84,7 @@ module _ (w : Way) where
       (λ nums refs f s room since. text_there w k (text_of t) (place w (p + 9) (word_of high ∷ word_of low ∷ nums) (compiled v ∷ refs) f s.store) _ named
       ∙ element_reference ref _
       ∙ compiled_steps w compiled_object (p + 9) nums refs (types.Vector t) f s line filled _ _ (made Vector)
-      (ap (λ (x : Value). filled_vector (text_of t) (word_of low) (word_of high) (compiled x)) (sym (kept_in_vector by_rules n.heap t v is))
+      (ap (λ (x : Value). filled_vector (text_of t) (word_of low) (word_of high) (compiled x)) (sym (kept_in_vector fits n.heap t v is))
       ∙ filled_compiled (text_of t) (word_of low) (word_of high) (kept_as (Some (element_of (text_of t))) v))
       (λ object. object_steps w (p + 9) nums refs f s Vector (λ id. refl) (vector {element = t}) object room))
       (quiet_attempt line filled (made Vector) (quiet_made Vector)) (at_ref w _ _ ref at))
@@ -95,13 +95,13 @@ module _ (w : Way) where
   unfolding with_heap
   does_element n p line {t = t} v i (of_num num) is at =
       does_meant w p 1 (instr.ElemM line)
-      (λ nums refs f s room since. vector_pops s.store.held.objects t v (of_kept by_rules n.heap s.store.held.objects since.grows (types.Vector t) v is) _
+      (λ nums refs f s room since. vector_pops s.store.held.objects t v (of_kept fits n.heap s.store.held.objects since.grows (types.Vector t) v is) _
       ∙ compiled_steps w compiled (p + 5) nums refs t f s line (element_at s.store.held.objects v (word_of i)) _ _ read (element_compiled s.store.held.objects v (word_of i))
       (λ x. element_number num _ ∙ number_read w (p + 5) nums refs f s num since.weighs x room))
       (quiet_read line (λ heap. element_at heap v (word_of i))) (at_num w _ _ num at)
   does_element n p line {t = t} v i (of_ref ref) is at =
       does_meant w p 1 (instr.ElemP line)
-      (λ nums refs f s room since. vector_pops s.store.held.objects t v (of_kept by_rules n.heap s.store.held.objects since.grows (types.Vector t) v is) _
+      (λ nums refs f s room since. vector_pops s.store.held.objects t v (of_kept fits n.heap s.store.held.objects since.grows (types.Vector t) v is) _
       ∙ compiled_steps w compiled (p + 5) nums refs t f s line (element_at s.store.held.objects v (word_of i)) _ _ read (element_compiled s.store.held.objects v (word_of i))
       (λ x. element_reference ref _ ∙ reference_read w (p + 5) nums refs f s ref since.weighs x room))
       (quiet_read line (λ heap. element_at heap v (word_of i))) (at_ref w _ _ ref at)
@@ -114,7 +114,7 @@ module _ (w : Way) where
       over_num w (word_of i ∷ []) (compiled v ∷ []) num e
       (does_meant w p 1 (instr.SetElemM line)
       (λ nums refs f s room since.
-      let now = of_kept by_rules n.heap s.store.held.objects since.grows (types.Vector t) v is in
+      let now = of_kept fits n.heap s.store.held.objects since.grows (types.Vector t) v is in
       vector_pops s.store.held.objects t v now _
       ∙ compiled_steps w compiled_heap (p + 5) nums refs types.Void f s line
       (with_element s.store.held.objects v (word_of i) (kept_as (Some (element_of (type_in (vector_in s.store.held.objects v)))) e)) _ _ (assign (element_place s.store.held.objects v (word_of i)))
@@ -128,12 +128,12 @@ module _ (w : Way) where
       over_ref w (word_of i ∷ []) (compiled v ∷ []) ref e
       (does_meant w p 1 (instr.SetElemP line)
       (λ nums refs f s room since.
-      let now = of_kept by_rules n.heap s.store.held.objects since.grows (types.Vector t) v is in
+      let now = of_kept fits n.heap s.store.held.objects since.grows (types.Vector t) v is in
       vector_pops s.store.held.objects t v now _
       ∙ compiled_steps w compiled_heap (p + 5) nums refs types.Void f s line
       (with_element s.store.held.objects v (word_of i) (kept_as (Some (element_of (type_in (vector_in s.store.held.objects v)))) e)) _ _ (assign (element_place s.store.held.objects v (word_of i)))
       (ap (λ (x : Value). with_element (compiled_heap s.store.held.objects) (compiled v) (word_of i) (compiled x))
-      (sym (ap (λ (ty : List ℕ). kept_as (Some (element_of ty)) e) (type_in_is s.store.held.objects t v now) ∙ kept_in_vector by_rules n.heap t e of))
+      (sym (ap (λ (ty : List ℕ). kept_as (Some (element_of ty)) e) (type_in_is s.store.held.objects t v now) ∙ kept_in_vector fits n.heap t e of))
       ∙ with_element_compiled s.store.held.objects v (word_of i) (kept_as (Some (element_of (type_in (vector_in s.store.held.objects v)))) e))
       (λ heap. element_reference ref _ ∙ change_steps w (p + 5) nums refs f s (element_place (compiled_heap s.store.held.objects) (compiled v) (word_of i))
       (element_place s.store.held.objects v (word_of i)) heap (element_place_compiled s.store.held.objects v (word_of i))))
@@ -144,13 +144,13 @@ module _ (w : Way) where
   unfolding with_heap give
   does_bound n p true t v is at =
       does_meant w p 1 instr.Upb
-      (λ nums refs f s room since. vector_pops s.store.held.objects t v (of_kept by_rules n.heap s.store.held.objects since.grows (types.Vector t) v is) _
+      (λ nums refs f s room since. vector_pops s.store.held.objects t v (of_kept fits n.heap s.store.held.objects since.grows (types.Vector t) v is) _
       ∙ ap (λ (z : ℤ). push_num z (place w (p + 1) nums refs f s.store)) (high_bound_compiled s.store.held.objects v)
       ∙ push_goes w (p + 1) (high_of s.store.held.objects v) nums refs f s.store room)
       (quiet_with_heap (λ heap. give (Num (high_of heap v))) (λ heap. quiet_give (Num (high_of heap v)))) at
   does_bound n p false t v is at =
       does_meant w p 1 instr.Lwb
-      (λ nums refs f s room since. vector_pops s.store.held.objects t v (of_kept by_rules n.heap s.store.held.objects since.grows (types.Vector t) v is) _
+      (λ nums refs f s room since. vector_pops s.store.held.objects t v (of_kept fits n.heap s.store.held.objects since.grows (types.Vector t) v is) _
       ∙ ap (λ (z : ℤ). push_num z (place w (p + 1) nums refs f s.store)) (low_bound_compiled s.store.held.objects v)
       ∙ push_goes w (p + 1) (low_of s.store.held.objects v) nums refs f s.store room)
       (quiet_with_heap (λ heap. give (Num (low_of heap v))) (λ heap. quiet_give (Num (low_of heap v)))) at

@@ -5,13 +5,14 @@ use Rattle.ps_gen.specs.ps_base.TyView.{TyView}
 use Rattle.ps_gen.specs.ps_program.Node.{Node, Nodes, none, more, Arms, no_arms, more_arms, arm, BodyNode, body}
 use Rattle.ps_gen.specs.ps_program.Node as node
 use Rattle.ps_gen.specs.ps_program.Slots.{slot_count}
-use Rattle.ps_type_text.specs.Texts.{Field}
 use Rattle.ps_stepping.specs.ps_heap.Values.{Value, Procedure, as_written}
 use Rattle.ps_stepping.specs.ps_heap.Objects.{Heap, Object, Structure, Elements, Scope, Keyed}
+use Rattle.ps_stepping.specs.ps_heap.References.{values_of}
 use Rattle.ps_stepping.specs.ps_meaning.Meaning.{Frame}
 use Rattle.ps_soundness.specs.Valued.{IsValued}
 use Rattle.ps_soundness.specs.Shapes.{type_of_body}
 use Rattle.ps_gen.specs.ps_base.declared.instr.Instr.{Instr}
+use Rattle.heap_fit.specs.Bodies.{Level, HasDeclared}
 use Rattle.ps_gen.specs.Units.{HasUnit, body_instrs}
 use Rattle.ps_stepping.specs.Config.{frame_words}
 
@@ -86,6 +87,15 @@ HeapIs P heap = AllByRecursion (ObjectIs P) heap
 abbrev pub FrameIs : (BodyNode → Type 0) → Frame → Type 0
 FrameIs P frame = ((slot : ℕ) → ValueIs P (frame.nums slot)) × ((slot : ℕ) → ValueIs P (frame.refs slot))
 
+-- a procedure as it is written has a unit, and so has each literal in it
+abbrev pub HasUnits : Value → Type 0
+HasUnits (Procedure (as_written of) scope) = BodyIs HasUnit (λ ty. Unit {0}) of
+HasUnits v = Unit {0}
+
+-- the procedures of a heap, as they are written, have units
+abbrev pub HaveUnits : Heap → Type 0
+HaveUnits heap = AllByRecursion (λ (object : Object). AllByRecursion HasUnits (values_of object)) heap
+
 -- What the machine needs of each body: what it takes and gives are values, it is not too large for a frame, and each of its instructions can be spelled.
 pub record Fits (of : BodyNode) : Type 0 where
   pub valued : IsValued (type_of_body of)
@@ -101,9 +111,9 @@ pub record FitsBy (may : Instr → Bool) (of : BodyNode) : Type 0 where
   pub fits : Fits of
   pub each_may : AllByRecursion (λ i. may i ≡ true) (instrs_of of)
 
--- the names that scopes keep are of types that have values
-abbrev pub AreFieldsValued : List Field → Type 0
-AreFieldsValued fields = AllByRecursion (λ (field : Field). IsValued field.ty) fields
+-- the names that have had their declarations are of types that have values
+abbrev pub IsLevelValued : Level → Type 0
+IsLevelValued level = (position : ℕ) (ty : TyView) → HasDeclared position ty level → IsValued ty
 
-abbrev pub AreScopesValued : List (List Field) → Type 0
-AreScopesValued scopes = AllByRecursion AreFieldsValued scopes
+abbrev pub AreLevelsValued : List Level → Type 0
+AreLevelsValued levels = AllByRecursion IsLevelValued levels

@@ -5,7 +5,6 @@ use Rattle.ps_gen.specs.ps_base.TyView as types
 use Rattle.ps_gen.specs.ps_base.CodeUnit.{UnitView}
 use Rattle.ps_gen.specs.ps_base.declared.instr.Instr.{Instr}
 use Rattle.ps_gen.specs.ps_program.Node.{Param, BodyNode, body}
-use Rattle.ps_type_text.specs.Texts.{Field}
 use Rattle.ps_stepping.specs.ps_heap.Values.{Value, word_of}
 use Rattle.ps_stepping.specs.ps_heap.Ends.{Done}
 use Rattle.ps_stepping.specs.ps_heap.Events.{Event, Finish}
@@ -14,7 +13,10 @@ use Rattle.ps_stepping.specs.ps_meaning.Frames.{frame_of_call}
 use Rattle.ps_stepping.specs.ps_meaning.Calls.{body_meant, context}
 use Rattle.ps_stepping.specs.ps_heap.Objects.{Heap}
 use Rattle.ps_stepping.specs.ps_heap.Held.{Held, StoredHeap}
-use Rattle.ps_soundness.specs.Shapes.{IsOf, AreScopes, AreRoots, IsTypedHeap, IsTypedHeld}
+use Rattle.ps_soundness.specs.Over.{AreRoots}
+use Rattle.heap_fit.specs.Bodies.{Level}
+use Rattle.fit_soundness.specs.Levels.{AreLevelsAt}
+use Rattle.ps_code_laws.specs.Fitting.{IsOf, IsTypedHeap, IsTypedHeld}
 use Rattle.ps_gen.specs.Units.{unit_of}
 use Rattle.ps_stepping.specs.Config.{frame_words, Caller, Config, frame_in}
 use Rattle.ps_stepping.specs.Machine.{resumed}
@@ -96,11 +98,11 @@ pub record IsFitting (held : Held) : Type 0 where
 
 -- From its first instruction a body that is called does what it means: its scope is made, the arguments that it keeps are copied there, and its clause
 -- runs. It does so whatever waits that has room, whatever has been, where at most so many turns are left, what is held is typed, the scope that the
--- body was made in and those round it have these names, of which these have had their declarations, it is handed values of its parameters' types, and
--- each procedure that it may call fits.
-pub record Meets (n : ℕ) (wholes scopes : List (List Field)) (of : BodyNode) : Type 0 where
+-- body was made in and those round it are these, in which what was declared has its value, it is handed values of its parameters' types, and each
+-- procedure that it may call fits.
+pub record Meets (n : ℕ) (levels : List Level) (of : BodyNode) : Type 0 where
   pub follows : (callers : List Caller) (scope : Option ℕ) (args : List Value) (state : State) → state.store.turns ≤ n → HasRoom callers →
-      IsFitting state.store.held → AreScopes state.store.held.objects scope wholes scopes → AreHanded state.store.held.objects (params_of of) args →
+      IsFitting state.store.held → AreLevelsAt state.store.held.objects scope levels → AreHanded state.store.held.objects (params_of of) args →
       ValuesAre Fits args →
       Follows (standing (unit_of of) callers 0 [] [] (frame_of_call of scope args) state.store) state.events callers (gives_of of)
       (body_meant (context n (length callers)) of args (frame_of_call of scope args) state)

@@ -41,8 +41,8 @@ use Rattle.ps_causes.specs.ps_volumes.Making.{Makes}
 use Rattle.ps_causes.proofs.of_ps_volumes.Settled.{device_kept, held_kept}
 use Rattle.ps_causes.specs.Source.{IsProgram, IsSourceFault, in_scan, in_parse, in_check}
 use Rattle.ps_causes.specs.Source as told
-use Rattle.ps_causes.specs.Command.{Gives, GivesTooLong, GivesInput, GivesProgram, IsUnread, Unready, Due, LeavesAsAsked, WhyEnds, carried_out, run_done}
-use Rattle.ps_causes.specs.Steps.{RefusalWhy, ProgramWhy, UnreadWhy}
+use Rattle.ps_causes.specs.Command.{Gives, GivesTooLong, GivesInput, GivesProgram, IsUnread, Unready, Due, LeavesAsAsked, carried_out, run_done}
+use Rattle.ps_causes.specs.Steps.{RefusalWhy, ProgramWhy, UnreadWhy, WhyEnds}
 use Rattle.ps_causes.specs.Steps as steps
 use Rattle.ps_command.specs.inside.Refusal.{Refuses, stage_of, number_of, line_of_fault}
 use Rattle.ps_command.specs.inside.Steps.{IsInputUnread}
@@ -78,10 +78,6 @@ at_line {text} {n} {number} {k} {line} one two fault =
 pub fault_found : (text : List ℕ) (fault : SourceFault) (number : ℕ) (line : Line) → number_of fault ≡ Some number → line_of_fault fault ≡ Some line → Refuses text fault → IsSourceFault text (name_of (stage_of fault)) number line
 fault_found text (source.Scan fault) number line n l h = in_scan (h (λ e. none_is_some number (ap scanning.number_of (sym e) ∙ n))) n l
 fault_found text (source.Parse fault) number line n l h = let is = h (λ e. none_is_some number (ap parsing.number_of (sym e) ∙ n)) in in_parse is.1 is.2 n l
-fault_found text (source.NotBuilt at) number line n l h =
-    let one : 8 ≡ number = cc in
-    let two : at ≡ line = cc in
-    at_line one two (in_check h.scanned h.read h.fault)
 fault_found text (source.Check fault) number line n l h =
     let found = told_by fault number line n l in
     let is = h found.rule found.stands in
@@ -173,6 +169,11 @@ left_alone (Some (a_volume pages)) old new is = (
   not_shut (along_weaker is.images (λ image at. record { from = image; was = at; by = torn_none 0 1 image })),
 )
 
+-- a run of one text is carried out
+pub one_done : {A : Type 0} (run : RunOf) (name : A → List ℕ) (files : List A) → files ≡ [] → run_done run (map name files) ≡ Some (a_run run)
+one_done run name [] none = refl
+one_done run name (file ∷ files) none = cc
+
 -- a run of more than one text isn't carried out
 pub many_none : {A : Type 0} (run : RunOf) (name : A → List ℕ) (files : List A) → (files ≡ [] → ⊥) → run_done run (map name files) ≡ None
 many_none run name [] some = absurd (some refl)
@@ -181,23 +182,11 @@ many_none run name (file ∷ files) some = refl
 -- Why a command ends as it does.
 module _ (holds : List ℕ → List ℕ → Type 0) (lacks may_fail : List ℕ → Type 0) (failed : Type 0) where
   pub ends_in_usage : (old : Outside (List ℕ)) → WhyEnds old old None holds lacks may_fail failed (Err reports.Usage)
-  ends_in_usage old = record {
-    bytes = _;
-    status = _;
-    due = Due.no_command refl (device_none old);
-    ends = reported (all_none old);
-    device = device_kept old old (device_none old);
-  }
+  ends_in_usage old = steps.by_words (Due.no_command refl (device_none old)) (reported (all_none old)) (device_kept old old (device_none old))
 
   -- there was no memory to read the words
   ends_without_memory : (asked : Option CommandOf) (old : Outside (List ℕ)) → WhyEnds old old asked holds lacks may_fail failed (Err reports.NoMemory)
-  ends_without_memory asked old = record {
-    bytes = _;
-    status = _;
-    due = Due.no_memory (device_none old);
-    ends = reported (all_none old);
-    device = left_alone asked old old (device_none old);
-  }
+  ends_without_memory asked old = steps.by_words (Due.no_memory (device_none old)) (reported (all_none old)) (left_alone asked old old (device_none old))
 
   -- the words weren't read
   pub ends_refused : (fault : ArgsFault) (asked : Option CommandOf) (old : Outside (List ℕ)) → ReadsAs command_in asked (Err fault)
@@ -209,59 +198,28 @@ module _ (holds : List ℕ → List ℕ → Type 0) (lacks may_fail : List ℕ �
   -- a text that tells of the program
   pub ends_told : (old new : Outside (List ℕ)) (text : List ℕ) (status : Status) → Answers old new text 0 (number_of_status status) → LeavesDevice old new
       → WhyEnds old new (Some (a_text text)) holds lacks may_fail failed (Ok status)
-  ends_told old new text status is left = record {
-    bytes = _;
-    status = _;
-    due = Due.told refl left;
-    ends = ended is;
-    device = left_alone (Some (a_text text)) old new left;
-  }
+  ends_told old new text status is left = steps.by_words (Due.told refl left) (ended is) (left_alone (Some (a_text text)) old new left)
 
   pub ends_unready : (old : Outside (List ℕ)) (run : RunOf) (report : Report) → Unready run holds lacks may_fail failed (line_of report) (number_of_status (status_of report))
       → WhyEnds old old (Some (a_run run)) holds lacks may_fail failed (Err report)
-  ends_unready old run report why = record {
-    bytes = _;
-    status = _;
-    due = Due.unready refl why (device_none old);
-    ends = reported (all_none old);
-    device = held_kept old old (device_kept old old (device_none old));
-  }
+  ends_unready old run report why = steps.by_words (Due.unready refl why (device_none old)) (reported (all_none old)) (held_kept old old (device_kept old old (device_none old)))
 
   pub ends_made : (old new : Outside (List ℕ)) (pages : ℕ) (done : Unit {0}) → Makes pages old new (Ok done) → WhyEnds old new (Some (a_volume pages)) holds lacks may_fail failed (Ok Done)
-  ends_made old new pages done is = record {
-    bytes = _;
-    status = _;
-    due = Due.making refl is.due;
-    ends = ended (whole (told_none old new is.told is.calm));
-    device = (is.any_moment, is.gate);
-  }
+  ends_made old new pages done is = steps.by_words (Due.making refl is.due) (ended (whole (told_none old new is.told is.calm))) (is.any_moment, is.gate)
 
   pub ends_not_made : (old new : Outside (List ℕ)) (pages : ℕ) (report : Report) → Makes pages old new (Err report) → WhyEnds old new (Some (a_volume pages)) holds lacks may_fail failed (Err report)
-  ends_not_made old new pages report is = record {
-    bytes = _;
-    status = _;
-    due = Due.making refl is.due;
-    ends = reports_alone old new is.told is.calm report;
-    device = (is.any_moment, is.gate);
-  }
+  ends_not_made old new pages report is = steps.by_words (Due.making refl is.due) (reports_alone old new is.told is.calm report) (is.any_moment, is.gate)
 
   -- there was no volume
   ends_unattached : (old new : Outside (List ℕ)) (run : RunOf) (input : List ℕ) (program : BodyNode) (report : Report) → GivesProgram holds lacks run program → GivesInput holds lacks run.input input
       → IsUnattached old new report → WhyEnds old new (Some (a_run run)) holds lacks may_fail failed (Err report)
   ends_unattached old new run input program report gives given is =
-      subst (λ (r : Report). WhyEnds old new (Some (a_run run)) holds lacks may_fail failed (Err r)) (sym is.report_is) (record {
-        bytes = _;
-        status = _;
-        due = Due.unattached input {cause = is.cause} refl gives given is.why is.keeps;
-        ends = reports_alone old new is.told is.calm (report_for is.cause);
-        device = is.keeps;
-      })
+      subst (λ (r : Report). WhyEnds old new (Some (a_run run)) holds lacks may_fail failed (Err r)) (sym is.report_is) (steps.by_words (Due.unattached input {cause = is.cause} refl gives given is.why is.keeps) (reports_alone old new is.told is.calm (report_for is.cause)) is.keeps)
 
   -- the program was run, or there was no volume
   pub ends_run : {H : Type 0} (outside : H → Outside (List ℕ)) (old new : H) (run : RunOf) (input : List ℕ) (program : BodyNode) (end : Result Status Report) → GivesProgram holds lacks run program
       → GivesInput holds lacks run.input input → ProgramWhy outside old new run input program end → WhyEnds (outside old) (outside new) (Some (a_run run)) holds lacks may_fail failed end
-  ends_run outside old new run input program end gives given (steps.ran is kept) =
-      record { bytes = is.bytes; status = is.status; due = Due.ran refl gives given is.comes kept; ends = is.ends; device = kept.keeps }
+  ends_run outside old new run input program end gives given (steps.ran is) = steps.by_run refl gives given is
   ends_run {H} outside old new run input program end gives given (steps.no_memory same) =
       subst (λ (h : H). WhyEnds (outside old) (outside h) (Some (a_run run)) holds lacks may_fail failed (Err reports.NoMemory)) (sym same) (ends_unready (outside old) run reports.NoMemory Unready.no_memory)
   ends_run outside old new run input program end gives given (steps.no_volume {report = report} is) =

@@ -1,9 +1,10 @@
--- Events that differ in what is counted alone, and those of a program as its unit has them: they output the same and have the same end.
-use Rattle.std.proofs.Common.{◌≡◌, ℕ, List, [], ◌∷◌, ◌++◌, Option, Some, None, refl, sym, ap, ◌∙◌}
-use Rattle.ps_causes.specs.ps_meaning.ps_heap.Ends.{End, report_of}
-use Rattle.ps_causes.specs.ps_meaning.ps_heap.Events.{Event, Out, Turn, Ask, Commit, Finish, outputs, output_of}
-use Rattle.ps_code_laws.specs.Compiled.{compiled_event, compiled_events}
-use Rattle.count_laws.specs.Heavier.{IsLess, AreLess}
+-- The end among events: the last of them is that of the run.
+use Rattle.std.proofs.Common.{◌≡◌, ℕ, List, [], ◌∷◌, ◌++◌, Option, Some, None, refl, sym, ◌∙◌, ap}
+use Rattle.ps_causes.specs.ps_meaning.ps_heap.Ends.{End, Done}
+use Rattle.ps_causes.specs.ps_meaning.ps_heap.Events.{Event, Out, Turn, Ask, Commit, Finish}
+use Rattle.ps_causes.specs.ps_meaning.Meaning.{Outcome, Value_is, Ends}
+use Rattle.ps_causes.specs.ps_meaning.Runs.{Given, events_with, run_events, run_end, outcome_of, all_events, end_reached}
+use Rattle.ps_program.specs.Node.{BodyNode}
 
 -- the end that an event is
 abbrev end_in : Event → Option End
@@ -11,68 +12,44 @@ end_in (Finish e count) = Some e
 end_in event = None
 
 -- that of the last of these events, or this where there is none
-abbrev pub ending : Option End → List Event → Option End
+abbrev ending : Option End → List Event → Option End
 ending here [] = here
 ending here (event ∷ events) = ending (end_in event) events
 
-pub ending-append : (here : Option End) (events : List Event) (e : End) (count : ℕ) → ending here (events ++ Finish e count ∷ []) ≡ Some e
+ending-append : (here : Option End) (events : List Event) (e : End) (count : ℕ) → ending here (events ++ Finish e count ∷ []) ≡ Some e
 ending-append here [] e count = refl
 ending-append here (event ∷ events) e count = ending-append (end_in event) events e count
 
-one-same : (event other : Event) → IsLess event other → (output_of event ≡ output_of other) × (end_in event ≡ end_in other)
-one-same (Out bytes count) (Out bytes0 count0) h = (sym h.0, refl)
-one-same (Out bytes count) (Turn count0) h = absurd h
-one-same (Out bytes count) (Ask for_what0 count0) h = absurd h
-one-same (Out bytes count) (Commit heap0 count0) h = absurd h
-one-same (Out bytes count) (Finish e0 count0) h = absurd h
-one-same (Turn count) (Out bytes0 count0) h = absurd h
-one-same (Turn count) (Turn count0) h = (refl, refl)
-one-same (Turn count) (Ask for_what0 count0) h = absurd h
-one-same (Turn count) (Commit heap0 count0) h = absurd h
-one-same (Turn count) (Finish e0 count0) h = absurd h
-one-same (Ask for_what count) (Out bytes0 count0) h = absurd h
-one-same (Ask for_what count) (Turn count0) h = absurd h
-one-same (Ask for_what count) (Ask for_what0 count0) h = (refl, refl)
-one-same (Ask for_what count) (Commit heap0 count0) h = absurd h
-one-same (Ask for_what count) (Finish e0 count0) h = absurd h
-one-same (Commit heap count) (Out bytes0 count0) h = absurd h
-one-same (Commit heap count) (Turn count0) h = absurd h
-one-same (Commit heap count) (Ask for_what0 count0) h = absurd h
-one-same (Commit heap count) (Commit heap0 count0) h = (refl, refl)
-one-same (Commit heap count) (Finish e0 count0) h = absurd h
-one-same (Finish e count) (Out bytes0 count0) h = absurd h
-one-same (Finish e count) (Turn count0) h = absurd h
-one-same (Finish e count) (Ask for_what0 count0) h = absurd h
-one-same (Finish e count) (Commit heap0 count0) h = absurd h
-one-same (Finish e count) (Finish e0 count0) h = (ap report_of (sym h.0), ap (λ (end : End). Some end) (sym h.0))
+ends_in_its_end : (o : Outcome) → ending None (all_events o) ≡ Some (end_reached o)
+unfolding all_events end_reached
+ends_in_its_end (Value_is v f s) = ending-append None s.events Done s.store.held.counted
+ends_in_its_end (Ends e s) = ending-append None s.events e s.store.held.counted
 
-pub same-outputs : (events others : List Event) → AreLess events others → outputs events ≡ outputs others
-same-outputs [] [] h = refl
-same-outputs [] (other ∷ others) h = absurd h
-same-outputs (event ∷ events) [] h = absurd h
-same-outputs (event ∷ events) (other ∷ others) h =
-    ap (λ (bs : List ℕ). bs ++ outputs events) (one-same event other h.0).0 ∙ ap (λ (bs : List ℕ). output_of other ++ bs) (same-outputs events others h.1)
+run_ends : (given : Given) (program : BodyNode) → ending None (run_events given program) ≡ Some (run_end given program)
+unfolding events_with run_end
+run_ends given program = ends_in_its_end (outcome_of given program)
 
-pub same-ending : (here : Option End) (events others : List Event) → AreLess events others → ending here events ≡ ending here others
-same-ending here [] [] h = refl
-same-ending here [] (other ∷ others) h = absurd h
-same-ending here (event ∷ events) [] h = absurd h
-same-ending here (event ∷ events) (other ∷ others) h =
-    ap (λ (e : Option End). ending e events) (one-same event other h.0).1 ∙ same-ending (end_in other) events others h.1
+-- a run's last event is its end
+pub end_is : (given : Given) (program : BodyNode) (before : List Event) (e : End) (count : ℕ) → run_events given program ≡ before ++ Finish e count ∷ [] → e ≡ run_end given program
+end_is given program before e count is =
+    let both : Some e ≡ Some (run_end given program) = sym (ending-append None before e count) ∙ sym (ap (ending None) is) ∙ run_ends given program in cc
 
-one-compiled : (event : Event) → (output_of (compiled_event event) ≡ output_of event) × (end_in (compiled_event event) ≡ end_in event)
-one-compiled (Out bytes count) = (refl, refl)
-one-compiled (Turn count) = (refl, refl)
-one-compiled (Ask for_what count) = (refl, refl)
-one-compiled (Commit heap count) = (refl, refl)
-one-compiled (Finish e count) = (refl, refl)
+-- a first event
+pub record First (events : List Event) : Type 0 where
+  pub next : Event
+  pub rest : List Event
+  pub are : events ≡ next ∷ rest
 
-pub compiled-outputs : (events : List Event) → outputs (compiled_events events) ≡ outputs events
-compiled-outputs [] = refl
-compiled-outputs (event ∷ events) =
-    ap (λ (bs : List ℕ). bs ++ outputs (compiled_events events)) (one-compiled event).0 ∙ ap (λ (bs : List ℕ). output_of event ++ bs) (compiled-outputs events)
+first-of : (events more : List Event) → First more → First (events ++ more)
+first-of [] more some = some
+first-of (event ∷ events) more some = record { next = event; rest = events ++ more; are = refl }
 
-pub compiled-ending : (here : Option End) (events : List Event) → ending here (compiled_events events) ≡ ending here events
-compiled-ending here [] = refl
-compiled-ending here (event ∷ events) =
-    ap (λ (e : Option End). ending e (compiled_events events)) (one-compiled event).1 ∙ compiled-ending (end_in event) events
+first_all : (o : Outcome) → First (all_events o)
+unfolding all_events
+first_all (Value_is v f s) = first-of s.events _ (record { next = _; rest = []; are = refl })
+first_all (Ends e s) = first-of s.events _ (record { next = _; rest = []; are = refl })
+
+-- each run has one
+pub some_event : (given : Given) (program : BodyNode) → First (run_events given program)
+unfolding events_with
+some_event given program = first_all (outcome_of given program)

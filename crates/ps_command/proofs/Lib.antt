@@ -1,4 +1,6 @@
 pub mod Causes
-pub mod Ending
 pub mod Programs
 pub mod Events
+pub mod Loading
+pub mod Running
+pub mod Leaving

@@ -15,11 +15,8 @@ use Rattle.ps_causes.specs.ps_typing.Checking.{Outcome, Gives, Refuses, check, w
 use Rattle.ps_causes.specs.ps_typing.Program.{end_line, most_slots, bodies, first_complex, line_of_body, Typed, Fails, measured, verdict_of}
 use Rattle.ps_code_laws.proofs.of_ps_typing_laws.OfProgram.{program_typed}
 use Rattle.ps_text_laws.proofs.LetsRead.{lets_are_items}
-use Rattle.ps_built_laws.proofs.of_ps_leaf_laws.LeavesRead.{leaves_fit}
-use Rattle.ps_built_laws.proofs.of_ps_fit_laws.Bodies.{program_bodies_valued}
-use Rattle.ps_built_laws.proofs.OfProgram.{program_runs}
+use Rattle.ps_leaf_laws.proofs.LeavesRead.{leaves_fit}
 use Rattle.ps_unit_weights.specs.ps_gen.Units.{unit_of, HasUnit}
-use Rattle.plain_units.proofs.PlainCode.{plain_bodies}
 use Rattle.ps_causes.specs.Source.{IsProgram}
 use Rattle.ps_command.specs.inside.Steps.{IsRunnable}
 
@@ -50,11 +47,9 @@ runnable text unit program is unit_is units =
     let lets = lets_are_items text is.tokens is.phrase is.read in
     let leaves = leaves_fit text is.tokens is.phrase is.scanned is.read in
     record {
+      checked = record { tree = is.phrase; lets = lets; leaves = leaves; is = is.typed };
       typed = program_typed is.phrase program lets is.typed;
-      runs = program_runs is.phrase program lets is.typed leaves;
-      valued = program_bodies_valued is.phrase program leaves is.typed;
       simple = of_outcome program (wants types.Void (end_line is.phrase) (check library_names is.phrase)) is.typed;
       units = units;
-      plain = plain_bodies program is.built;
       unit_is = unit_is;
     }

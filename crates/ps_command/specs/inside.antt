@@ -1,3 +1,4 @@
 pub mod Refusal
 pub mod Steps
+pub mod Running
 pub mod Words

@@ -1,7 +1,8 @@
 ghost use Rattle.std.specs.Prelude.{◌≡◌, ◌≤◌, Option, Some, IfOk};
 ghost use Rattle.ps_port.specs.ps_outside.Outside.{Rose};
 ghost use Rattle.ps_port.specs.Telling.{LeavesDevice};
-ghost use Rattle.ps_causes.specs.Command.{Why, WhyEnds, carried_out, done_of};
+ghost use Rattle.ps_causes.specs.Command.{Why, carried_out, done_of};
+ghost use Rattle.ps_causes.specs.Steps.{WhyEnds};
 ghost use Rattle.ps_causes.specs.ps_reports.Answering.{Answers, Tells};
 ghost use Rattle.ps_causes.specs.ps_reports.Statuses.{number_of};
 ghost use Rattle.ps_causes.specs.ps_args.Reading.{ReadsAs, command_in, run_in, IsArea, IsWithin};

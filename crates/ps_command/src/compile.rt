@@ -13,7 +13,6 @@ ghost use Rattle.ps_command.specs.inside.Refusal.{IsChecked, Refuses, RefusesTre
 use crate::source_fault::SourceFault;
 use ps_base::code_unit::CodeUnit;
 use ps_base::large_vectors::let_go;
-use ps_causes::ps_built::first_unbuilt_library;
 use ps_causes::ps_parse::parse;
 use ps_causes::ps_scan::scan;
 use ps_check::check::check;
@@ -53,17 +52,13 @@ fn typed(alloc: Global, text: &[u8]) -> Result<Program, SourceFault>
     checked(alloc, rough)
 }
 
-// The typed program of a tree, each of whose calls of the library is built.
+// The typed program of a tree.
 fn checked(alloc: Global, rough: Rough) -> Result<Program, SourceFault>
     ensures checked { IfOk result (λ program. IsChecked (phrase_of rough) (body_of program.body)) }
     ensures refused { IfErr result (λ fault. RefusesTree (phrase_of rough) fault) }
 {
-    let program = match check(alloc, rough) {
-        Ok(program) => program,
-        Err(fault) => return Err(SourceFault::Check(fault)),
-    };
-    match first_unbuilt_library(&program) {
-        Some(line) => Err(SourceFault::NotBuilt { line }),
-        None => Ok(program),
+    match check(alloc, rough) {
+        Ok(program) => Ok(program),
+        Err(fault) => Err(SourceFault::Check(fault)),
     }
 }

@@ -12,8 +12,6 @@ use ps_tree::fault::ParseFault;
 pub enum SourceFault {
     Scan(ScanFault),
     Parse(ParseFault),
-    /// A call of the library that doesn't run yet.
-    NotBuilt { line: Line },
     Check(CheckFault),
     Memory,
 }
@@ -26,7 +24,6 @@ impl SourceFault {
         match self {
             SourceFault::Scan(_) => Stage::Scan,
             SourceFault::Parse(_) => Stage::Parse,
-            SourceFault::NotBuilt { .. } => Stage::Check,
             SourceFault::Check(_) => Stage::Check,
             SourceFault::Memory => Stage::Check,
         }
@@ -39,7 +36,6 @@ impl SourceFault {
         match self {
             SourceFault::Scan(fault) => fault.number(),
             SourceFault::Parse(fault) => fault.number(),
-            SourceFault::NotBuilt { .. } => Some(8),
             SourceFault::Check(fault) => fault.number(),
             SourceFault::Memory => None,
         }
@@ -52,7 +48,6 @@ impl SourceFault {
         match self {
             SourceFault::Scan(fault) => fault.line(),
             SourceFault::Parse(fault) => fault.line(),
-            SourceFault::NotBuilt { line } => Some(*line),
             SourceFault::Check(fault) => fault.line(),
             SourceFault::Memory => None,
         }

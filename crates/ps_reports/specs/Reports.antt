@@ -23,6 +23,11 @@ fault_line file stage number line = file ++ (codes ": " ++ (stage ++ (codes " " 
 abbrev pub area_full_line : ℕ → ℕ → ℕ → List ℕ
 area_full_line top wanted size = codes "area full: " ++ (decimal top ++ (codes " + " ++ (decimal wanted ++ (codes " > " ++ (decimal size ++ codes " words\n")))))
 
+-- the used words of the volume and the words of the object that is stored next are together more than it can have
+abbrev pub volume_full_line : ℕ → ℕ → ℕ → List ℕ
+volume_full_line used wanted capacity =
+    codes "volume full: " ++ (decimal used ++ (codes " + " ++ (decimal wanted ++ (codes " > " ++ (decimal capacity ++ codes " words\n")))))
+
 abbrev pub device_line : List ℕ
 device_line = codes "device fault\n"
 

@@ -1,7 +1,7 @@
 -- The statuses of the program, by number.
 use Rattle.std.specs.Prelude.{ℕ}
 use Rattle.ps_reports.specs.declared.status.Status.{Status}
-use Rattle.ps_reports.specs.declared.status.Status.TheVariants.{Done, Usage, Refused, Trapped, OutOfTurns, NoMemory, Device, Unreadable, Output, NotAVolume, Damaged, AreaFull, TooLong, AlreadyAVolume}
+use Rattle.ps_reports.specs.declared.status.Status.TheVariants.{Done, Usage, Refused, Trapped, OutOfTurns, NoMemory, Device, Unreadable, Output, NotAVolume, Damaged, AreaFull, VolumeFull, TooLong, AlreadyAVolume}
 
 abbrev pub number_of : Status → ℕ
 number_of Done = 0
@@ -16,5 +16,6 @@ number_of Output = 8
 number_of NotAVolume = 9
 number_of Damaged = 10
 number_of AreaFull = 11
+number_of VolumeFull = 12
 number_of TooLong = 13
 number_of AlreadyAVolume = 14

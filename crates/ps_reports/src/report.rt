@@ -3,7 +3,7 @@ ghost use Rattle.std.specs.Prelude.{◌≡◌};
 ghost use Rattle.ps_base.specs.Limits.{most_text_bytes};
 ghost use Rattle.ps_port.specs.Telling.{LeavesDevice, joined};
 ghost use Rattle.ps_reports.specs.Answering.{Answers};
-ghost use Rattle.ps_reports.specs.Reports.{unreadable_line, too_long_line, fault_line, area_full_line, not_a_volume_line, damaged_line};
+ghost use Rattle.ps_reports.specs.Reports.{unreadable_line, too_long_line, fault_line, area_full_line, volume_full_line, not_a_volume_line, damaged_line};
 ghost use Rattle.ps_reports.specs.Reporting.{line_of, status_of, name_of};
 ghost use Rattle.ps_reports.specs.Statuses.{number_of};
 
@@ -63,6 +63,12 @@ pub enum Report<'a> {
         wanted: u32,
         size: u32,
     },
+    /// The volume is full: its used words, the words of the object that was to be stored, and the words that it can have.
+    VolumeFull {
+        used: u64,
+        wanted: u64,
+        capacity: u64,
+    },
     /// The device failed.
     Device,
     /// The file is no volume: its size in bytes, and its byte 0, which is 0 where it is empty.
@@ -102,6 +108,11 @@ impl Report<'_> {
                 line,
             } => refused(host, file, stage.name(), *number, *line),
             Report::AreaFull { top, wanted, size } => area_full(host, *top, *wanted, *size),
+            Report::VolumeFull {
+                used,
+                wanted,
+                capacity,
+            } => volume_full(host, *used, *wanted, *capacity),
             Report::Device => answer(host, &[b"device fault\n"], Status::Device),
             Report::NotAVolume { size, gate } => not_a_volume(host, *size, *gate),
             Report::Damaged { at, found, wanted } => damaged(host, *at, *found, *wanted),
@@ -181,6 +192,32 @@ fn area_full<H: Host>(host: &mut H, top: u32, wanted: u32, size: u32) -> u8
             b" words\n",
         ],
         Status::AreaFull,
+    )
+}
+
+// Writes that the volume was full: its used words, the words of the object that was to be stored, and the words that it can have.
+fn volume_full<H: Host>(host: &mut H, used: u64, wanted: u64, capacity: u64) -> u8
+    ensures answers { Answers (H.outside host.old) (H.outside host.new) (volume_full_line used wanted capacity) 12 result }
+    ensures device { LeavesDevice (H.outside host.old) (H.outside host.new) }
+{
+    let mut of_used = Buffer::new();
+    let mut of_wanted = Buffer::new();
+    let mut of_capacity = Buffer::new();
+    let used = of_used.format(used).as_bytes();
+    let wanted = of_wanted.format(wanted).as_bytes();
+    let capacity = of_capacity.format(capacity).as_bytes();
+    answer(
+        host,
+        &[
+            b"volume full: ",
+            used,
+            b" + ",
+            wanted,
+            b" > ",
+            capacity,
+            b" words\n",
+        ],
+        Status::VolumeFull,
     )
 }
 

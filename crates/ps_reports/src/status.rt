@@ -29,6 +29,8 @@ pub enum Status {
     Damaged,
     /// The area of a program is full.
     AreaFull,
+    /// The volume is full.
+    VolumeFull,
     /// A text is too long.
     TooLong,
     /// There is a volume already.
@@ -53,6 +55,7 @@ impl Status {
             Status::NotAVolume => 9,
             Status::Damaged => 10,
             Status::AreaFull => 11,
+            Status::VolumeFull => 12,
             Status::TooLong => 13,
             Status::AlreadyAVolume => 14,
         }

@@ -1,5 +1,5 @@
 -- A volume that was moved into the last form, and then attached.
-use Rattle.std.proofs.Common.{◌≡◌, ℕ, ◌+◌, ◌≤◌, Bool, true, false, List, [], refl, sym, ◌∙◌, ap, subst, arith, Option, Some, None}
+use Rattle.std.proofs.Common.{◌≡◌, ℕ, ◌+◌, ◌≤◌, Bool, true, false, List, [], ◌∷◌, refl, sym, ◌∙◌, ap, subst, arith, Option, Some, None}
 use Rattle.std.specs.Option.{option_map}
 use Rattle.ps_port.specs.ps_outside.Outside.{Outside, LeavesSame, TellsNothing}
 use Rattle.ps_port.proofs.of_ps_outside.Moments.{along_then, along_now}
@@ -20,11 +20,17 @@ use Rattle.obj_store.specs.paged_volume.Standing.{held_in, held_of, map_count}
 use Rattle.obj_store.specs.obj_layout.Stored.{Space}
 use Rattle.obj_store.specs.Opening.{IsOpened}
 use Rattle.obj_store.specs.Spaces.{space_of, words_of}
-use Rattle.obj_store.specs.Store.{Store}
+use Rattle.obj_store.specs.Store.{Store, is_alone}
 use Rattle.ps_reports.specs.declared.report.Report.{Report}
 use Rattle.ps_volumes.specs.Attaching.{HasVolume, KeepsHeld, KeepsVolume, AttachesInFew, IsStored, IsUnattached, attaching_calls, report_for}
 use Rattle.ps_volumes.proofs.Refused.{unattached_by}
 use Rattle.ps_volumes.proofs.Settled.{from_then, held_from}
+
+-- where there is no pin none holds anything
+none_alone : {P : Type 0} (pins : List (Option P)) → pins ≡ [] → is_alone pins ≡ true
+unfolding is_alone
+none_alone [] none = refl
+none_alone (pin ∷ pins) none = absurd cc
 
 -- the space of what is held
 abbrev spaced : Option Held → Option Space
@@ -151,6 +157,7 @@ module _ (a b : Outside (List ℕ)) (is_image : (bytes : List ℕ) → b.content
     counts = let first = is.moves.counts in let next = opened.looks.counts in omega arith;
     output = opened.looks.output ∙ is.moves.output;
     live = opened.live;
+    alone = none_alone store.table.pins.items opened.unpinned;
     used = opened.used;
     holds = λ space at.
         let now = opened.holds space at in

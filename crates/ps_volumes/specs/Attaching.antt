@@ -10,7 +10,7 @@ use Rattle.obj_store.specs.volume_parts.declared.open_fault.OpenFault.{OpenFault
 use Rattle.obj_store.specs.volume_parts.declared.open_fault.OpenFault.TheVariants.{Device, NotAVolume, Damaged, Memory}
 use Rattle.obj_store.specs.obj_layout.Stored.{Space}
 use Rattle.obj_store.specs.Opening.{IsSpaceOf}
-use Rattle.obj_store.specs.Store.{Store, outside_of}
+use Rattle.obj_store.specs.Store.{Store, is_alone, outside_of}
 use Rattle.ps_reports.specs.declared.report.Report.{Report}
 use Rattle.ps_reports.specs.declared.report.Report.TheVariants as reports
 use Rattle.ps_reports.specs.Reporting as reported
@@ -50,7 +50,7 @@ pub record KeepsVolume (old new : Outside (List ℕ)) : Type 0 where
   pub from : KeepsFrom old new
   pub found : (bytes : List ℕ) → old.contents bytes → HasVolume bytes
 
--- The store of a volume in its last form, and nothing was output: its calls may be made, and the space that it holds is the one that was committed in the
+-- The store of a volume in its last form, and nothing was output: its calls may be made, no pin holds anything, and the space that it holds is the one that was committed in the
 -- file at the start.
 pub record IsStored {H : Type 0} (outside : H → Outside (List ℕ)) (old : Outside (List ℕ)) (store : Store H) : Type 0 where
   pub keeps : KeepsVolume old (outside store.host)
@@ -61,6 +61,7 @@ pub record IsStored {H : Type 0} (outside : H → Outside (List ℕ)) (old : Out
   pub counts : old.device_faults ≤ (outside store.host).device_faults
   pub output : (outside store.host).output_faults ≡ old.output_faults
   pub live : store.live ≡ true
+  pub alone : is_alone store.table.pins.items ≡ true
   pub used : store.used ≡ store.table.committed.note.used
   pub holds : (space : Space) → (outside_of outside store).contents space → After old.contents IsSpaceOf space
   pub stays : (space : Space) → After old.contents IsSpaceOf space → (outside_of outside store).contents space

@@ -1,6 +1,5 @@
 -- What is seen of area and vault together is kept in a space.
 use Rattle.std.specs.Prelude.{◌≡◌, ◌≢◌, ℕ, ℤ, List, Some}
-use Rattle.std.specs.List.{AllByRecursion}
 use Rattle.heap_meaning.specs.obj_layout.declared.kind.Kind.TheVariants.{Node}
 use Rattle.heap_meaning.specs.obj_layout.declared.reference.Reference.{Reference}
 use Rattle.heap_meaning.specs.obj_layout.declared.reference.Reference.TheVariants.{Nil, Pid}
@@ -9,15 +8,11 @@ use Rattle.heap_meaning.specs.swizzle.Joint.{Shown}
 use Rattle.heap_meaning.specs.node_rows.Nodes.{IsAmong}
 use Rattle.heap_meaning.specs.Standing.{Seen}
 use Rattle.heap_meaning.specs.Paired.{paired}
-use Rattle.heap_fit.specs.ps_heap.Objects.{Heap, Object, Keyed, object_at}
+use Rattle.heap_fit.specs.ps_heap.Objects.{Heap, Keyed, object_at}
 use Rattle.heap_fit.specs.ps_heap.Tables.{Entry, Table, by_ints}
-use Rattle.heap_fit.specs.ps_heap.References.{values_of}
 use Rattle.space_meaning.specs.Space.{SeenIn}
-use Rattle.space_meaning.specs.Stands.{HasUnits, HaveNoKeyTexts}
-
--- the procedures of a heap, as they are written, have units
-abbrev pub HaveUnits : Heap → Type 0
-HaveUnits heap = AllByRecursion (λ (object : Object). AllByRecursion HasUnits (values_of object)) heap
+pub use Rattle.ps_code_laws.specs.Literals.{HaveUnits}
+use Rattle.space_meaning.specs.Stands.{HaveNoKeyTexts}
 
 -- What is seen under a PID is seen in the space, and so is each node of a table that has a PID. Of other nodes nothing is said: one that was taken out of its
 -- table may lie in the area as it was never stored. The nodes of a table with int keys name no key text.

@@ -9,11 +9,10 @@ use Rattle.heap_meaning.specs.obj_layout.Stored.{Space}
 use Rattle.heap_meaning.specs.swizzle.Joint.{Shown}
 use Rattle.heap_meaning.specs.heap_places.Shapes.{slot_of, word_in, IsText}
 use Rattle.heap_meaning.specs.node_rows.Nodes.{IsAmong}
-use Rattle.ps_code_laws.specs.ps_gen.Units.{HasUnit}
-use Rattle.ps_code_laws.specs.ps_heap.Values.{Value, Procedure, as_written}
+use Rattle.ps_code_laws.specs.ps_heap.Values.{Value}
 use Rattle.ps_code_laws.specs.ps_heap.Objects as object
 use Rattle.ps_code_laws.specs.Compiled.{compiled_object}
-use Rattle.ps_code_laws.specs.Literals.{BodyIs}
+pub use Rattle.ps_code_laws.specs.Literals.{HasUnits}
 use Rattle.heap_meaning.specs.Tables.{TablesStand}
 use Rattle.heap_meaning.specs.Standing.{Seen, Pairing, IsKindOf, IsLike}
 use Rattle.heap_meaning.specs.Paired.{paired}
@@ -23,11 +22,6 @@ use Rattle.heap_fit.specs.ps_heap.Databases.{Database}
 use Rattle.heap_fit.specs.ps_heap.Held.{StoredHeap, home_at}
 use Rattle.heap_fit.specs.Heaps.{IsFitHeap}
 use Rattle.space_meaning.specs.Space.{SeenIn}
-
--- a procedure as it is written has a unit, and so has each literal in it
-abbrev pub HasUnits : Value → Type 0
-HasUnits (Procedure (as_written of) scope) = BodyIs HasUnit (λ ty. Unit {0}) of
-HasUnits v = Unit {0}
 
 -- what is seen is like an object of the heap, whose values are these; each procedure stands there as its unit
 abbrev pub IsObject : Seen → Pairing → Shown → object.Object → List Value → Type 0

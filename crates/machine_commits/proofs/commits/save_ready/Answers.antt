@@ -1,5 +1,5 @@
 use Rattle.machine_commits.proofs.Committing.{by-fault, by-nothing, by-refusal, by-saving, names-forgotten, remains-of, roots-lent}
-use Rattle.machine_commits.proofs.Silence.{fails-by}
+use Rattle.machine_commits.proofs.Silence.{fails-by, of-vault}
 use Rattle.machine_commits.proofs.commits.save_ready.Goals as goal
 
 pub commit-requires-clause-roots : goal.commit-requires-clause-roots
@@ -50,8 +50,12 @@ returns-in-Ok-Saved-clause-takes g c =
 
 pub returns-in-Err-clause-takes : goal.returns-in-Err-clause-takes
 returns-in-Err-clause-takes g c =
-    by-fault g.V.Vault.outside c.args.vault.now c.commit.new.vault c.args.m.now c.area.result.now c.commit.new.sw c.area.ensures.same c.deref.result.now c.deref.ensures.value
-    c.in-Err.fault c.requires.sound c.requires.stack c.in-Err.ensures.held
+    let v = c.args.vault.now in
+    let w = c.commit.new.vault in
+    by-fault g.V.Vault.outside v w c.args.m.now c.area.result.now c.commit.new.sw c.area.ensures.same c.deref.result.now c.deref.ensures.value c.in-Err.fault
+    (of-vault g.V.Vault.outside v w c.area.result.now c.commit.new.sw c.deref.result.now c.args.m.now.databases.directory (g.V.Vault.used_words v) (g.V.Vault.used_words w)
+    (g.V.Vault.most_words v) (g.V.Vault.directory_at w) c.in-Err.fault c.in-Err.ensures.stores)
+    c.requires.sound c.requires.stack c.in-Err.ensures.held
 
 pub returns-in-Err-clause-fails : goal.returns-in-Err-clause-fails
 returns-in-Err-clause-fails g c =

@@ -5,4 +5,4 @@ use Rattle.ps_causes.proofs.Converse.{first_fault_is_told}
 use Rattle.ps_causes.proofs.laws.first_fault_is_told.Goals as goal
 
 pub returns : goal.returns
-returns g c before after status bytes text stage run number line held short fault due = first_fault_is_told (Some (a_run run)) (g.S.Shelf.holds c.args.shelf.now) (g.S.Shelf.lacks c.args.shelf.now) (g.S.Shelf.may_fail c.args.shelf.now) (Rose before after) (g.H.Host.outside c.args.host.now) (g.H.Host.outside c.args.back.now) run text refl held stage number line bytes status short fault due
+returns g c before after answered text stage run number line held short fault why = first_fault_is_told (Some (a_run run)) (g.S.Shelf.holds c.args.shelf.now) (g.S.Shelf.lacks c.args.shelf.now) (g.S.Shelf.may_fail c.args.shelf.now) (Rose before after) (g.H.Host.outside c.args.host.now) (g.H.Host.outside c.args.back.now) run text refl held stage number line answered short fault why

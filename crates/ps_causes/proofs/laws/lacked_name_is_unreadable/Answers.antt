@@ -5,4 +5,4 @@ use Rattle.ps_causes.proofs.Converse.{lacked_name}
 use Rattle.ps_causes.proofs.laws.lacked_name_is_unreadable.Goals as goal
 
 pub returns : goal.returns
-returns g c before after status bytes run lacking due = lacked_name (Some (a_run run)) (g.S.Shelf.holds c.args.shelf.now) (g.S.Shelf.lacks c.args.shelf.now) (g.S.Shelf.may_fail c.args.shelf.now) (Rose before after) (g.H.Host.outside c.args.host.now) (g.H.Host.outside c.args.back.now) run bytes status refl lacking due
+returns g c before after answered run lacking why = lacked_name (Some (a_run run)) (g.S.Shelf.holds c.args.shelf.now) (g.S.Shelf.lacks c.args.shelf.now) (g.S.Shelf.may_fail c.args.shelf.now) (Rose before after) (g.H.Host.outside c.args.host.now) (g.H.Host.outside c.args.back.now) run answered refl lacking why

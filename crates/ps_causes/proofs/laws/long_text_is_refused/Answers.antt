@@ -5,4 +5,4 @@ use Rattle.ps_causes.proofs.Converse.{long_text}
 use Rattle.ps_causes.proofs.laws.long_text_is_refused.Goals as goal
 
 pub returns : goal.returns
-returns g c before after status bytes text run held long due = long_text (Some (a_run run)) (g.S.Shelf.holds c.args.shelf.now) (g.S.Shelf.lacks c.args.shelf.now) (g.S.Shelf.may_fail c.args.shelf.now) (Rose before after) (g.H.Host.outside c.args.host.now) (g.H.Host.outside c.args.back.now) run text refl held bytes status long due
+returns g c before after answered text run held long why = long_text (Some (a_run run)) (g.S.Shelf.holds c.args.shelf.now) (g.S.Shelf.lacks c.args.shelf.now) (g.S.Shelf.may_fail c.args.shelf.now) (Rose before after) (g.H.Host.outside c.args.host.now) (g.H.Host.outside c.args.back.now) run text refl held answered long why

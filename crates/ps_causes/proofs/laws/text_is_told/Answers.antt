@@ -5,5 +5,5 @@ use Rattle.ps_causes.proofs.Converse.{text_told}
 use Rattle.ps_causes.proofs.laws.text_is_told.Goals as goal
 
 pub returns : goal.returns
-returns g c before after status bytes text due =
-    text_told (Some (a_text text)) (g.S.Shelf.holds c.args.shelf.now) (g.S.Shelf.lacks c.args.shelf.now) (g.S.Shelf.may_fail c.args.shelf.now) (Rose before after) (g.H.Host.outside c.args.host.now) (g.H.Host.outside c.args.back.now) text bytes status refl due
+returns g c before after answered text why =
+    text_told (Some (a_text text)) (g.S.Shelf.holds c.args.shelf.now) (g.S.Shelf.lacks c.args.shelf.now) (g.S.Shelf.may_fail c.args.shelf.now) (Rose before after) (g.H.Host.outside c.args.host.now) (g.H.Host.outside c.args.back.now) text answered refl why

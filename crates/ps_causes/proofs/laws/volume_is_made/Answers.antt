@@ -5,5 +5,5 @@ use Rattle.ps_causes.proofs.Converse.{volume_made}
 use Rattle.ps_causes.proofs.laws.volume_is_made.Goals as goal
 
 pub returns : goal.returns
-returns g c before after status pages bytes content told none due =
-    volume_made (Some (a_volume pages)) (g.S.Shelf.holds c.args.shelf.now) (g.S.Shelf.lacks c.args.shelf.now) (g.S.Shelf.may_fail c.args.shelf.now) (Rose before after) (g.H.Host.outside c.args.host.now) (g.H.Host.outside c.args.back.now) pages content bytes status refl told none due
+returns g c before after answered pages content told none why =
+    volume_made (Some (a_volume pages)) (g.S.Shelf.holds c.args.shelf.now) (g.S.Shelf.lacks c.args.shelf.now) (g.S.Shelf.may_fail c.args.shelf.now) (Rose before after) (g.H.Host.outside c.args.host.now) (g.H.Host.outside c.args.back.now) pages content answered refl told none why

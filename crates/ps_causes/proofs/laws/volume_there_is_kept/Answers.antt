@@ -5,5 +5,5 @@ use Rattle.ps_causes.proofs.Converse.{volume_kept}
 use Rattle.ps_causes.proofs.laws.volume_there_is_kept.Goals as goal
 
 pub returns : goal.returns
-returns g c before after status pages bytes content told opens due =
-    volume_kept (Some (a_volume pages)) (g.S.Shelf.holds c.args.shelf.now) (g.S.Shelf.lacks c.args.shelf.now) (g.S.Shelf.may_fail c.args.shelf.now) (Rose before after) (g.H.Host.outside c.args.host.now) (g.H.Host.outside c.args.back.now) pages content bytes status refl told opens due
+returns g c before after answered pages content told opens why =
+    volume_kept (Some (a_volume pages)) (g.S.Shelf.holds c.args.shelf.now) (g.S.Shelf.lacks c.args.shelf.now) (g.S.Shelf.may_fail c.args.shelf.now) (Rose before after) (g.H.Host.outside c.args.host.now) (g.H.Host.outside c.args.back.now) pages content answered refl told opens why

@@ -1,2 +1,0 @@
-mod PlainChoices
-pub mod PlainCode

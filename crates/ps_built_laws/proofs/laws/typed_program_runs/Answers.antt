@@ -1,5 +1,0 @@
-use Rattle.ps_built_laws.proofs.OfProgram.{program_runs}
-use Rattle.ps_built_laws.proofs.laws.typed_program_runs.Goals as goal
-
-pub returns : goal.returns
-returns c = program_runs

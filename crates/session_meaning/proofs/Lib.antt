@@ -1,0 +1,4 @@
+pub mod Splitting
+pub mod Showing
+pub mod Beginning
+pub mod Following

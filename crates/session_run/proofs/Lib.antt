@@ -1,0 +1,5 @@
+pub mod Others
+pub mod Moments
+pub mod Stepping
+pub mod Calling
+pub mod Between

@@ -1,0 +1,6 @@
+mod Objects
+mod Calls
+mod Clauses
+mod Saving
+mod Compact
+mod Meant
