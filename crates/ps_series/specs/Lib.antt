@@ -1,0 +1,2 @@
+pub mod Programs
+pub use Rattle.session_meaning.specs as session_meaning
