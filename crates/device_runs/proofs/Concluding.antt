@@ -20,10 +20,9 @@ use Rattle.session_meaning.specs.session_run.machine_core.swizzle.declared.fault
 use Rattle.session_meaning.specs.session_run.machine_core.declared.run_end.RunEnd.{RunEnd}
 use Rattle.session_meaning.specs.Meant.{step_meant, steps_meant}
 use Rattle.session_meaning.specs.Shows as shows
-use Rattle.session_meaning.specs.Shows.{Shows}
-use Rattle.session_meaning.specs.Series.{BreaksOff, in_loading, in_running}
-use Rattle.ps_gen.specs.ps_program.Node.{BodyNode}
+use Rattle.session_meaning.specs.Shows.{BrokeFor, Shows}
 use Rattle.session_meaning.specs.session_run.machine_core.Full.{BreaksBy}
+use Rattle.session_meaning.specs.session_run.machine_core.ps_stepping.Config.{Config}
 use Rattle.session_meaning.specs.session_run.machine_core.ps_stepping.Machine as machine
 use Rattle.session_meaning.specs.session_run.machine_commits.machine_databases.Calls.{LacksRoom}
 use Rattle.obj_layout.specs.Stored.{Space}
@@ -32,11 +31,10 @@ use Rattle.device_runs.specs.Concluded as concluded
 use Rattle.device_runs.specs.Concluded.{ShowsAll, BrokeSince, Concludes}
 use Rattle.device_runs.proofs.Since.{attached-only, told-since, shown-since}
 
--- a series never breaks off for the output
-pub none_by : {V : Type 0} (outside : V → Outside Space) (new : Outside Space) (size turns : ℕ) (input : List ℕ) (programs : List BodyNode) (heap : StoredHeap) (before : List Event) (fault : SwizzleFault)
-    → BreaksOff turns input outside new size programs heap before fault → fault ≡ Vault Output → ⊥
-none_by outside new size turns input programs heap before (AreaFull top wanted its) (in_loading reached full ends within) is = cc
-none_by outside new size turns input programs heap before fault (in_running reached same broke) is =
+-- a step never breaks off for the output
+pub none_by : {V : Type 0} (outside : V → Outside Space) (new : Outside Space) (size : ℕ) (c : Config) (fault : SwizzleFault) → BrokeFor outside new size c fault
+    → fault ≡ Vault Output → ⊥
+none_by outside new size c fault broke is =
     ⊎_elim (λ by. subst (λ (f : SwizzleFault). BreaksBy (outside broke.vault) new size broke.step f) is by)
     (λ lacks. no-output size broke.step (subst (LacksRoom size broke.step) is lacks)) broke.by
   where
@@ -88,12 +86,12 @@ module _ (heap : StoredHeap) (old a : Outside (List ℕ)) (from : KeepsFrom old 
         (shown_then Stands heap a b c (owing [] ∷ steps) [] left so_far
         (send_shown Stands (heap_after heap (owing [] ∷ steps)) b c (past_along device.images) so_far.leaves left left [] [] tt refl is.front alike))
 
-  module _ (b : Outside (List ℕ)) (counts : a.output_faults ≤ b.output_faults) (left : List ℕ) (Broke : List Event → SwizzleFault → Type 0) (events : List Event) where
+  module _ (b : Outside (List ℕ)) (counts : a.output_faults ≤ b.output_faults) (left : List ℕ) (Broke : SwizzleFault → Type 0) (events : List Event) where
     -- where the output failed in the run, nothing is pending
-    pub concludes-cut : Shows Stands a b [] left heap Broke events (Err (Vault Output)) → ((before : List Event) (fault : SwizzleFault) → Broke before fault → fault ≡ Vault Output → ⊥)
+    pub concludes-cut : Shows Stands a b [] left heap Broke events (Err (Vault Output)) → ((fault : SwizzleFault) → Broke fault → fault ≡ Vault Output → ⊥)
         → Concludes old b heap Broke events (Err (Vault Output))
     concludes-cut (shows.cut is) none = concluded.cut (since b (steps_meant events) is.shown) (rose-since b.output_faults is.rose) (subst (λ (n : ℕ). n ≤ b.output_faults) calm counts)
-    concludes-cut (shows.broke before rest next are by done) none = absurd (none before (Vault Output) by refl)
+    concludes-cut (shows.broke before rest next are by done) none = absurd (none (Vault Output) by refl)
     concludes-cut (shows.broke_in before rest next n are breaks vaults) none = absurd vaults
 
     module _ (c : Outside (List ℕ)) (device : LeavesDevice b c) where

@@ -70,7 +70,7 @@ module _ (source other : Source) (used next : ℕ) (s t : Table) (a b : Outside 
     done-on owed left events done =
         let on = so-far-on (owing owed ∷ steps_meant events) left done.so_far in record { so_far = on; contents = λ bytes at. on.leaves bytes (is_image bytes at); calm = done.calm }
 
-    pub shows-on : (owed left : List ℕ) (Broke : List Event → SwizzleFault → Type 0) (events : List Event) (result : Result RunEnd SwizzleFault)
+    pub shows-on : (owed left : List ℕ) (Broke : SwizzleFault → Type 0) (events : List Event) (result : Result RunEnd SwizzleFault)
         → Shows meant.Stands first last owed left heap Broke events result → Shows Stands a b owed left heap Broke events result
     shows-on owed left Broke events result (whole before n is done) = whole before n is (done-on owed left events done)
     shows-on owed left Broke events result (broke before rest next is by done) = broke before rest next is by (done-on owed left before done)

@@ -30,12 +30,12 @@ module _ (old new : Outside (List ℕ)) (heap : StoredHeap) where
     pub leaves : (image : List ℕ) → new.images new.clock image → Stands image (heap_after heap (steps_meant events)) ⊎ Stands image next
 
   -- Of these events the call has shown what is concluded; where a step broke off, for such a cause.
-  pub data Concludes (Broke : List Event → SwizzleFault → Type 0) (events : List Event) : Result RunEnd SwizzleFault → Type 0 where
+  pub data Concludes (Broke : SwizzleFault → Type 0) (events : List Event) : Result RunEnd SwizzleFault → Type 0 where
     -- all of them, of which the last is the end
     whole : {e : RunEnd} (before : List Event) (counted : ℕ) → events ≡ before ++ Finish (end_of e) counted ∷ [] → ShowsAll (steps_meant events)
         → Concludes Broke events (Ok e)
     -- those before one that it broke off in
-    broke : {fault : SwizzleFault} (before rest : List Event) (next : Event) → events ≡ before ++ next ∷ rest → Broke before fault → ShowsAll (steps_meant before)
+    broke : {fault : SwizzleFault} (before rest : List Event) (next : Event) → events ≡ before ++ next ∷ rest → Broke fault → ShowsAll (steps_meant before)
         → LeavesOnly Stands new (heap_after heap (steps_meant before)) → Concludes Broke events (Err fault)
     -- those before a commit in which the device failed
     broke_in : {fault : SwizzleFault} (before rest : List Event) (next : StoredHeap) (counted : ℕ) → events ≡ before ++ Commit next counted ∷ rest

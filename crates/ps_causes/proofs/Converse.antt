@@ -1,5 +1,5 @@
 -- What the causes of an answer exclude.
-use Rattle.std.proofs.Common.{◌≡◌, ℕ, Bool, ◌<◌, ◌≤◌, inl, inr, List, [], ◌∷◌, ◌++◌, length, Some, None, Option, refl, sym, ap, ◌∙◌, subst, arith}
+use Rattle.std.proofs.Common.{◌≡◌, ℕ, Bool, ◌<◌, ◌≤◌, inl, inr, List, [], length, Some, None, Option, refl, sym, ap, ◌∙◌, subst, arith}
 use Rattle.ps_port.specs.ps_outside.Outside.{Outside, Rose}
 use Rattle.ps_meaning.specs.ps_base.Limits.{most_text_bytes as LONGEST_TEXT}
 use Rattle.ps_meaning.specs.ps_typing.ps_program.Node.{BodyNode}
@@ -29,7 +29,7 @@ use Rattle.ps_volumes.specs.Attaching.{HasVolume, IsWhyNone, line_of as line_of_
 use Rattle.ps_volumes.specs.Making.{IsMakingDue, IsOpen}
 use Rattle.ps_volumes.specs.Making as making
 use Rattle.ps_causes.specs.Source.{IsProgram, number_of, line_of, IsCheckFault, mistyped, IsSourceFault, in_scan, in_parse, in_check}
-use Rattle.ps_causes.specs.Command.{Answered, Gives, GivesTooLong, GivesInput, HoldsInput, GivesProgram, GivePrograms, HoldsProgram, HoldPrograms, IsAmong, IsNext, IsUnread, IsUpTo, Unready, Due, Why, IsRead, Gets, GetsOrLacks, GetsOrFails, GetsRun, files_of}
+use Rattle.ps_causes.specs.Command.{Answered, Gives, GivesTooLong, GivesInput, HoldsInput, GivesProgram, IsUnread, Unready, Due, Why, IsRead, Gets, GetsOrLacks, GetsOrFails, GetsRun}
 use Rattle.ps_causes.specs.Runs.{Ran}
 
 not_both : {A : Type 0} (x : Option A) (v : A) → x ≡ None → x ≡ Some v → ⊥
@@ -163,19 +163,19 @@ module _ (asked : Option CommandOf) (holds : List ℕ → List ℕ → Type 0) (
 
   -- and so it does where this run can't have been
   on_run : (run : RunOf) → asked ≡ Some (a_run run) → (P : List ℕ → ℕ → Type 0) (answered : ℕ) → ((bytes : List ℕ) (status : ℕ) → Dues bytes status → P bytes status) →
-      ((programs : List BodyNode) (input : List ℕ) → GivePrograms holds lacks (files_of run) programs → GivesInput holds lacks run.input input → Ran run input programs old new answered → ⊥) → Whys answered →
+      ((program : BodyNode) (input : List ℕ) → GivesProgram holds lacks run program → GivesInput holds lacks run.input input → Ran run input program old new answered → ⊥) → Whys answered →
       Answered old new P answered
   on_run run is P answered by none (Why.by_words {bytes = bytes} {status = status} due answers left) = (bytes, status, by bytes status due, answers)
-  on_run run is P answered by none (Why.by_run {run = r} {programs = programs} {input = input} is' gives given ran) =
-      absurd (subst (λ (x : RunOf). (programs : List BodyNode) (input : List ℕ) → GivePrograms holds lacks (files_of x) programs → GivesInput holds lacks x.input input → Ran x input programs old new answered → ⊥)
-      (same_run asked run r is is') none programs input gives given ran)
+  on_run run is P answered by none (Why.by_run {run = r} {program = program} {input = input} is' gives given ran) =
+      absurd (subst (λ (x : RunOf). (program : BodyNode) (input : List ℕ) → GivesProgram holds lacks x program → GivesInput holds lacks x.input input → Ran x input program old new answered → ⊥)
+      (same_run asked run r is is') none program input gives given ran)
 
   no_command_due : (bytes : List ℕ) (status : ℕ) → asked ≡ None → Dues bytes status → GetsOrLacks usage_line 1 bytes status
   no_command_due bytes status none (Due.no_command is left) = GetsOrLacks.own
   no_command_due bytes status none (Due.no_memory left) = GetsOrLacks.no_memory
   no_command_due bytes status none (Due.told {text = text} is left) = absurd (not_both asked (a_text text) none is)
   no_command_due bytes status none (Due.unready {run = run} is why left) = absurd (not_both asked (a_run run) none is)
-  no_command_due bytes status none (Due.unattached {run = run} programs input is gives given why left) = absurd (not_both asked (a_run run) none is)
+  no_command_due bytes status none (Due.unattached {run = run} input is gives given why left) = absurd (not_both asked (a_run run) none is)
   no_command_due bytes status none (Due.making {pages = pages} is due) = absurd (not_both asked (a_volume pages) none is)
 
   pub no_command : (answered : ℕ) → asked ≡ None → Whys answered → Answered old new (GetsOrLacks usage_line 1) answered
@@ -186,7 +186,7 @@ module _ (asked : Option CommandOf) (holds : List ℕ → List ℕ → Type 0) (
   text_told_due text bytes status is (Due.no_memory left) = GetsOrLacks.no_memory
   text_told_due text bytes status is (Due.told {text = t} is' left) = subst (λ (bs : List ℕ). GetsOrLacks text 0 bs 0) (same_text asked text t is is') GetsOrLacks.own
   text_told_due text bytes status is (Due.unready {run = run} is' why left) = absurd (run_or_text asked run text is' is)
-  text_told_due text bytes status is (Due.unattached {run = run} programs input is' gives given why left) = absurd (run_or_text asked run text is' is)
+  text_told_due text bytes status is (Due.unattached {run = run} input is' gives given why left) = absurd (run_or_text asked run text is' is)
   text_told_due text bytes status is (Due.making {pages = pages} is' due) = absurd (volume_or_text asked pages text is' is)
 
   pub text_told : (text : List ℕ) (answered : ℕ) → asked ≡ Some (a_text text) → Whys answered → Answered old new (GetsOrLacks text 0) answered
@@ -195,24 +195,21 @@ module _ (asked : Option CommandOf) (holds : List ℕ → List ℕ → Type 0) (
   -- the cases of a command that is a run
   record Cases (P : List ℕ → ℕ → Type 0) (run : RunOf) : Type 0 where
     memory : P memory_line 5
-    unread : (name : List ℕ) → IsNext holds lacks run name → may_fail name → failed → P (unreadable_line name) 7
-    long : (name : List ℕ) (size : ℕ) → IsNext holds lacks run name → GivesTooLong (holds name) (lacks name) size → P (too_long_line name size) 13
-    refused : (name text stage : List ℕ) (number : ℕ) (line : Line) → IsNext holds lacks run name → Gives (holds name) (lacks name) text → IsSourceFault text stage number line
-        → P (fault_line name stage number line) 2
-    no_input : (programs : List BodyNode) (name : List ℕ) → GivePrograms holds lacks (files_of run) programs → run.input ≡ Some name → may_fail name → failed → P (unreadable_line name) 7
-    long_input : (programs : List BodyNode) (name : List ℕ) (size : ℕ) → GivePrograms holds lacks (files_of run) programs → run.input ≡ Some name → GivesTooLong (holds name) (lacks name) size
-        → P (too_long_line name size) 13
-    unattached : (programs : List BodyNode) (input : List ℕ) (cause : OpenFault) → GivePrograms holds lacks (files_of run) programs → GivesInput holds lacks run.input input → IsWhyNone old new cause →
+    unread : may_fail run.file → failed → P (unreadable_line run.file) 7
+    long : (size : ℕ) → GivesTooLong (holds run.file) (lacks run.file) size → P (too_long_line run.file size) 13
+    refused : (text stage : List ℕ) (number : ℕ) (line : Line) → Gives (holds run.file) (lacks run.file) text → IsSourceFault text stage number line → P (fault_line run.file stage number line) 2
+    no_input : (program : BodyNode) (name : List ℕ) → GivesProgram holds lacks run program → run.input ≡ Some name → may_fail name → failed → P (unreadable_line name) 7
+    long_input : (program : BodyNode) (name : List ℕ) (size : ℕ) → GivesProgram holds lacks run program → run.input ≡ Some name → GivesTooLong (holds name) (lacks name) size → P (too_long_line name size) 13
+    unattached : (program : BodyNode) (input : List ℕ) (cause : OpenFault) → GivesProgram holds lacks run program → GivesInput holds lacks run.input input → IsWhyNone old new cause →
         P (line_of_cause cause) (status_of_cause cause)
 
   of_unready : (P : List ℕ → ℕ → Type 0) (run : RunOf) (bytes : List ℕ) (status : ℕ) → Cases P run → Unready run holds lacks may_fail failed bytes status → P bytes status
-  of_unready P run bytes status cases (Unready.no_text {name = name} next (IsUnread.unreadable may rose)) = cases.unread name next may rose
-  of_unready P run bytes status cases (Unready.no_text {name = name} next (IsUnread.too_long {size = size} gives)) = cases.long name size next gives
-  of_unready P run bytes status cases (Unready.refused {name = name} {text = text} {stage = stage} {number = number} {line = line} next gives fault) =
-      cases.refused name text stage number line next gives fault
-  of_unready P run bytes status cases (Unready.no_input {name = name} programs g named (IsUnread.unreadable may rose)) = cases.no_input programs name g named may rose
-  of_unready P run bytes status cases (Unready.no_input {name = name} programs g named (IsUnread.too_long {size = size} long)) =
-      cases.long_input programs name size g named long
+  of_unready P run bytes status cases (Unready.no_text (IsUnread.unreadable may rose)) = cases.unread may rose
+  of_unready P run bytes status cases (Unready.no_text (IsUnread.too_long {size = size} gives)) = cases.long size gives
+  of_unready P run bytes status cases (Unready.refused {text = text} {stage = stage} {number = number} {line = line} gives fault) = cases.refused text stage number line gives fault
+  of_unready P run bytes status cases (Unready.no_input {program = program} {name = name} g named (IsUnread.unreadable may rose)) = cases.no_input program name g named may rose
+  of_unready P run bytes status cases (Unready.no_input {program = program} {name = name} g named (IsUnread.too_long {size = size} long)) =
+      cases.long_input program name size g named long
   of_unready P run bytes status cases Unready.no_memory = cases.memory
 
   by_cases : (P : List ℕ → ℕ → Type 0) (run : RunOf) (bytes : List ℕ) (status : ℕ) → asked ≡ Some (a_run run) → Cases P run → Dues bytes status → P bytes status
@@ -220,19 +217,19 @@ module _ (asked : Option CommandOf) (holds : List ℕ → List ℕ → Type 0) (
   by_cases P run bytes status is cases (Due.no_memory left) = cases.memory
   by_cases P run bytes status is cases (Due.told {text = text} is' left) = absurd (run_or_text asked run text is is')
   by_cases P run bytes status is cases (Due.unready {run = r} is' why left) = of_unready P r bytes status (subst (Cases P) (same_run asked run r is is') cases) why
-  by_cases P run bytes status is cases (Due.unattached {run = r} programs input {cause = why} is' gives given none left) =
-      (subst (Cases P) (same_run asked run r is is') cases).unattached programs input why gives given none
+  by_cases P run bytes status is cases (Due.unattached {run = r} {program = program} input {cause = why} is' gives given none left) =
+      (subst (Cases P) (same_run asked run r is is') cases).unattached program input why gives given none
   by_cases P run bytes status is cases (Due.making {pages = pages} is' due) = absurd (run_or_volume asked run pages is is')
 
   -- over a volume that is told nothing but the device or want of memory comes in the way
-  over_a_volume : (run : RunOf) (input : List ℕ) (programs : List BodyNode) (why : OpenFault) (answered : ℕ) → IsWhyNone old new why → (content : List ℕ) → old.contents content → HasVolume content →
-      Answers old new (line_of_cause why) (status_of_cause why) answered → GetsRun run input programs may_fail failed old new answered
-  over_a_volume run input programs cause.Device answered none content told has is = GetsRun.no_device (none.device refl) is
-  over_a_volume run input programs (cause.NotAVolume size gate) answered none content told has is =
+  over_a_volume : (run : RunOf) (input : List ℕ) (program : BodyNode) (why : OpenFault) (answered : ℕ) → IsWhyNone old new why → (content : List ℕ) → old.contents content → HasVolume content →
+      Answers old new (line_of_cause why) (status_of_cause why) answered → GetsRun run input program may_fail failed old new answered
+  over_a_volume run input program cause.Device answered none content told has is = GetsRun.no_device (none.device refl) is
+  over_a_volume run input program (cause.NotAVolume size gate) answered none content told has is =
       absurd (a_volume_or_none (found_in content) _ _ _ size gate has.found (none.found content told))
-  over_a_volume run input programs (cause.Damaged at found wanted) answered none content told has is =
+  over_a_volume run input program (cause.Damaged at found wanted) answered none content told has is =
       absurd (a_volume_or_damaged (found_in content) _ _ _ (damage at found wanted) has.found (none.found content told))
-  over_a_volume run input programs cause.Memory answered none content told has is = GetsRun.no_memory is
+  over_a_volume run input program cause.Memory answered none content told has is = GetsRun.no_memory is
 
   -- the line of a file that is no volume, and of a damaged one
   over_none : (read : List ℕ → Type 0) (why : OpenFault) → IsWhyNone old new why → (content : List ℕ) (size gate : ℕ) → old.contents content → found_in content ≡ no_volume size gate →
@@ -268,7 +265,7 @@ module _ (asked : Option CommandOf) (holds : List ℕ → List ℕ → Type 0) (
   of_making P pages bytes status is lacks made (Due.no_memory left) = lacks
   of_making P pages bytes status is lacks made (Due.told {text = text} is' left) = absurd (volume_or_text asked pages text is is')
   of_making P pages bytes status is lacks made (Due.unready {run = run} is' why left) = absurd (run_or_volume asked run pages is' is)
-  of_making P pages bytes status is lacks made (Due.unattached {run = run} programs input is' gives given why left) = absurd (run_or_volume asked run pages is' is)
+  of_making P pages bytes status is lacks made (Due.unattached {run = run} input is' gives given why left) = absurd (run_or_volume asked run pages is' is)
   of_making P pages bytes status is lacks made (Due.making {pages = p} is' due) = made p bytes status due
 
   volume_made_due : (pages : ℕ) (content bytes : List ℕ) (status : ℕ) → asked ≡ Some (a_volume pages) → old.contents content → IsNone content → Dues bytes status →
@@ -301,279 +298,212 @@ module _ (asked : Option CommandOf) (holds : List ℕ → List ℕ → Type 0) (
   volume_kept pages content answered is told opens =
       on_words (GetsOrFails Faulted already_line 14) answered (λ bytes status due. volume_kept_due pages content bytes status is told opens due) (λ run is'. run_or_volume asked run pages is' is)
 
-  -- a name is among the names up to it, and what is among some is among more
-  last-among : (before : List (List ℕ)) (name : List ℕ) → IsUpTo before name name
-  last-among before name = record { before = before; behind = []; are = refl }
+  lacked_name_due : (run : RunOf) (bytes : List ℕ) (status : ℕ) → asked ≡ Some (a_run run) → lacks run.file → Dues bytes status →
+      Gets (λ name. name ≡ run.file) may_fail failed ⊥ (unreadable_line run.file) 7 bytes status
+  lacked_name_due run bytes status is lacking due = by_cases (λ bs n. Gets (λ name. name ≡ run.file) may_fail failed ⊥ (unreadable_line run.file) 7 bs n) run bytes status is record {
+    memory = Gets.no_memory;
+    unread = λ may rose. Gets.own;
+    long = λ size gives. absurd (gives.there lacking);
+    refused = λ text stage number line gives fault. absurd (gives.there lacking);
+    no_input = λ program name g named may rose. absurd (g.gives.there lacking);
+    long_input = λ program name size g named long. absurd (g.gives.there lacking);
+    unattached = λ program input why g given none. absurd (g.gives.there lacking);
+  } due
 
-  among-more : (first other : List ℕ) (names : List (List ℕ)) → IsAmong other names → IsAmong other (first ∷ names)
-  among-more first other names is = record { before = first ∷ is.before; behind = is.behind; are = ap (λ (ns : List (List ℕ)). first ∷ ns) is.are }
+  pub lacked_name : (run : RunOf) (answered : ℕ) → asked ≡ Some (a_run run) → lacks run.file → Whys answered →
+      Answered old new (Gets (λ name. name ≡ run.file) may_fail failed ⊥ (unreadable_line run.file) 7) answered
+  lacked_name run answered is lacking =
+      on_run run is (Gets (λ name. name ≡ run.file) may_fail failed ⊥ (unreadable_line run.file) 7) answered (λ bytes status due. lacked_name_due run bytes status is lacking due)
+      (λ program input g given ran. g.gives.there lacking)
 
-  -- what the shelf gives of a name is what it holds
-  given-text : (name : List ℕ) (p q : BodyNode) → HoldsProgram holds name p → GivesProgram holds lacks name q → q ≡ p
-  given-text name p q has gives = one_program has.text q p (subst (λ (t : List ℕ). IsProgram t q) (gives.gives.given has.text has.held) gives.is) has.is
+  module _ (run : RunOf) (text : List ℕ) (is : asked ≡ Some (a_run run)) (held : holds run.file text) where
+    not_long : (size : ℕ) → length text ≤ LONGEST_TEXT → GivesTooLong (holds run.file) (lacks run.file) size → ⊥
+    not_long size short gives = let e = gives.given text held in let long = gives.long in omega arith
 
-  given-programs : (names : List (List ℕ)) (ps qs : List BodyNode) → HoldPrograms holds names ps → GivePrograms holds lacks names qs → qs ≡ ps
-  given-programs [] [] [] has gives = refl
-  given-programs [] [] (q ∷ qs) has gives = absurd gives
-  given-programs [] (p ∷ ps) qs has gives = absurd has
-  given-programs (name ∷ names) [] qs has gives = absurd has
-  given-programs (name ∷ names) (p ∷ ps) [] has gives = absurd gives
-  given-programs (name ∷ names) (p ∷ ps) (q ∷ qs) has gives =
-      ap (λ (x : BodyNode). x ∷ qs) (given-text name p q has.0 gives.0) ∙ ap (λ (xs : List BodyNode). p ∷ xs) (given-programs names ps qs has.1 gives.1)
+    not_short : (other : List ℕ) → LONGEST_TEXT < length text → Gives (holds run.file) (lacks run.file) other → ⊥
+    not_short other long gives = let e = ap length (gives.given text held) in let short = gives.short in omega arith
 
-  -- a name that is held as a program is neither too long nor refused
-  never-long : (name : List ℕ) (p : BodyNode) (size : ℕ) → HoldsProgram holds name p → GivesTooLong (holds name) (lacks name) size → ⊥
-  never-long name p size has gives = let e = gives.given has.text has.held in let long = gives.long in let short = has.short in omega arith
+    -- the text that is given is this one, and no fault where it is a program
+    no_refusal : (program : BodyNode) (other stage : List ℕ) (number : ℕ) (line : Line) → IsProgram text program → Gives (holds run.file) (lacks run.file) other → IsSourceFault other stage number line → ⊥
+    no_refusal program other stage number line prog gives fault =
+        no_fault text stage program number line prog (subst (λ (t : List ℕ). IsSourceFault t stage number line) (gives.given text held) fault)
 
-  never-refused : (name : List ℕ) (p : BodyNode) (text stage : List ℕ) (number : ℕ) (line : Line) → HoldsProgram holds name p → Gives (holds name) (lacks name) text
-      → IsSourceFault text stage number line → ⊥
-  never-refused name p text stage number line has gives fault =
-      no_fault has.text stage p number line has.is (subst (λ (t : List ℕ). IsSourceFault t stage number line) (gives.given has.text has.held) fault)
+    no_program : (program : BodyNode) (stage : List ℕ) (number : ℕ) (line : Line) → IsSourceFault text stage number line → GivesProgram holds lacks run program → ⊥
+    no_program program stage number line fault g =
+        no_fault text stage program number line (subst (λ (t : List ℕ). IsProgram t program) (g.gives.given text held) g.is) fault
 
-  -- where all of some names are held as programs, so is one that is among them
-  held-among : (before behind : List (List ℕ)) (name : List ℕ) (ps : List BodyNode) → HoldPrograms holds (before ++ name ∷ behind) ps → (p : BodyNode) × HoldsProgram holds name p
-  held-among [] behind name [] has = absurd has
-  held-among [] behind name (p ∷ ps) has = (p, has.0)
-  held-among (first ∷ before) behind name [] has = absurd has
-  held-among (first ∷ before) behind name (p ∷ ps) has = held-among before behind name ps has.1
+    same_given : (program other : BodyNode) → IsProgram text program → GivesProgram holds lacks run other → other ≡ program
+    same_given program other prog g = one_program text other program (subst (λ (t : List ℕ). IsProgram t other) (g.gives.given text held) g.is) prog
 
-  head-is : (x y : List ℕ) (xs ys : List (List ℕ)) → x ∷ xs ≡ y ∷ ys → x ≡ y
-  head-is x y xs ys is = cc
-
-  tail-is : (x y : List ℕ) (xs ys : List (List ℕ)) → x ∷ xs ≡ y ∷ ys → xs ≡ ys
-  tail-is x y xs ys is = cc
-
-  -- Two names of a list, after names that are held as programs, and after names that are given as programs: the second is among the first ones, or it is the first,
-  -- or the first is given as a program.
-  data Compared (before : List (List ℕ)) (name other : List ℕ) : Type 0 where
-    earlier : (p : BodyNode) → HoldsProgram holds other p → IsUpTo before name other → Compared before name other
-    same : other ≡ name → Compared before name other
-    later : (p : BodyNode) → GivesProgram holds lacks name p → Compared before name other
-
-  compare : (before front behind rest : List (List ℕ)) (name other : List ℕ) → before ++ name ∷ behind ≡ front ++ other ∷ rest → (ps qs : List BodyNode) → HoldPrograms holds before ps
-      → GivePrograms holds lacks front qs → Compared before name other
-  compare [] [] behind rest name other is ps qs has gives = same (sym (head-is name other behind rest is))
-  compare [] (first ∷ front) behind rest name other is ps [] has gives = absurd gives
-  compare [] (first ∷ front) behind rest name other is ps (q ∷ qs) has gives =
-      later q (subst (λ (n : List ℕ). GivesProgram holds lacks n q) (sym (head-is name first behind (front ++ other ∷ rest) is)) gives.0)
-  compare (first ∷ before) front behind rest name other is [] qs has gives = absurd has
-  compare (first ∷ before) [] behind rest name other is (p ∷ ps) qs has gives =
-      earlier p (subst (λ (n : List ℕ). HoldsProgram holds n p) (head-is first other (before ++ name ∷ behind) rest is) has.0)
-      (record { before = []; behind = before ++ name ∷ []; are = ap (λ (n : List ℕ). n ∷ (before ++ name ∷ [])) (head-is first other (before ++ name ∷ behind) rest is) })
-  compare (first ∷ before) (second ∷ front) behind rest name other is (p ∷ ps) [] has gives = absurd gives
-  compare (first ∷ before) (second ∷ front) behind rest name other is (p ∷ ps) (q ∷ qs) has gives =
-      more (compare before front behind rest name other (tail-is first second (before ++ name ∷ behind) (front ++ other ∷ rest) is) ps qs has.1 gives.1)
-    where
-      more : Compared before name other → Compared (first ∷ before) name other
-      more (earlier p has up) = earlier p has (among-more first other (before ++ name ∷ []) up)
-      more (same is) = same is
-      more (later p gives) = later p gives
-
-  -- a name that comes next, after texts that are held and are programs
-  module _ (run : RunOf) (is : asked ≡ Some (a_run run)) (before behind : List (List ℕ)) (ps : List BodyNode) (name : List ℕ) (files : files_of run ≡ before ++ name ∷ behind) (has : HoldPrograms holds before ps) where
-    compared : (other : List ℕ) → IsNext holds lacks run other → Compared before name other
-    compared other next = compare before next.before behind next.behind name other (sym files ∙ next.files_are) ps next.programs has next.are
-
-    -- it is given as a program where all are
-    all-given : (front rest : List (List ℕ)) (other : List ℕ) (qs : List BodyNode) → GivePrograms holds lacks (front ++ other ∷ rest) qs → (q : BodyNode) × GivesProgram holds lacks other q
-    all-given [] rest other [] gives = absurd gives
-    all-given [] rest other (q ∷ qs) gives = (q, gives.0)
-    all-given (first ∷ front) rest other [] gives = absurd gives
-    all-given (first ∷ front) rest other (q ∷ qs) gives = all-given front rest other qs gives.1
-
-    its-program : (qs : List BodyNode) → GivePrograms holds lacks (files_of run) qs → (q : BodyNode) × GivesProgram holds lacks name q
-    its-program qs gives = all-given before behind name qs (subst (λ (ns : List (List ℕ)). GivePrograms holds lacks ns qs) files gives)
-
-    -- What is due, where the name isn't given as a program: this, and for what of the name itself is it due.
-    module _ (line : List ℕ) (number : ℕ) (none : (q : BodyNode) → GivesProgram holds lacks name q → ⊥)
-        (by_long : (size : ℕ) → GivesTooLong (holds name) (lacks name) size → Gets (IsUpTo before name) may_fail failed ⊥ line number (too_long_line name size) 13)
-        (by_fault : (text stage : List ℕ) (n : ℕ) (at : Line) → Gives (holds name) (lacks name) text → IsSourceFault text stage n at
-        → Gets (IsUpTo before name) may_fail failed ⊥ line number (fault_line name stage n at) 2)
-        (by_failing : may_fail name → failed → Gets (IsUpTo before name) may_fail failed ⊥ line number (unreadable_line name) 7) where
-      abbrev Gets' : List ℕ → ℕ → Type 0
-      Gets' bs n = Gets (IsUpTo before name) may_fail failed ⊥ line number bs n
-
-      unread-by : (other : List ℕ) → Compared before name other → may_fail other → failed → Gets' (unreadable_line other) 7
-      unread-by other (earlier p held up) may rose = Gets.unreadable up may rose
-      unread-by other (same same_name) may rose = subst (λ (n : List ℕ). Gets' (unreadable_line n) 7) (sym same_name) (by_failing (subst may_fail same_name may) rose)
-      unread-by other (later p gives) may rose = absurd (none p gives)
-
-      long-by : (other : List ℕ) (size : ℕ) → Compared before name other → GivesTooLong (holds other) (lacks other) size → Gets' (too_long_line other size) 13
-      long-by other size (earlier p held up) gives = absurd (never-long other p size held gives)
-      long-by other size (same same_name) gives =
-          subst (λ (n : List ℕ). Gets' (too_long_line n size) 13) (sym same_name) (by_long size (subst (λ (n : List ℕ). GivesTooLong (holds n) (lacks n) size) same_name gives))
-      long-by other size (later p given) gives = absurd (none p given)
-
-      fault-by : (other text stage : List ℕ) (n : ℕ) (at : Line) → Compared before name other → Gives (holds other) (lacks other) text → IsSourceFault text stage n at → Gets' (fault_line other stage n at) 2
-      fault-by other text stage n at (earlier p held up) gives fault = absurd (never-refused other p text stage n at held gives fault)
-      fault-by other text stage n at (same same_name) gives fault =
-          subst (λ (m : List ℕ). Gets' (fault_line m stage n at) 2) (sym same_name) (by_fault text stage n at (subst (λ (m : List ℕ). Gives (holds m) (lacks m) text) same_name gives) fault)
-      fault-by other text stage n at (later p given) gives fault = absurd (none p given)
-
-      next-due : (bytes : List ℕ) (status : ℕ) → Dues bytes status → Gets' bytes status
-      next-due bytes status due = by_cases Gets' run bytes status is record {
-        memory = Gets.no_memory;
-        unread = λ other next may rose. unread-by other (compared other next) may rose;
-        long = λ other size next gives. long-by other size (compared other next) gives;
-        refused = λ other text stage n at next gives fault. fault-by other text stage n at (compared other next) gives fault;
-        no_input = λ qs other g named may rose. absurd (let q = its-program qs g in none q.0 q.1);
-        long_input = λ qs other size g named long. absurd (let q = its-program qs g in none q.0 q.1);
-        unattached = λ qs input why g given no_volume. absurd (let q = its-program qs g in none q.0 q.1);
-      } due
-
-      pub next-told : (answered : ℕ) → Whys answered → Answered old new Gets' answered
-      next-told answered = on_run run is Gets' answered next-due (λ qs input g given ran. let q = its-program qs g in none q.0 q.1)
-
-    pub lacked_name : (answered : ℕ) → lacks name → Whys answered → Answered old new (Gets (IsUpTo before name) may_fail failed ⊥ (unreadable_line name) 7) answered
-    lacked_name answered lacking =
-        next-told (unreadable_line name) 7 (λ q g. g.gives.there lacking) (λ size gives. absurd (gives.there lacking)) (λ text stage n at gives fault. absurd (gives.there lacking)) (λ may rose. Gets.own) answered
-
-    module _ (text : List ℕ) (held : holds name text) where
-      not_long : (size : ℕ) → length text ≤ LONGEST_TEXT → GivesTooLong (holds name) (lacks name) size → ⊥
-      not_long size short gives = let e = gives.given text held in let long = gives.long in omega arith
-
-      not_short : (other : List ℕ) → LONGEST_TEXT < length text → Gives (holds name) (lacks name) other → ⊥
-      not_short other long gives = let e = ap length (gives.given text held) in let short = gives.short in omega arith
-
-      pub first_fault_is_told : (stage : List ℕ) (number : ℕ) (line : Line) (answered : ℕ) → length text ≤ LONGEST_TEXT → IsSourceFault text stage number line → Whys answered →
-          Answered old new (Gets (IsUpTo before name) may_fail failed ⊥ (fault_line name stage number line) 2) answered
-      first_fault_is_told stage number line answered short fault =
-          next-told (fault_line name stage number line) 2
-          (λ q g. no_fault text stage q number line (subst (λ (t : List ℕ). IsProgram t q) (g.gives.given text held) g.is) fault)
-          (λ size gives. absurd (not_long size short gives))
-          (λ other stage' number' line' gives fault'.
-          let one = one_source_fault text stage stage' number number' line line' fault (subst (λ (t : List ℕ). IsSourceFault t stage' number' line') (gives.given text held) fault') in
-          own_at _ _ _ _ _ _ (same_line name stage stage' number number' line line' one) refl)
-          (λ may rose. Gets.unreadable (last-among before name) may rose) answered
-
-      pub long_text : (answered : ℕ) → LONGEST_TEXT < length text → Whys answered →
-          Answered old new (Gets (IsUpTo before name) may_fail failed ⊥ (too_long_line name (length text)) 13) answered
-      long_text answered long =
-          next-told (too_long_line name (length text)) 13 (λ q g. not_short g.text long g.gives)
-          (λ size gives. own_at _ _ _ _ _ _ (ap (λ (n : ℕ). too_long_line name n) (sym (gives.given text held))) refl)
-          (λ other stage number line gives fault. absurd (not_short other long gives)) (λ may rose. Gets.unreadable (last-among before name) may rose) answered
-
-  -- all texts of a run are held and are programs
-  module _ (run : RunOf) (is : asked ≡ Some (a_run run)) (programs : List BodyNode) (has : HoldPrograms holds (files_of run) programs) where
-    next-held : (name : List ℕ) → IsNext holds lacks run name → (p : BodyNode) × HoldsProgram holds name p
-    next-held name next = held-among next.before next.behind name programs (subst (λ (ns : List (List ℕ)). HoldPrograms holds ns programs) next.files_are has)
-
-    next-read : (name : List ℕ) → IsNext holds lacks run name → IsRead run name
-    next-read name next = IsRead.text (record { before = next.before; behind = next.behind; are = next.files_are })
-
-    no-long : (name : List ℕ) (size : ℕ) → IsNext holds lacks run name → GivesTooLong (holds name) (lacks name) size → ⊥
-    no-long name size next gives = let p = next-held name next in never-long name p.0 size p.1 gives
-
-    no-refusal : (name text stage : List ℕ) (number : ℕ) (line : Line) → IsNext holds lacks run name → Gives (holds name) (lacks name) text → IsSourceFault text stage number line → ⊥
-    no-refusal name text stage number line next gives fault = let p = next-held name next in never-refused name p.0 text stage number line p.1 gives fault
-
-    -- the input that is given is the one that is held
-    same_input : (name : Option (List ℕ)) (input other : List ℕ) → HoldsInput holds name input → GivesInput holds lacks name other → other ≡ input
-    same_input None input other one two = two ∙ sym one
-    same_input (Some name) input other one two = two.given input one.0
-
-    no_long_input : (name : Option (List ℕ)) (input given : List ℕ) (size : ℕ) → name ≡ Some given → HoldsInput holds name input → GivesTooLong (holds given) (lacks given) size → ⊥
-    no_long_input name input given size named one long =
-        let h = subst (λ (n : Option (List ℕ)). HoldsInput holds n input) named one in
-        let few = h.1 in let many = long.long in let e = long.given input h.0 in omega arith
-
-    programs_due : (input content bytes : List ℕ) (status answered : ℕ) → HoldsInput holds run.input input → old.contents content → HasVolume content → Dues bytes status →
-        Answers old new bytes status answered → GetsRun run input programs may_fail failed old new answered
-    programs_due input content bytes status answered held told has_one due =
-        by_cases (λ bs n. Answers old new bs n answered → GetsRun run input programs may_fail failed old new answered) run bytes status is record {
-          memory = λ answers. GetsRun.no_memory answers;
-          unread = λ name next may rose answers. GetsRun.unreadable (next-read name next) may rose answers;
-          long = λ name size next gives. absurd (no-long name size next gives);
-          refused = λ name text stage number line next gives fault. absurd (no-refusal name text stage number line next gives fault);
-          no_input = λ others name g named may rose answers. GetsRun.unreadable (IsRead.input named) may rose answers;
-          long_input = λ others name size g named long. absurd (no_long_input run.input input name size named held long);
-          unattached = λ others read why g given none answers. over_a_volume run input programs why answered none content told has_one answers;
-        } due
-
-    -- they are run with this input
-    own_run : (input : List ℕ) (answered : ℕ) → HoldsInput holds run.input input → (r : RunOf) (others : List BodyNode) (read : List ℕ) → r ≡ run → GivePrograms holds lacks (files_of r) others →
-        GivesInput holds lacks r.input read → Ran r read others old new answered → Ran run input programs old new answered
-    own_run input answered held r others read is_run g given ran =
-        let g' = subst (λ (x : RunOf). GivePrograms holds lacks (files_of x) others) is_run g in
-        let given' = subst (λ (x : RunOf). GivesInput holds lacks x.input read) is_run given in
-        let ran' = subst (λ (x : RunOf). Ran x read others old new answered) is_run ran in
-        subst (λ (ps : List BodyNode). Ran run input ps old new answered) (given-programs (files_of run) programs others has g')
-        (subst (λ (i : List ℕ). Ran run i others old new answered) (same_input run.input input read held given') ran')
-
-    pub programs_are_run : (input content : List ℕ) (answered : ℕ) → HoldsInput holds run.input input → old.contents content → HasVolume content → Whys answered →
-        GetsRun run input programs may_fail failed old new answered
-    programs_are_run input content answered held told has_one (Why.by_words {bytes = bytes} {status = status} due answers left) =
-        programs_due input content bytes status answered held told has_one due answers
-    programs_are_run input content answered held told has_one (Why.by_run {run = r} {programs = others} {input = read} is' g given ran) =
-        GetsRun.own (own_run input answered held r others read (same_run asked r run is' is) g given ran)
-
-    -- where no volume is told
-    module _ (input content : List ℕ) (held : HoldsInput holds run.input input) (told : old.contents content) where
-      not_over : (line : List ℕ) (number : ℕ) (bytes : List ℕ) (status : ℕ) → ((why : OpenFault) → IsWhyNone old new why → Gets (IsRead run) may_fail failed Faulted line number (line_of_cause why) (status_of_cause why))
-          → Dues bytes status → Gets (IsRead run) may_fail failed Faulted line number bytes status
-      not_over line number bytes status by due = by_cases (λ bs n. Gets (IsRead run) may_fail failed Faulted line number bs n) run bytes status is record {
-        memory = Gets.no_memory;
-        unread = λ name next may rose. Gets.unreadable (next-read name next) may rose;
-        long = λ name size next gives. absurd (no-long name size next gives);
-        refused = λ name text stage n at next gives fault. absurd (no-refusal name text stage n at next gives fault);
-        no_input = λ others name g named may rose. Gets.unreadable (IsRead.input named) may rose;
-        long_input = λ others name size g named long. absurd (no_long_input run.input input name size named held long);
-        unattached = λ others read why g given is_why. by why is_why;
-      } due
-
-      pub no_volume_refused : (size gate : ℕ) (answered : ℕ) → found_in content ≡ no_volume size gate → Whys answered →
-          Answered old new (Gets (IsRead run) may_fail failed Faulted (not_a_volume_line size gate) 9) answered
-      no_volume_refused size gate answered found =
-          on_run run is (Gets (IsRead run) may_fail failed Faulted (not_a_volume_line size gate) 9) answered
-          (λ bytes status due. not_over (not_a_volume_line size gate) 9 bytes status (λ why none. over_none (IsRead run) why none content size gate told found) due)
-          (λ others read g given ran. let has_one = ran.found content told in a_volume_or_none (found_in content) _ _ _ size gate has_one.found found)
-
-      pub damaged_refused : (at number wanted : ℕ) (answered : ℕ) → found_in content ≡ damaged (damage at number wanted) → Whys answered →
-          Answered old new (Gets (IsRead run) may_fail failed Faulted (damaged_line at number wanted) 10) answered
-      damaged_refused at number wanted answered found =
-          on_run run is (Gets (IsRead run) may_fail failed Faulted (damaged_line at number wanted) 10) answered
-          (λ bytes status due. not_over (damaged_line at number wanted) 10 bytes status (λ why none. over_damaged (IsRead run) why none content at number wanted told found) due)
-          (λ others read g given ran. let has_one = ran.found content told in a_volume_or_damaged (found_in content) _ _ _ (damage at number wanted) has_one.found found)
-
-    module _ (name : List ℕ) (named : run.input ≡ Some name) where
-      same_name : (other : List ℕ) → run.input ≡ Some other → other ≡ name
-      same_name other is' = same_some run.input other name is' named
-
-      given_here : (input : List ℕ) → GivesInput holds lacks run.input input → Gives (holds name) (lacks name) input
-      given_here input given = subst (λ (n : Option (List ℕ)). GivesInput holds lacks n input) named given
-
-      -- What is due, where the input isn't given: this, and for what of it is it due.
-      module _ (line : List ℕ) (number : ℕ) (none : (input : List ℕ) → Gives (holds name) (lacks name) input → ⊥)
-          (by_long : (size : ℕ) → GivesTooLong (holds name) (lacks name) size → Gets (IsRead run) may_fail failed ⊥ line number (too_long_line name size) 13) where
-        abbrev GetsInput : List ℕ → ℕ → Type 0
-        GetsInput bs n = Gets (IsRead run) may_fail failed ⊥ line number bs n
-
-        input-due : (bytes : List ℕ) (status : ℕ) → Dues bytes status → GetsInput bytes status
-        input-due bytes status due = by_cases GetsInput run bytes status is record {
+    first_fault_due : (stage : List ℕ) (number : ℕ) (line : Line) (bytes : List ℕ) (status : ℕ) → length text ≤ LONGEST_TEXT → IsSourceFault text stage number line → Dues bytes status →
+        Gets (λ name. name ≡ run.file) may_fail failed ⊥ (fault_line run.file stage number line) 2 bytes status
+    first_fault_due stage number line bytes status short fault due =
+        by_cases (λ bs n. Gets (λ name. name ≡ run.file) may_fail failed ⊥ (fault_line run.file stage number line) 2 bs n) run bytes status is record {
           memory = Gets.no_memory;
-          unread = λ other next may rose. Gets.unreadable (next-read other next) may rose;
-          long = λ other size next gives. absurd (no-long other size next gives);
-          refused = λ other text stage n at next gives fault. absurd (no-refusal other text stage n at next gives fault);
-          no_input = λ others other g named' may rose. Gets.unreadable (IsRead.input named') may rose;
-          long_input = λ others other size g named' long.
-              subst (λ (n : List ℕ). GetsInput (too_long_line n size) 13) (sym (same_name other named'))
-              (by_long size (subst (λ (n : List ℕ). GivesTooLong (holds n) (lacks n) size) (same_name other named') long));
-          unattached = λ others read why g given no_volume. absurd (none read (given_here read given));
+          unread = λ may rose. Gets.unreadable refl may rose;
+          long = λ size gives. absurd (not_long size short gives);
+          refused = λ other stage' number' line' gives fault'.
+              let one = one_source_fault text stage stage' number number' line line' fault (subst (λ (t : List ℕ). IsSourceFault t stage' number' line') (gives.given text held) fault') in
+              own_at _ _ _ _ _ _ (same_line run.file stage stage' number number' line line' one) refl;
+          no_input = λ program name g named may rose. absurd (no_program program stage number line fault g);
+          long_input = λ program name size g named long. absurd (no_program program stage number line fault g);
+          unattached = λ program input why g given none. absurd (no_program program stage number line fault g);
         } due
 
-        input-told : (answered : ℕ) → Whys answered → Answered old new GetsInput answered
-        input-told answered = on_run run is GetsInput answered input-due (λ others read g given ran. none read (given_here read given))
+    pub first_fault_is_told : (stage : List ℕ) (number : ℕ) (line : Line) (answered : ℕ) → length text ≤ LONGEST_TEXT → IsSourceFault text stage number line → Whys answered →
+        Answered old new (Gets (λ name. name ≡ run.file) may_fail failed ⊥ (fault_line run.file stage number line) 2) answered
+    first_fault_is_told stage number line answered short fault =
+        on_run run is (Gets (λ name. name ≡ run.file) may_fail failed ⊥ (fault_line run.file stage number line) 2) answered
+        (λ bytes status due. first_fault_due stage number line bytes status short fault due) (λ program input g given ran. no_program program stage number line fault g)
 
-      pub lacked_input : (answered : ℕ) → lacks name → Whys answered → Answered old new (Gets (IsRead run) may_fail failed ⊥ (unreadable_line name) 7) answered
-      lacked_input answered lacking = input-told (unreadable_line name) 7 (λ input gives. gives.there lacking) (λ size long. absurd (long.there lacking)) answered
+    long_text_due : (bytes : List ℕ) (status : ℕ) → LONGEST_TEXT < length text → Dues bytes status →
+        Gets (λ name. name ≡ run.file) may_fail failed ⊥ (too_long_line run.file (length text)) 13 bytes status
+    long_text_due bytes status long due =
+        by_cases (λ bs n. Gets (λ name. name ≡ run.file) may_fail failed ⊥ (too_long_line run.file (length text)) 13 bs n) run bytes status is record {
+          memory = Gets.no_memory;
+          unread = λ may rose. Gets.unreadable refl may rose;
+          long = λ size gives. own_at _ _ _ _ _ _ (ap (λ (n : ℕ). too_long_line run.file n) (sym (gives.given text held))) refl;
+          refused = λ other stage number line gives fault. absurd (not_short other long gives);
+          no_input = λ program name g named may rose. absurd (not_short g.text long g.gives);
+          long_input = λ program name size g named too_long. absurd (not_short g.text long g.gives);
+          unattached = λ program input why g given none. absurd (not_short g.text long g.gives);
+        } due
 
-      -- a text of this name that is too long isn't given, and its size is told
-      pub long_input : (input : List ℕ) (answered : ℕ) → holds name input → LONGEST_TEXT < length input → Whys answered →
-          Answered old new (Gets (IsRead run) may_fail failed ⊥ (too_long_line name (length input)) 13) answered
-      long_input input answered held many =
-          input-told (too_long_line name (length input)) 13
-          (λ other gives. let e = ap length (gives.given input held) in let few = gives.short in omega arith)
-          (λ size long. own_at _ _ _ _ _ _ (ap (λ (n : ℕ). too_long_line name n) (sym (long.given input held))) refl) answered
+    pub long_text : (answered : ℕ) → LONGEST_TEXT < length text → Whys answered →
+        Answered old new (Gets (λ name. name ≡ run.file) may_fail failed ⊥ (too_long_line run.file (length text)) 13) answered
+    long_text answered long =
+        on_run run is (Gets (λ name. name ≡ run.file) may_fail failed ⊥ (too_long_line run.file (length text)) 13) answered
+        (λ bytes status due. long_text_due bytes status long due) (λ program input g given ran. not_short g.text long g.gives)
+
+    module _ (program : BodyNode) (short : length text ≤ LONGEST_TEXT) (prog : IsProgram text program) where
+      -- the input that is given is the one that is held
+      same_input : (name : Option (List ℕ)) (input other : List ℕ) → HoldsInput holds name input → GivesInput holds lacks name other → other ≡ input
+      same_input None input other one two = two ∙ sym one
+      same_input (Some name) input other one two = two.given input one.0
+
+      no_long_input : (name : Option (List ℕ)) (input given : List ℕ) (size : ℕ) → name ≡ Some given → HoldsInput holds name input → GivesTooLong (holds given) (lacks given) size → ⊥
+      no_long_input name input given size named one long =
+          let h = subst (λ (n : Option (List ℕ)). HoldsInput holds n input) named one in
+          let few = h.1 in let many = long.long in let e = long.given input h.0 in omega arith
+
+      program_due : (input content bytes : List ℕ) (status answered : ℕ) → HoldsInput holds run.input input → old.contents content → HasVolume content → Dues bytes status →
+          Answers old new bytes status answered → GetsRun run input program may_fail failed old new answered
+      program_due input content bytes status answered has told has_one due =
+          by_cases (λ bs n. Answers old new bs n answered → GetsRun run input program may_fail failed old new answered) run bytes status is record {
+            memory = λ answers. GetsRun.no_memory answers;
+            unread = λ may rose answers. GetsRun.unreadable IsRead.text may rose answers;
+            long = λ size gives. absurd (not_long size short gives);
+            refused = λ other stage number line gives fault. absurd (no_refusal program other stage number line prog gives fault);
+            no_input = λ other name g named may rose answers. GetsRun.unreadable (IsRead.input named) may rose answers;
+            long_input = λ other name size g named long. absurd (no_long_input run.input input name size named has long);
+            unattached = λ other read why g given none answers. over_a_volume run input program why answered none content told has_one answers;
+          } due
+
+      -- it is run with this input
+      own_run : (input : List ℕ) (answered : ℕ) → HoldsInput holds run.input input → (r : RunOf) (other : BodyNode) (read : List ℕ) → r ≡ run → GivesProgram holds lacks r other →
+          GivesInput holds lacks r.input read → Ran r read other old new answered → Ran run input program old new answered
+      own_run input answered has r other read same g given ran =
+          let g' = subst (λ (x : RunOf). GivesProgram holds lacks x other) same g in
+          let given' = subst (λ (x : RunOf). GivesInput holds lacks x.input read) same given in
+          let ran' = subst (λ (x : RunOf). Ran x read other old new answered) same ran in
+          subst (λ (p : BodyNode). Ran run input p old new answered) (same_given program other prog g')
+          (subst (λ (i : List ℕ). Ran run i other old new answered) (same_input run.input input read has given') ran')
+
+      pub program_is_run : (input content : List ℕ) (answered : ℕ) → HoldsInput holds run.input input → old.contents content → HasVolume content → Whys answered →
+          GetsRun run input program may_fail failed old new answered
+      program_is_run input content answered has told has_one (Why.by_words {bytes = bytes} {status = status} due answers left) =
+          program_due input content bytes status answered has told has_one due answers
+      program_is_run input content answered has told has_one (Why.by_run {run = r} {program = other} {input = read} is' g given ran) =
+          GetsRun.own (own_run input answered has r other read (same_run asked r run is' is) g given ran)
+
+      -- where no volume is told
+      module _ (input content : List ℕ) (has : HoldsInput holds run.input input) (told : old.contents content) where
+        not_over : (line : List ℕ) (number : ℕ) (bytes : List ℕ) (status : ℕ) → ((why : OpenFault) → IsWhyNone old new why → Gets (IsRead run) may_fail failed Faulted line number (line_of_cause why) (status_of_cause why))
+            → (HasVolume content → ⊥) → Dues bytes status → Gets (IsRead run) may_fail failed Faulted line number bytes status
+        not_over line number bytes status by none due = by_cases (λ bs n. Gets (IsRead run) may_fail failed Faulted line number bs n) run bytes status is record {
+          memory = Gets.no_memory;
+          unread = λ may rose. Gets.unreadable IsRead.text may rose;
+          long = λ size gives. absurd (not_long size short gives);
+          refused = λ other stage number line gives fault. absurd (no_refusal program other stage number line prog gives fault);
+          no_input = λ other name g named may rose. Gets.unreadable (IsRead.input named) may rose;
+          long_input = λ other name size g named long. absurd (no_long_input run.input input name size named has long);
+          unattached = λ other read why g given is_why. by why is_why;
+        } due
+
+        no_volume_due : (size gate : ℕ) (bytes : List ℕ) (status : ℕ) → found_in content ≡ no_volume size gate → Dues bytes status →
+            Gets (IsRead run) may_fail failed Faulted (not_a_volume_line size gate) 9 bytes status
+        no_volume_due size gate bytes status found due =
+            not_over (not_a_volume_line size gate) 9 bytes status (λ why none. over_none (IsRead run) why none content size gate told found)
+            (λ has_one. a_volume_or_none (found_in content) _ _ _ size gate has_one.found found) due
+
+        pub no_volume_refused : (size gate : ℕ) (answered : ℕ) → found_in content ≡ no_volume size gate → Whys answered →
+            Answered old new (Gets (IsRead run) may_fail failed Faulted (not_a_volume_line size gate) 9) answered
+        no_volume_refused size gate answered found =
+            on_run run is (Gets (IsRead run) may_fail failed Faulted (not_a_volume_line size gate) 9) answered (λ bytes status due. no_volume_due size gate bytes status found due)
+            (λ other read g given ran. let has_one = ran.found content told in a_volume_or_none (found_in content) _ _ _ size gate has_one.found found)
+
+        damaged_due : (at number wanted : ℕ) (bytes : List ℕ) (status : ℕ) → found_in content ≡ damaged (damage at number wanted) → Dues bytes status →
+            Gets (IsRead run) may_fail failed Faulted (damaged_line at number wanted) 10 bytes status
+        damaged_due at number wanted bytes status found due =
+            not_over (damaged_line at number wanted) 10 bytes status (λ why none. over_damaged (IsRead run) why none content at number wanted told found)
+            (λ has_one. a_volume_or_damaged (found_in content) _ _ _ (damage at number wanted) has_one.found found) due
+
+        pub damaged_refused : (at number wanted : ℕ) (answered : ℕ) → found_in content ≡ damaged (damage at number wanted) → Whys answered →
+            Answered old new (Gets (IsRead run) may_fail failed Faulted (damaged_line at number wanted) 10) answered
+        damaged_refused at number wanted answered found =
+            on_run run is (Gets (IsRead run) may_fail failed Faulted (damaged_line at number wanted) 10) answered (λ bytes status due. damaged_due at number wanted bytes status found due)
+            (λ other read g given ran. let has_one = ran.found content told in a_volume_or_damaged (found_in content) _ _ _ (damage at number wanted) has_one.found found)
+
+      module _ (name : List ℕ) (named : run.input ≡ Some name) where
+        same_name : (other : List ℕ) → run.input ≡ Some other → other ≡ name
+        same_name other is' = same_some run.input other name is' named
+
+        given_here : (input : List ℕ) → GivesInput holds lacks run.input input → Gives (holds name) (lacks name) input
+        given_here input given = subst (λ (n : Option (List ℕ)). GivesInput holds lacks n input) named given
+
+        lacked_input_due : (bytes : List ℕ) (status : ℕ) → lacks name → Dues bytes status → Gets (IsRead run) may_fail failed ⊥ (unreadable_line name) 7 bytes status
+        lacked_input_due bytes status lacking due = by_cases (λ bs n. Gets (IsRead run) may_fail failed ⊥ (unreadable_line name) 7 bs n) run bytes status is record {
+          memory = Gets.no_memory;
+          unread = λ may rose. Gets.unreadable IsRead.text may rose;
+          long = λ size gives. absurd (not_long size short gives);
+          refused = λ other stage number line gives fault. absurd (no_refusal program other stage number line prog gives fault);
+          no_input = λ other name' g named' may rose. Gets.unreadable (IsRead.input named') may rose;
+          long_input = λ other name' size g named' long. absurd (long.there (subst lacks (sym (same_name name' named')) lacking));
+          unattached = λ other read why g given none. absurd ((given_here read given).there lacking);
+        } due
+
+        pub lacked_input : (answered : ℕ) → lacks name → Whys answered → Answered old new (Gets (IsRead run) may_fail failed ⊥ (unreadable_line name) 7) answered
+        lacked_input answered lacking =
+            on_run run is (Gets (IsRead run) may_fail failed ⊥ (unreadable_line name) 7) answered (λ bytes status due. lacked_input_due bytes status lacking due)
+            (λ other read g given ran. (given_here read given).there lacking)
+
+        -- a text of this name that is too long isn't given, and its size is told
+        not_given : (input other : List ℕ) → holds name input → LONGEST_TEXT < length input → Gives (holds name) (lacks name) other → ⊥
+        not_given input other has long gives = let e = ap length (gives.given input has) in let few = gives.short in omega arith
+
+        size_told : (input other : List ℕ) (size : ℕ) → holds name input → other ≡ name → GivesTooLong (holds other) (lacks other) size →
+            too_long_line name (length input) ≡ too_long_line other size
+        size_told input other size has same long =
+            let here = subst (λ (n : List ℕ). GivesTooLong (holds n) (lacks n) size) same long in
+            ap (λ (n : ℕ). too_long_line name n) (sym (here.given input has)) ∙ ap (λ (n : List ℕ). too_long_line n size) (sym same)
+
+        long_input_due : (input bytes : List ℕ) (status : ℕ) → holds name input → LONGEST_TEXT < length input → Dues bytes status →
+            Gets (IsRead run) may_fail failed ⊥ (too_long_line name (length input)) 13 bytes status
+        long_input_due input bytes status has many due = by_cases (λ bs n. Gets (IsRead run) may_fail failed ⊥ (too_long_line name (length input)) 13 bs n) run bytes status is record {
+          memory = Gets.no_memory;
+          unread = λ may rose. Gets.unreadable IsRead.text may rose;
+          long = λ size gives. absurd (not_long size short gives);
+          refused = λ other stage number line gives fault. absurd (no_refusal program other stage number line prog gives fault);
+          no_input = λ other name' g named' may rose. Gets.unreadable (IsRead.input named') may rose;
+          long_input = λ other name' size g named' long. own_at _ _ _ _ _ _ (size_told input name' size has (same_name name' named') long) refl;
+          unattached = λ other read why g given none. absurd (not_given input read has many (given_here read given));
+        } due
+
+        pub long_input : (input : List ℕ) (answered : ℕ) → holds name input → LONGEST_TEXT < length input → Whys answered →
+            Answered old new (Gets (IsRead run) may_fail failed ⊥ (too_long_line name (length input)) 13) answered
+        long_input input answered has many =
+            on_run run is (Gets (IsRead run) may_fail failed ⊥ (too_long_line name (length input)) 13) answered
+            (λ bytes status due. long_input_due input bytes status has many due) (λ other read g given ran. not_given input read has many (given_here read given))
 
 -- What the count of the output's faults says of an answer.
 pub counted_faults : (old new : Outside (List ℕ)) (due : List ℕ) (status answered : ℕ) → Answers old new due status answered → (old.output_faults ≤ new.output_faults) × (old.output_faults < new.output_faults → answered ≡ 8)

@@ -51,7 +51,7 @@ module _ (old mid new : Outside (List ℕ)) (left : LeavesDevice mid new) (told 
     still_due bytes status (Due.no_memory was) = Due.no_memory (device_then old mid new was left)
     still_due bytes status (Due.told is was) = Due.told is (device_then old mid new was left)
     still_due bytes status (Due.unready is why was) = Due.unready is why (device_then old mid new was left)
-    still_due bytes status (Due.unattached programs input {cause = cause} is g given none kept) = Due.unattached programs input is g given (still_none cause none) (still_held kept)
+    still_due bytes status (Due.unattached input {cause = cause} is g given none kept) = Due.unattached input is g given (still_none cause none) (still_held kept)
     still_due bytes status (Due.making {pages = pages} is due) = Due.making is (still_making pages bytes status due)
 
   still_left : (asked : Option CommandOf) → LeavesAsAsked asked old mid → LeavesAsAsked asked old new
@@ -74,5 +74,5 @@ module _ {H : Type 0} (outside : H → Outside (List ℕ)) (old mid new : H) (as
       Why.by_words (still_due (outside old) (outside mid) (outside new) tells.1 told asked holds lacks may_fail failed bytes number due)
       (reported_answers (outside old) (outside mid) (outside new) bytes number report answered ends tells.0)
       (still_left (outside old) (outside mid) (outside new) tells.1 told asked device)
-  why_told end answered (WhyEnds.by_run {run = run} {programs = programs} {input = input} is gives given ran) tells =
-      Why.by_run is gives given (ran-told outside old mid new run input programs end answered ran tells)
+  why_told end answered (WhyEnds.by_run {run = run} {program = program} {input = input} is gives given ran) tells =
+      Why.by_run is gives given (ran-told outside old mid new run input program end answered ran tells)

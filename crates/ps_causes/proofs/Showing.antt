@@ -10,6 +10,8 @@ use Rattle.ps_meaning.specs.ps_typing.ps_program.Node.{BodyNode}
 use Rattle.ps_meaning.specs.ps_heap.Events.{Event}
 use Rattle.ps_meaning.specs.ps_heap.Held.{StoredHeap}
 use Rattle.ps_meaning.specs.ps_heap.Ends.{status_of as status_of_end}
+use Rattle.ps_meaning.specs.Runs.{run_end}
+use Rattle.device_runs.specs.session_meaning.unit_meaning.Programs.{given_over}
 use Rattle.commit_moments.specs.Steps.{Step, StandsForSome, heap_after, broken, output_by}
 use Rattle.commit_moments.specs.Shown.{ShowsSince}
 use Rattle.commit_moments.proofs.ShownLaws.{either, adds_is, adds_then}
@@ -71,23 +73,23 @@ module _ (heap : StoredHeap) (old mid new : Outside (List ℕ)) (ms : List (Step
         (either m mid.clock);
   }
 
-module _ (run : RunOf) (input : List ℕ) (programs : List BodyNode) (old mid new : Outside (List ℕ)) (heap : StoredHeap) where
+module _ (run : RunOf) (input : List ℕ) (program : BodyNode) (old mid new : Outside (List ℕ)) (heap : StoredHeap) where
   -- where the end has no report
-  pub shows-ended : (status : Status) → ComesTo run input programs heap old mid (Ok status) → ShowsRun run input programs heap old mid (number_of status)
-  shows-ended status (steps.its_end before e counted are is all) = record {
-    steps = steps_meant (events_of run input programs heap);
-    status = status_of_end e;
-    comes = its_end before e counted are;
+  pub shows-ended : (status : Status) → ComesTo run input program heap old mid (Ok status) → ShowsRun run input program heap old mid (number_of status)
+  shows-ended status (steps.its_end is all) = record {
+    steps = steps_meant (events_of run input program heap);
+    status = status_of_end (run_end (given_over run.turns input heap) program);
+    comes = its_end;
     shown = all.shown;
-    answers = subst (λ (n : ℕ). Answers old mid (output_by (steps_meant (events_of run input programs heap))) (status_of_end e) n) (sym is)
-        (whole (all-told old mid heap (steps_meant (events_of run input programs heap)) all));
+    answers = subst (λ (n : ℕ). Answers old mid (output_by (steps_meant (events_of run input program heap))) (status_of_end (run_end (given_over run.turns input heap) program)) n) (sym is)
+        (whole (all-told old mid heap (steps_meant (events_of run input program heap)) all));
   }
-  shows-ended status (steps.failed before e counted are rose counts shown) = record {
-    steps = steps_meant (events_of run input programs heap);
-    status = status_of_end e;
-    comes = its_end before e counted are;
+  shows-ended status (steps.failed rose counts shown) = record {
+    steps = steps_meant (events_of run input program heap);
+    status = status_of_end (run_end (given_over run.turns input heap) program);
+    comes = its_end;
     shown = shown;
-    answers = cut (record { front = since_tells_prefix Stands heap old mid (steps_meant (events_of run input programs heap)) shown; counts = counts; rose = rose });
+    answers = cut (record { front = since_tells_prefix Stands heap old mid (steps_meant (events_of run input program heap)) shown; counts = counts; rose = rose });
   }
 
   with-line : (before : List Event) (line : List ℕ) (next : Option StoredHeap) → output_by (steps_meant before) ++ line ≡ output_by (steps_meant before ++ broken line next ∷ [])
@@ -95,8 +97,8 @@ module _ (run : RunOf) (input : List ℕ) (programs : List BodyNode) (old mid ne
       ap (λ (bytes : List ℕ). output_by (steps_meant before) ++ bytes) (sym (append-nil line)) ∙ sym (told-append (steps_meant before) (broken line next ∷ []))
 
   -- why it stopped is so after the line too
-  still-stops : new.device_faults ≡ mid.device_faults → (before : List Event) (next : Event) (line : List ℕ) (status : ℕ) → runs.Stops run input programs heap old mid before next line status
-      → runs.Stops run input programs heap old new before next line status
+  still-stops : new.device_faults ≡ mid.device_faults → (before : List Event) (next : Event) (line : List ℕ) (status : ℕ) → runs.Stops run input program heap old mid before next line status
+      → runs.Stops run input program heap old new before next line status
   still-stops same before next line status (runs.of_the_device rose) = runs.of_the_device (subst (λ (n : ℕ). Rose old.device_faults n) (sym same) rose)
   still-stops same before next line status (runs.of_the_area short wanted) = runs.of_the_area short wanted
   still-stops same before next line status (runs.of_the_volume used wanted capacity commits short) = runs.of_the_volume used wanted capacity commits short
@@ -104,7 +106,7 @@ module _ (run : RunOf) (input : List ℕ) (programs : List BodyNode) (old mid ne
 
   -- where it has one
   pub shows-reported : (report : Report) (answered : ℕ) → Answers mid new (line_of report) (number_of (status_of report)) answered → LeavesDevice mid new
-      → ComesTo run input programs heap old mid (Err report) → ShowsRun run input programs heap old new answered
+      → ComesTo run input program heap old mid (Err report) → ShowsRun run input program heap old new answered
   shows-reported report answered is device (steps.stopped {before = before} {next = next} rest are at) =
       let line = line_of report in
       let none = at.shown [] in
@@ -148,21 +150,21 @@ module _ (old mid new : Outside (List ℕ)) (device : LeavesDevice mid new) (tol
       same runs.area_full = runs.area_full
       same (runs.volume_full used wanted capacity short) = runs.volume_full used wanted capacity short
 
--- programs that were run, once the report of its end is output
-pub ran-told : {H : Type 0} (outside : H → Outside (List ℕ)) (old mid new : H) (run : RunOf) (input : List ℕ) (programs : List BodyNode) (end : Result Status Report) (answered : ℕ)
-    → RanTo run input programs (outside old) (outside mid) end → Tells outside mid new end answered → Ran run input programs (outside old) (outside new) answered
-ran-told {H} outside old mid new run input programs (Ok status) answered is tells =
-    subst (λ (h : H). Ran run input programs (outside old) (outside h) answered) (sym tells.1)
-    (subst (λ (n : ℕ). Ran run input programs (outside old) (outside mid) n) (sym tells.0) (record {
-      shows = λ heap stood. shows-ended run input programs (outside old) (outside mid) (outside mid) heap status (is.comes heap stood);
+-- a program that was run, once the report of its end is output
+pub ran-told : {H : Type 0} (outside : H → Outside (List ℕ)) (old mid new : H) (run : RunOf) (input : List ℕ) (program : BodyNode) (end : Result Status Report) (answered : ℕ)
+    → RanTo run input program (outside old) (outside mid) end → Tells outside mid new end answered → Ran run input program (outside old) (outside new) answered
+ran-told {H} outside old mid new run input program (Ok status) answered is tells =
+    subst (λ (h : H). Ran run input program (outside old) (outside h) answered) (sym tells.1)
+    (subst (λ (n : ℕ). Ran run input program (outside old) (outside mid) n) (sym tells.0) (record {
+      shows = λ heap stood. shows-ended run input program (outside old) (outside mid) (outside mid) heap status (is.comes heap stood);
       caused = is.caused;
       found = is.found;
       attached = is.attached;
     }))
-ran-told outside old mid new run input programs (Err report) answered is tells =
+ran-told outside old mid new run input program (Err report) answered is tells =
     let told = answers_keep (outside mid) (outside new) (line_of report) (number_of (status_of report)) answered tells.0 in
     record {
-      shows = λ heap stood. shows-reported run input programs (outside old) (outside mid) (outside new) heap report answered tells.0 tells.1 (is.comes heap stood);
+      shows = λ heap stood. shows-reported run input program (outside old) (outside mid) (outside new) heap report answered tells.0 tells.1 (is.comes heap stood);
       caused = still-caused (outside old) (outside mid) (outside new) tells.1 told report answered is.counts is.caused tells.0;
       found = is.found;
       attached = still-attached (outside old) (outside mid) (outside new) tells.1 told is.attached;

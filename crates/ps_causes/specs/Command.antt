@@ -1,5 +1,5 @@
 -- What a command answers, and why.
-use Rattle.std.specs.Prelude.{◌≡◌, ℕ, ◌<◌, ◌≤◌, List, [], ◌∷◌, ◌++◌, length, Option, Some, None, Result}
+use Rattle.std.specs.Prelude.{◌≡◌, ℕ, ◌<◌, ◌≤◌, List, [], ◌∷◌, ◌++◌, length, Option, Some, None, option_and_then, Result}
 use Rattle.ps_meaning.specs.ps_base.Limits.{most_text_bytes as LONGEST_TEXT}
 use Rattle.ps_meaning.specs.ps_base.declared.line.Line.{Line}
 use Rattle.ps_meaning.specs.ps_typing.ps_program.Node.{BodyNode}
@@ -41,48 +41,11 @@ abbrev pub HoldsInput : (List ℕ → List ℕ → Type 0) → Option (List ℕ)
 HoldsInput holds None input = input ≡ []
 HoldsInput holds (Some name) input = holds name input × (length input ≤ LONGEST_TEXT)
 
--- the shelf gives a text of this name, and it is this program
-pub record GivesProgram (holds : List ℕ → List ℕ → Type 0) (lacks : List ℕ → Type 0) (name : List ℕ) (program : BodyNode) : Type 0 where
+-- the shelf gives the text of a run, and it is this program
+pub record GivesProgram (holds : List ℕ → List ℕ → Type 0) (lacks : List ℕ → Type 0) (run : RunOf) (program : BodyNode) : Type 0 where
   pub text : List ℕ
-  pub gives : Gives (holds name) (lacks name) text
+  pub gives : Gives (holds run.file) (lacks run.file) text
   pub is : IsProgram text program
-
--- and so of each of these names
-abbrev pub GivePrograms : (List ℕ → List ℕ → Type 0) → (List ℕ → Type 0) → List (List ℕ) → List BodyNode → Type 0
-GivePrograms holds lacks [] [] = Unit {0}
-GivePrograms holds lacks (name ∷ names) (program ∷ programs) = GivesProgram holds lacks name program × GivePrograms holds lacks names programs
-GivePrograms holds lacks names programs = ⊥
-
--- A text of this name is held that isn't too long, and it is this program.
-pub record HoldsProgram (holds : List ℕ → List ℕ → Type 0) (name : List ℕ) (program : BodyNode) : Type 0 where
-  pub text : List ℕ
-  pub held : holds name text
-  pub short : length text ≤ LONGEST_TEXT
-  pub is : IsProgram text program
-
--- and so of each of these names
-abbrev pub HoldPrograms : (List ℕ → List ℕ → Type 0) → List (List ℕ) → List BodyNode → Type 0
-HoldPrograms holds [] [] = Unit {0}
-HoldPrograms holds (name ∷ names) (program ∷ programs) = HoldsProgram holds name program × HoldPrograms holds names programs
-HoldPrograms holds names programs = ⊥
-
--- a name is one of these
-pub record IsAmong (name : List ℕ) (names : List (List ℕ)) : Type 0 where
-  pub before : List (List ℕ)
-  pub behind : List (List ℕ)
-  pub are : names ≡ before ++ name ∷ behind
-
--- the names of the texts that a run is of, in order
-abbrev pub files_of : RunOf → List (List ℕ)
-files_of run = run.file ∷ run.further
-
--- the text of this name comes next: those of the names before it are programs
-pub record IsNext (holds : List ℕ → List ℕ → Type 0) (lacks : List ℕ → Type 0) (run : RunOf) (name : List ℕ) : Type 0 where
-  pub before : List (List ℕ)
-  pub behind : List (List ℕ)
-  pub files_are : files_of run ≡ before ++ name ∷ behind
-  pub programs : List BodyNode
-  pub are : GivePrograms holds lacks before programs
 
 -- Why no text of this name is read: it couldn't be, and the shelf's faults rose in this call; or it is too long.
 pub data IsUnread (holds : List ℕ → Type 0) (lacks may_fail failed : Type 0) (name : List ℕ) : List ℕ → ℕ → Type 0 where
@@ -91,17 +54,30 @@ pub data IsUnread (holds : List ℕ → Type 0) (lacks may_fail failed : Type 0)
 
 -- Why a run isn't begun: what is due then, and the status.
 pub data Unready (run : RunOf) (holds : List ℕ → List ℕ → Type 0) (lacks may_fail : List ℕ → Type 0) (failed : Type 0) : List ℕ → ℕ → Type 0 where
-  -- the text that comes next isn't read
-  no_text : {name bytes : List ℕ} {status : ℕ} → IsNext holds lacks run name → IsUnread (holds name) (lacks name) (may_fail name) failed name bytes status →
+  -- its text isn't read
+  no_text : {bytes : List ℕ} {status : ℕ} → IsUnread (holds run.file) (lacks run.file) (may_fail run.file) failed run.file bytes status →
       Unready run holds lacks may_fail failed bytes status
-  -- it is no program: its first fault
-  refused : {name text stage : List ℕ} {number : ℕ} {line : Line} → IsNext holds lacks run name → Gives (holds name) (lacks name) text → IsSourceFault text stage number line →
-      Unready run holds lacks may_fail failed (fault_line name stage number line) 2
-  -- the texts are programs, and their input isn't read
-  no_input : {name bytes : List ℕ} {status : ℕ} (programs : List BodyNode) → GivePrograms holds lacks (files_of run) programs → run.input ≡ Some name →
+  -- the text is no program: its first fault
+  refused : {text stage : List ℕ} {number : ℕ} {line : Line} → Gives (holds run.file) (lacks run.file) text → IsSourceFault text stage number line →
+      Unready run holds lacks may_fail failed (fault_line run.file stage number line) 2
+  -- the text is a program, and its input isn't read
+  no_input : {program : BodyNode} {name bytes : List ℕ} {status : ℕ} → GivesProgram holds lacks run program → run.input ≡ Some name →
       IsUnread (holds name) (lacks name) (may_fail name) failed name bytes status → Unready run holds lacks may_fail failed bytes status
   -- there was no memory
   no_memory : Unready run holds lacks may_fail failed memory_line 5
+
+-- what the program carries out of what words ask for: a run of more than one text isn't carried out yet, as if the words were no command
+abbrev pub run_done : RunOf → List (List ℕ) → Option CommandOf
+run_done run [] = Some (a_run run)
+run_done run (file ∷ further) = None
+
+abbrev pub done_of : CommandOf → Option CommandOf
+done_of (a_run run) = run_done run run.further
+done_of (a_volume pages) = Some (a_volume pages)
+done_of (a_text text) = Some (a_text text)
+
+abbrev pub carried_out : Option CommandOf → Option CommandOf
+carried_out asked = option_and_then done_of asked
 
 -- What the words ask for, where no program is run, over a shelf that holds these texts, lacks these names, and may fail to read texts of those, and over this device,
 -- calls for these bytes to be output and this status to be answered. `failed` says that the shelf's faults rose in this call. A refusal before the volume is
@@ -116,8 +92,8 @@ pub data Due (asked : Option CommandOf) (holds : List ℕ → List ℕ → Type 
   -- a run isn't begun
   unready : {run : RunOf} {bytes : List ℕ} {status : ℕ} → asked ≡ Some (a_run run) → Unready run holds lacks may_fail failed bytes status → LeavesDevice old new →
       Due asked holds lacks may_fail failed old new bytes status
-  -- the programs and their input were given, and there is no volume to run over: why. One cause is that there was no memory to attach it.
-  unattached : {run : RunOf} (programs : List BodyNode) (input : List ℕ) {cause : OpenFault} → asked ≡ Some (a_run run) → GivePrograms holds lacks (files_of run) programs →
+  -- the program and its input were given, and there is no volume to run over: why. One cause is that there was no memory to attach it.
+  unattached : {run : RunOf} {program : BodyNode} (input : List ℕ) {cause : OpenFault} → asked ≡ Some (a_run run) → GivesProgram holds lacks run program →
       GivesInput holds lacks run.input input → IsWhyNone old new cause → KeepsHeld old new →
       Due asked holds lacks may_fail failed old new (line_of cause) (status_of_cause cause)
   -- a volume was to be made
@@ -135,21 +111,17 @@ abbrev pub LeavesAsAsked : Option CommandOf → Outside (List ℕ) → Outside (
 LeavesAsAsked None old new = Keeps old new
 LeavesAsAsked (Some command) old new = LeavesBy command old new
 
--- Something is due, it is answered, and the device is left as the command leaves it; or programs were run over the volume.
+-- Something is due, it is answered, and the device is left as the command leaves it; or a program was run over the volume.
 pub data Why (old new : Outside (List ℕ)) (asked : Option CommandOf) (holds : List ℕ → List ℕ → Type 0) (lacks may_fail : List ℕ → Type 0) (failed : Type 0) (answered : ℕ) : Type 0 where
   by_words : {bytes : List ℕ} {status : ℕ} → Due asked holds lacks may_fail failed old new bytes status → Answers old new bytes status answered → LeavesAsAsked asked old new →
       Why old new asked holds lacks may_fail failed answered
-  by_run : {run : RunOf} {programs : List BodyNode} {input : List ℕ} → asked ≡ Some (a_run run) → GivePrograms holds lacks (files_of run) programs → GivesInput holds lacks run.input input →
-      Ran run input programs old new answered → Why old new asked holds lacks may_fail failed answered
+  by_run : {run : RunOf} {program : BodyNode} {input : List ℕ} → asked ≡ Some (a_run run) → GivesProgram holds lacks run program → GivesInput holds lacks run.input input →
+      Ran run input program old new answered → Why old new asked holds lacks may_fail failed answered
 
--- the names that a run reads: those of its texts, and that of its input
+-- the names that a run reads: that of its text, and that of its input
 pub data IsRead (run : RunOf) : List ℕ → Type 0 where
-  text : {name : List ℕ} → IsAmong name (files_of run) → IsRead run name
+  text : IsRead run run.file
   input : {name : List ℕ} → run.input ≡ Some name → IsRead run name
-
--- the names that are read up to one, after these
-abbrev pub IsUpTo : List (List ℕ) → List ℕ → List ℕ → Type 0
-IsUpTo before name other = IsAmong other (before ++ name ∷ [])
 
 -- What is answered was due in this sense.
 abbrev pub Answered : Outside (List ℕ) → Outside (List ℕ) → (List ℕ → ℕ → Type 0) → ℕ → Type 0
@@ -173,10 +145,10 @@ pub data GetsOrFails (device_failed : Type 0) (told : List ℕ) (due : ℕ) : Li
   no_memory : GetsOrFails device_failed told due memory_line 5
   no_device : device_failed → GetsOrFails device_failed told due device_line 6
 
--- The programs are run with this input; or there was no memory; or a name that is read may fail to be, and the shelf's faults rose; or the device failed; or the output.
-pub data GetsRun (run : RunOf) (input : List ℕ) (programs : List BodyNode) (may_fail : List ℕ → Type 0) (failed : Type 0) (old new : Outside (List ℕ)) (answered : ℕ) : Type 0 where
-  own : Ran run input programs old new answered → GetsRun run input programs may_fail failed old new answered
-  no_memory : Answers old new memory_line 5 answered → GetsRun run input programs may_fail failed old new answered
+-- The program is run with this input; or there was no memory; or a name that is read may fail to be, and the shelf's faults rose; or the device failed; or the output.
+pub data GetsRun (run : RunOf) (input : List ℕ) (program : BodyNode) (may_fail : List ℕ → Type 0) (failed : Type 0) (old new : Outside (List ℕ)) (answered : ℕ) : Type 0 where
+  own : Ran run input program old new answered → GetsRun run input program may_fail failed old new answered
+  no_memory : Answers old new memory_line 5 answered → GetsRun run input program may_fail failed old new answered
   unreadable : {name : List ℕ} → IsRead run name → may_fail name → failed → Answers old new (unreadable_line name) 7 answered →
-      GetsRun run input programs may_fail failed old new answered
-  no_device : Rose old.device_faults new.device_faults → Answers old new device_line 6 answered → GetsRun run input programs may_fail failed old new answered
+      GetsRun run input program may_fail failed old new answered
+  no_device : Rose old.device_faults new.device_faults → Answers old new device_line 6 answered → GetsRun run input program may_fail failed old new answered

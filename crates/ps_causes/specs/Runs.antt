@@ -1,4 +1,4 @@
--- What a call that ran programs over a volume, one after another, shows and answers.
+-- What a call that ran a program over a volume shows and answers.
 use Rattle.std.specs.Prelude.{◌≡◌, ℕ, ◌+◌, ◌*◌, ◌<◌, ◌≤◌, List, [], ◌∷◌, ◌++◌, Option, Some, None}
 use Rattle.device_runs.specs.session_meaning.session_run.commit_moments.Steps.{Step, broken, output_by}
 use Rattle.device_runs.specs.session_meaning.session_run.commit_moments.Shown.{ShowsSince}
@@ -9,15 +9,14 @@ use Rattle.ps_volumes.specs.ps_reports.Answering.{Answers}
 use Rattle.ps_volumes.specs.ps_reports.Reports.{area_full_line, volume_full_line, damaged_line, device_line}
 use Rattle.ps_volumes.specs.Attaching.{HasVolume}
 use Rattle.ps_meaning.specs.ps_heap.Ends.{End, status_of}
-use Rattle.ps_meaning.specs.ps_heap.Events.{Event, Commit, Finish}
+use Rattle.ps_meaning.specs.ps_heap.Events.{Event, Commit}
 use Rattle.ps_meaning.specs.ps_heap.Held.{StoredHeap}
 use Rattle.ps_meaning.specs.ps_heap.Weights.{code_weight}
+use Rattle.ps_meaning.specs.Runs.{run_events, run_end}
 use Rattle.ps_unit_weights.specs.ps_gen.Units.{unit_of}
 use Rattle.ps_unit_weights.specs.proc_values.Units.{unit_objects}
-use Rattle.device_runs.specs.session_meaning.unit_meaning.Programs.{begin_over}
+use Rattle.device_runs.specs.session_meaning.unit_meaning.Programs.{given_over, begin_over}
 use Rattle.device_runs.specs.session_meaning.Meant.{steps_meant}
-use Rattle.device_runs.specs.session_meaning.Series as series
-use Rattle.device_runs.specs.session_meaning.Series.{series_of}
 use Rattle.device_runs.specs.session_meaning.session_run.machine_core.ps_stepping.Config.{Config}
 use Rattle.device_runs.specs.session_meaning.session_run.machine_core.ps_stepping.Machine as machine
 use Rattle.device_runs.specs.session_meaning.session_run.machine_core.ps_stepping.Machine.{Steps}
@@ -43,35 +42,22 @@ abbrev pub commit_of : Event → Option StoredHeap
 commit_of (Commit heap counted) = Some heap
 commit_of event = None
 
--- Programs that are run one after another over a heap, each with this input.
-module _ (run : RunOf) (input : List ℕ) (programs : List BodyNode) (heap : StoredHeap) where
+-- A program that is run over a heap, with this input.
+module _ (run : RunOf) (input : List ℕ) (program : BodyNode) (heap : StoredHeap) where
   abbrev pub events_of : List Event
-  events_of = series_of run.turns input programs heap
+  events_of = run_events (given_over run.turns input heap) program
 
-  -- After these events of the others a program is under way, over a heap that is the same but for ids as the one that is kept then, and came to this step.
-  pub record IsAtStep (before : List Event) (s : machine.Step) : Type 0 where
-    pub started : List Event
-    pub own : List Event
-    pub before_are : before ≡ started ++ own
-    pub program : BodyNode
-    pub kept : StoredHeap
-    pub reached : series.Reaches run.turns input programs heap started program kept
-    pub like : StoredHeap
-    pub same : IsSame kept like
-    pub events : List Event
-    pub last : Config
-    pub way : Reaches (begin_over run.turns input program like) events last
-    pub takes : Steps last s
-
-  -- The object for which the area had no room, by its next word and the words of the object: one of the unit of the program that is next, which lie from word 1 on
-  -- and end within what the program's code counts; or one that the step makes to which a program came, or a node of the pair that it enters into a table, or one of
-  -- the error record or of the table that a call on databases makes; or one that was to be fetched.
+  -- The object for which the area had no room, by its next word and the words of the object: one of the program's unit, which lie from word 1 on and end within what
+  -- the program's code counts; or one that the step makes to which the run came, or a node of the pair that it enters into a table, or one of the error record or of
+  -- the table that a call on databases makes; or one that was to be fetched.
   pub data IsWanted (before : List Event) (top wanted : ℕ) : Type 0 where
-    of_a_unit : {program : BodyNode} {kept : StoredHeap} → series.Reaches run.turns input programs heap before program kept → EndsBefore (unit_objects 1 (unit_of program)) top wanted
-        → 8 * (top + wanted) ≤ code_weight program → IsWanted before top wanted
-    of_a_step : {s : machine.Step} → IsAtStep before s → MakesOne s wanted → IsWanted before top wanted
-    of_an_entry : {s : machine.Step} → IsAtStep before s → EntersOne s wanted → IsWanted before top wanted
-    of_a_call : {s : machine.Step} → IsAtStep before s → Counts s wanted → IsWanted before top wanted
+    of_the_unit : before ≡ [] → EndsBefore (unit_objects 1 (unit_of program)) top wanted → 8 * (top + wanted) ≤ code_weight program → IsWanted before top wanted
+    of_a_step : {like : StoredHeap} {events : List Event} {last : Config} {s : machine.Step} → IsSame heap like → Reaches (begin_over run.turns input program like) events last
+        → Steps last s → MakesOne s wanted → IsWanted before top wanted
+    of_an_entry : {like : StoredHeap} {events : List Event} {last : Config} {s : machine.Step} → IsSame heap like → Reaches (begin_over run.turns input program like) events last
+        → Steps last s → EntersOne s wanted → IsWanted before top wanted
+    of_a_call : {like : StoredHeap} {events : List Event} {last : Config} {s : machine.Step} → IsSame heap like → Reaches (begin_over run.turns input program like) events last
+        → Steps last s → Counts s wanted → IsWanted before top wanted
     of_a_fetch : IsWanted before top wanted
 
   -- Why a run stopped before an event, with the line and the status of its report.
@@ -83,10 +69,10 @@ module _ (run : RunOf) (input : List ℕ) (programs : List BodyNode) (heap : Sto
         → Stops old new before next (volume_full_line used wanted capacity) 12
     of_an_object : {saved : StoredHeap} {counted : ℕ} (at found bound : ℕ) → next ≡ Commit saved counted → Stops old new before next (damaged_line at found bound) 10
 
-  -- What is shown, and the status: all events, and that of the last, which is an end; or those before one that it stopped at, and then the line of its report, where a commit was
+  -- What it shows, and the status: all its events, and that of its end; or those before one that it stopped at, and then the line of its report, where a commit was
   -- under way with what that was to keep.
   pub data RunsTo (old new : Outside (List ℕ)) : List (Step StoredHeap) → ℕ → Type 0 where
-    its_end : (before : List Event) (e : End) (counted : ℕ) → events_of ≡ before ++ Finish e counted ∷ [] → RunsTo old new (steps_meant events_of) (status_of e)
+    its_end : RunsTo old new (steps_meant events_of) (status_of (run_end (given_over run.turns input heap) program))
     stopped : {before : List Event} {next : Event} {line : List ℕ} {status : ℕ} (rest : List Event) → events_of ≡ before ++ next ∷ rest → Stops old new before next line status
         → RunsTo old new (steps_meant before ++ broken line (commit_of next) ∷ []) status
 
@@ -99,7 +85,7 @@ module _ (run : RunOf) (input : List ℕ) (programs : List BodyNode) (heap : Sto
     pub shown : ShowsSince Stands heap old new steps
     pub answers : Answers old new (output_by steps) status answered
 
--- Why this is answered, whatever the volume stood for: the end of a program; or the device failed, or the output, whose count rose; or an object was damaged, the area was
+-- Why this is answered, whatever the volume stood for: a program's end; or the device failed, or the output, whose count rose; or an object was damaged, the area was
 -- full, or the volume, by these numbers.
 pub data IsCaused (old new : Outside (List ℕ)) : ℕ → Type 0 where
   an_end : (e : End) → IsCaused old new (status_of e)
@@ -117,9 +103,9 @@ pub record AttachesAt (old new : Outside (List ℕ)) : Type 0 where
   pub before : (m : ℕ) (image : List ℕ) → old.clock ≤ m → m < since → new.images m image → old.images old.clock image
   pub silent : (m : ℕ) (bytes : List ℕ) → old.clock ≤ m → m < since → new.told m bytes → old.told old.clock bytes
 
--- The programs were run: what is shown over each heap for which the volume stood, why this is answered, that a volume was found, and from when on.
-pub record Ran (run : RunOf) (input : List ℕ) (programs : List BodyNode) (old new : Outside (List ℕ)) (answered : ℕ) : Type 0 where
-  pub shows : (heap : StoredHeap) → StoodFor old heap → ShowsRun run input programs heap old new answered
+-- The program was run: what is shown over each heap for which the volume stood, why this is answered, that a volume was found, and from when on.
+pub record Ran (run : RunOf) (input : List ℕ) (program : BodyNode) (old new : Outside (List ℕ)) (answered : ℕ) : Type 0 where
+  pub shows : (heap : StoredHeap) → StoodFor old heap → ShowsRun run input program heap old new answered
   pub caused : IsCaused old new answered
   pub found : (bytes : List ℕ) → old.contents bytes → HasVolume bytes
   pub attached : AttachesAt old new

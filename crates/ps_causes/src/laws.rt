@@ -1,5 +1,5 @@
 //! Laws of the answers. `host` is the host that was handed in, and `back` the one that comes back.
-ghost use Rattle.std.specs.Prelude.{◌≡◌, ◌≤◌, ◌<◌, List, ℕ, Some, None, [], ◌∷◌, ◌++◌, length};
+ghost use Rattle.std.specs.Prelude.{◌≡◌, ◌≤◌, ◌<◌, List, ℕ, Some, None, [], length};
 ghost use Rattle.ps_meaning.specs.ps_typing.ps_program.Node.{BodyNode};
 ghost use Rattle.ps_meaning.specs.ps_base.Limits.{most_text_bytes as LONGEST_TEXT};
 ghost use Rattle.ps_meaning.specs.ps_base.declared.line.Line.{Line};
@@ -11,7 +11,7 @@ ghost use Rattle.ps_volumes.specs.ps_reports.Answering.{Answers};
 ghost use Rattle.ps_volumes.specs.ps_reports.Reports.{usage_line, unreadable_line, too_long_line, fault_line, not_a_volume_line, damaged_line, already_line};
 ghost use Rattle.ps_volumes.specs.Attaching.{HasVolume};
 ghost use Rattle.ps_volumes.specs.Making.{IsOpen};
-ghost use Rattle.ps_causes.specs.Command.{Answered, Gets, GetsOrFails, GetsOrLacks, GetsRun, HoldPrograms, HoldsInput, IsRead, IsUpTo, Why, files_of};
+ghost use Rattle.ps_causes.specs.Command.{Answered, Gets, GetsOrFails, GetsOrLacks, GetsRun, HoldsInput, IsRead, Why};
 ghost use Rattle.ps_causes.specs.Source.{IsProgram, IsSourceFault};
 
 use ps_port::{Host, Shelf};
@@ -26,48 +26,48 @@ pub fn text_is_told<H: Host, S: Shelf>(host: &H, back: &H, shelf: &S)
     ensures { (before after answered : ℕ) (text : List ℕ) → Why (H.outside host.now) (H.outside back.now) (Some (a_text text)) (S.holds shelf.now) (S.lacks shelf.now) (S.may_fail shelf.now) (Rose before after) answered → Answered (H.outside host.now) (H.outside back.now) (GetsOrLacks text 0) answered }
 {}
 
-/// The name that comes next, after texts that are programs, and that the shelf lacks gets 7; or there was no memory, or the shelf failed.
+/// A name that the shelf lacks gets 7, or the refusal for want of memory.
 pub fn lacked_name_is_unreadable<H: Host, S: Shelf>(host: &H, back: &H, shelf: &S)
-    ensures { (before after answered : ℕ) (run : RunOf) (names behind : List (List ℕ)) (programs : List BodyNode) (name : List ℕ) → files_of run ≡ names ++ name ∷ behind → HoldPrograms (S.holds shelf.now) names programs → S.lacks shelf.now name → Why (H.outside host.now) (H.outside back.now) (Some (a_run run)) (S.holds shelf.now) (S.lacks shelf.now) (S.may_fail shelf.now) (Rose before after) answered → Answered (H.outside host.now) (H.outside back.now) (Gets (IsUpTo names name) (S.may_fail shelf.now) (Rose before after) ⊥ (unreadable_line name) 7) answered }
+    ensures { (before after answered : ℕ) (run : RunOf) → S.lacks shelf.now run.file → Why (H.outside host.now) (H.outside back.now) (Some (a_run run)) (S.holds shelf.now) (S.lacks shelf.now) (S.may_fail shelf.now) (Rose before after) answered → Answered (H.outside host.now) (H.outside back.now) (Gets (λ name. name ≡ run.file) (S.may_fail shelf.now) (Rose before after) ⊥ (unreadable_line run.file) 7) answered }
 {}
 
-/// The text that comes next, after texts that are programs, and that the shelf holds and is too long gets 13; or there was no memory, or the shelf failed.
+/// A text that the shelf holds and that is too long gets 13; or there was no memory, or the shelf failed.
 pub fn long_text_is_refused<H: Host, S: Shelf>(host: &H, back: &H, shelf: &S)
-    ensures { (before after answered : ℕ) (run : RunOf) (names behind : List (List ℕ)) (programs : List BodyNode) (name : List ℕ) → files_of run ≡ names ++ name ∷ behind → HoldPrograms (S.holds shelf.now) names programs → (text : List ℕ) → S.holds shelf.now name text → LONGEST_TEXT < length text → Why (H.outside host.now) (H.outside back.now) (Some (a_run run)) (S.holds shelf.now) (S.lacks shelf.now) (S.may_fail shelf.now) (Rose before after) answered → Answered (H.outside host.now) (H.outside back.now) (Gets (IsUpTo names name) (S.may_fail shelf.now) (Rose before after) ⊥ (too_long_line name (length text)) 13) answered }
+    ensures { (before after answered : ℕ) (text : List ℕ) (run : RunOf) → S.holds shelf.now run.file text → LONGEST_TEXT < length text → Why (H.outside host.now) (H.outside back.now) (Some (a_run run)) (S.holds shelf.now) (S.lacks shelf.now) (S.may_fail shelf.now) (Rose before after) answered → Answered (H.outside host.now) (H.outside back.now) (Gets (λ name. name ≡ run.file) (S.may_fail shelf.now) (Rose before after) ⊥ (too_long_line run.file (length text)) 13) answered }
 {}
 
-/// The text that comes next, after texts that are programs, and that the shelf holds and has a first fault gets 2, with the stage, the number and the line
-/// of that fault; or there was no memory, or the shelf failed. None of them is ever run.
+/// A text that the shelf holds and that has a first fault gets 2, with the stage, the number and the line
+/// of that fault; or there was no memory, or the shelf failed. It is never run.
 pub fn first_fault_is_told<H: Host, S: Shelf>(host: &H, back: &H, shelf: &S)
-    ensures { (before after answered : ℕ) (run : RunOf) (names behind : List (List ℕ)) (programs : List BodyNode) (name : List ℕ) → files_of run ≡ names ++ name ∷ behind → HoldPrograms (S.holds shelf.now) names programs → (text stage : List ℕ) (number : ℕ) (line : Line) → S.holds shelf.now name text → length text ≤ LONGEST_TEXT → IsSourceFault text stage number line → Why (H.outside host.now) (H.outside back.now) (Some (a_run run)) (S.holds shelf.now) (S.lacks shelf.now) (S.may_fail shelf.now) (Rose before after) answered → Answered (H.outside host.now) (H.outside back.now) (Gets (IsUpTo names name) (S.may_fail shelf.now) (Rose before after) ⊥ (fault_line name stage number line) 2) answered }
+    ensures { (before after answered : ℕ) (text stage : List ℕ) (run : RunOf) (number : ℕ) (line : Line) → S.holds shelf.now run.file text → length text ≤ LONGEST_TEXT → IsSourceFault text stage number line → Why (H.outside host.now) (H.outside back.now) (Some (a_run run)) (S.holds shelf.now) (S.lacks shelf.now) (S.may_fail shelf.now) (Rose before after) answered → Answered (H.outside host.now) (H.outside back.now) (Gets (λ name. name ≡ run.file) (S.may_fail shelf.now) (Rose before after) ⊥ (fault_line run.file stage number line) 2) answered }
 {}
 
-/// Texts that the shelf holds and that are programs are run, one after another, where the shelf holds their input too, or they have none, and the host tells of a volume;
-/// or there was no memory, or the shelf failed, or the device. They are never refused.
-pub fn programs_are_run<H: Host, S: Shelf>(host: &H, back: &H, shelf: &S)
-    ensures { (before after answered : ℕ) (run : RunOf) (programs : List BodyNode) (input : List ℕ) → HoldPrograms (S.holds shelf.now) (files_of run) programs → HoldsInput (S.holds shelf.now) run.input input → (content : List ℕ) → (H.outside host.now).contents content → HasVolume content → Why (H.outside host.now) (H.outside back.now) (Some (a_run run)) (S.holds shelf.now) (S.lacks shelf.now) (S.may_fail shelf.now) (Rose before after) answered → GetsRun run input programs (S.may_fail shelf.now) (Rose before after) (H.outside host.now) (H.outside back.now) answered }
+/// A text that the shelf holds and that is a program is run, where the shelf holds its input too, or it has none, and the host tells of a volume; or there was no
+/// memory, or the shelf failed, or the device. It is never refused.
+pub fn program_is_run<H: Host, S: Shelf>(host: &H, back: &H, shelf: &S)
+    ensures { (before after answered : ℕ) (text input : List ℕ) (run : RunOf) (program : BodyNode) → S.holds shelf.now run.file text → length text ≤ LONGEST_TEXT → IsProgram text program → HoldsInput (S.holds shelf.now) run.input input → (content : List ℕ) → (H.outside host.now).contents content → HasVolume content → Why (H.outside host.now) (H.outside back.now) (Some (a_run run)) (S.holds shelf.now) (S.lacks shelf.now) (S.may_fail shelf.now) (Rose before after) answered → GetsRun run input program (S.may_fail shelf.now) (Rose before after) (H.outside host.now) (H.outside back.now) answered }
 {}
 
-/// Such programs whose input is a name that the shelf lacks get 7, with that name; or there was no memory, or the shelf failed.
+/// A program whose input is a name that the shelf lacks gets 7, with that name; or there was no memory, or the shelf failed.
 pub fn lacked_input_is_unreadable<H: Host, S: Shelf>(host: &H, back: &H, shelf: &S)
-    ensures { (before after answered : ℕ) (run : RunOf) (programs : List BodyNode) (name : List ℕ) → HoldPrograms (S.holds shelf.now) (files_of run) programs → run.input ≡ Some name → S.lacks shelf.now name → Why (H.outside host.now) (H.outside back.now) (Some (a_run run)) (S.holds shelf.now) (S.lacks shelf.now) (S.may_fail shelf.now) (Rose before after) answered → Answered (H.outside host.now) (H.outside back.now) (Gets (IsRead run) (S.may_fail shelf.now) (Rose before after) ⊥ (unreadable_line name) 7) answered }
+    ensures { (before after answered : ℕ) (text name : List ℕ) (run : RunOf) (program : BodyNode) → S.holds shelf.now run.file text → length text ≤ LONGEST_TEXT → IsProgram text program → run.input ≡ Some name → S.lacks shelf.now name → Why (H.outside host.now) (H.outside back.now) (Some (a_run run)) (S.holds shelf.now) (S.lacks shelf.now) (S.may_fail shelf.now) (Rose before after) answered → Answered (H.outside host.now) (H.outside back.now) (Gets (IsRead run) (S.may_fail shelf.now) (Rose before after) ⊥ (unreadable_line name) 7) answered }
 {}
 
-/// Such programs whose input is a text that the shelf holds and that is too long get 13, with the name and the size of that text; or there was no
+/// A program whose input is a text that the shelf holds and that is too long gets 13, with the name and the size of that text; or there was no
 /// memory, or the shelf failed.
 pub fn long_input_is_refused<H: Host, S: Shelf>(host: &H, back: &H, shelf: &S)
-    ensures { (before after answered : ℕ) (run : RunOf) (programs : List BodyNode) (name input : List ℕ) → HoldPrograms (S.holds shelf.now) (files_of run) programs → run.input ≡ Some name → S.holds shelf.now name input → LONGEST_TEXT < length input → Why (H.outside host.now) (H.outside back.now) (Some (a_run run)) (S.holds shelf.now) (S.lacks shelf.now) (S.may_fail shelf.now) (Rose before after) answered → Answered (H.outside host.now) (H.outside back.now) (Gets (IsRead run) (S.may_fail shelf.now) (Rose before after) ⊥ (too_long_line name (length input)) 13) answered }
+    ensures { (before after answered : ℕ) (text name input : List ℕ) (run : RunOf) (program : BodyNode) → S.holds shelf.now run.file text → length text ≤ LONGEST_TEXT → IsProgram text program → run.input ≡ Some name → S.holds shelf.now name input → LONGEST_TEXT < length input → Why (H.outside host.now) (H.outside back.now) (Some (a_run run)) (S.holds shelf.now) (S.lacks shelf.now) (S.may_fail shelf.now) (Rose before after) answered → Answered (H.outside host.now) (H.outside back.now) (Gets (IsRead run) (S.may_fail shelf.now) (Rose before after) ⊥ (too_long_line name (length input)) 13) answered }
 {}
 
-/// Such programs over a host that tells of a file that is no volume get 9, with the size of the file and its byte 0; or there was no memory, or
+/// Such a program over a host that tells of a file that is no volume gets 9, with the size of the file and its byte 0; or there was no memory, or
 /// the shelf failed, or the device.
 pub fn no_volume_is_refused<H: Host, S: Shelf>(host: &H, back: &H, shelf: &S)
-    ensures { (before after answered : ℕ) (run : RunOf) (programs : List BodyNode) (input : List ℕ) → HoldPrograms (S.holds shelf.now) (files_of run) programs → HoldsInput (S.holds shelf.now) run.input input → (content : List ℕ) (size gate : ℕ) → (H.outside host.now).contents content → found_in content ≡ no_volume size gate → Why (H.outside host.now) (H.outside back.now) (Some (a_run run)) (S.holds shelf.now) (S.lacks shelf.now) (S.may_fail shelf.now) (Rose before after) answered → Answered (H.outside host.now) (H.outside back.now) (Gets (IsRead run) (S.may_fail shelf.now) (Rose before after) (Rose (H.outside host.now).device_faults (H.outside back.now).device_faults) (not_a_volume_line size gate) 9) answered }
+    ensures { (before after answered : ℕ) (text input : List ℕ) (run : RunOf) (program : BodyNode) → S.holds shelf.now run.file text → length text ≤ LONGEST_TEXT → IsProgram text program → HoldsInput (S.holds shelf.now) run.input input → (content : List ℕ) (size gate : ℕ) → (H.outside host.now).contents content → found_in content ≡ no_volume size gate → Why (H.outside host.now) (H.outside back.now) (Some (a_run run)) (S.holds shelf.now) (S.lacks shelf.now) (S.may_fail shelf.now) (Rose before after) answered → Answered (H.outside host.now) (H.outside back.now) (Gets (IsRead run) (S.may_fail shelf.now) (Rose before after) (Rose (H.outside host.now).device_faults (H.outside back.now).device_faults) (not_a_volume_line size gate) 9) answered }
 {}
 
-/// And over one that tells of a damaged volume they get 10, with the first test that fails: the place of the number, the number, and its bound.
+/// And over one that tells of a damaged volume it gets 10, with the first test that fails: the place of the number, the number, and its bound.
 pub fn damaged_volume_is_refused<H: Host, S: Shelf>(host: &H, back: &H, shelf: &S)
-    ensures { (before after answered : ℕ) (run : RunOf) (programs : List BodyNode) (input : List ℕ) → HoldPrograms (S.holds shelf.now) (files_of run) programs → HoldsInput (S.holds shelf.now) run.input input → (content : List ℕ) (at found wanted : ℕ) → (H.outside host.now).contents content → found_in content ≡ damaged (damage at found wanted) → Why (H.outside host.now) (H.outside back.now) (Some (a_run run)) (S.holds shelf.now) (S.lacks shelf.now) (S.may_fail shelf.now) (Rose before after) answered → Answered (H.outside host.now) (H.outside back.now) (Gets (IsRead run) (S.may_fail shelf.now) (Rose before after) (Rose (H.outside host.now).device_faults (H.outside back.now).device_faults) (damaged_line at found wanted) 10) answered }
+    ensures { (before after answered : ℕ) (text input : List ℕ) (run : RunOf) (program : BodyNode) → S.holds shelf.now run.file text → length text ≤ LONGEST_TEXT → IsProgram text program → HoldsInput (S.holds shelf.now) run.input input → (content : List ℕ) (at found wanted : ℕ) → (H.outside host.now).contents content → found_in content ≡ damaged (damage at found wanted) → Why (H.outside host.now) (H.outside back.now) (Some (a_run run)) (S.holds shelf.now) (S.lacks shelf.now) (S.may_fail shelf.now) (Rose before after) answered → Answered (H.outside host.now) (H.outside back.now) (Gets (IsRead run) (S.may_fail shelf.now) (Rose before after) (Rose (H.outside host.now).device_faults (H.outside back.now).device_faults) (damaged_line at found wanted) 10) answered }
 {}
 
 /// A new volume over a host that tells of a file that is no volume is made: 0, and nothing is output; or there was no memory, or the device failed.

@@ -1,9 +1,7 @@
 -- Why each end of a command comes.
-use Rattle.std.proofs.Common.{◌≡◌, ℕ, ◌+◌, ◌<◌, ◌≤◌, ◌↔◌, inl, inr, List, [], ◌∷◌, ◌++◌, Option, Some, None, refl, sym, ap, ◌∙◌, subst, arith}
-use Rattle.std.specs.Prelude.{Result, Ok, Err, OnOk, IfErr, IsErrOf, IsErrAnd, codes, drop, get_or, length, map, suc, take}
+use Rattle.std.proofs.Common.{◌≡◌, ℕ, ◌≤◌, ◌↔◌, inl, inr, List, [], ◌∷◌, Option, Some, None, refl, sym, ap, ◌∙◌, subst, arith}
+use Rattle.std.specs.Prelude.{Result, Ok, Err, IfErr, IsErrOf, IsErrAnd, codes, map}
 use Rattle.std.proofs.lemmas.Result.{err_from_is_err_and}
-use Rattle.std.proofs.lemmas.List.{drop_more, map-append, take_more, take-append-drop}
-use Rattle.std.specs.Borrow.{Bor}
 use Rattle.ps_base.specs.Limits.{most_text_bytes as LONGEST_TEXT}
 use Rattle.ps_program.specs.Node.{BodyNode}
 use Rattle.ps_base.specs.declared.line.Line.{Line}
@@ -43,16 +41,11 @@ use Rattle.ps_causes.specs.ps_volumes.Making.{Makes}
 use Rattle.ps_causes.proofs.of_ps_volumes.Settled.{device_kept, held_kept}
 use Rattle.ps_causes.specs.Source.{IsProgram, IsSourceFault, in_scan, in_parse, in_check}
 use Rattle.ps_causes.specs.Source as told
-use Rattle.ps_causes.specs.Command.{Gives, GivesTooLong, GivesInput, GivePrograms, IsNext, IsUnread, Unready, Due, LeavesAsAsked, files_of}
-use Rattle.ps_causes.specs.Steps.{RefusalWhy, ProgramsWhy, UnreadWhy, WhyEnds}
+use Rattle.ps_causes.specs.Command.{Gives, GivesTooLong, GivesInput, GivesProgram, IsUnread, Unready, Due, LeavesAsAsked, carried_out, run_done}
+use Rattle.ps_causes.specs.Steps.{RefusalWhy, ProgramWhy, UnreadWhy, WhyEnds}
 use Rattle.ps_causes.specs.Steps as steps
 use Rattle.ps_command.specs.inside.Refusal.{Refuses, stage_of, number_of, line_of_fault}
-use Rattle.ps_base.specs.declared.code_unit.CodeUnit.{CodeUnit}
-use Rattle.std.specs.declared.alloc.Global.{Global}
-use Rattle.std.specs.declared.vec.Vec.{Vec}
-use Rattle.ps_series.specs.Programs.{AreInputs}
-use Rattle.ps_command.specs.inside.Steps as inside
-use Rattle.ps_command.specs.inside.Steps.{AreRunnable, GivesUnit, GiveUnits, IsInputUnread, UnreadyAmong, UnreadyBy}
+use Rattle.ps_command.specs.inside.Steps.{IsInputUnread}
 use Rattle.ps_command.specs.inside.Words.{report_of}
 
 -- a number says that the refusal is no want of memory
@@ -130,7 +123,7 @@ module _ (holds holds' : List ℕ → List ℕ → Type 0) (lacks lacks' may_fai
   input_on (Some name) bytes g = gives_on name bytes g
 
   module _ (failed failed' : Type 0) (so : failed → failed') where
-    pub unread_on : (name bytes : List ℕ) (status : ℕ) → UnreadWhy (holds name) (lacks name) (may_fail name) failed name bytes status
+    unread_on : (name bytes : List ℕ) (status : ℕ) → UnreadWhy (holds name) (lacks name) (may_fail name) failed name bytes status
         → UnreadWhy (holds' name) (lacks' name) (may_fail' name) failed' name bytes status
     unread_on name bytes status (steps.unread (IsUnread.unreadable may rose)) = steps.unread (IsUnread.unreadable ((may_too name).0 may) (so rose))
     unread_on name bytes status (steps.unread (IsUnread.too_long {size = size} g)) = steps.unread (IsUnread.too_long (too_long_on name size g))
@@ -146,95 +139,25 @@ pub rose_from : (before middle after : ℕ) → before ≤ middle → Rose middl
 rose_from before middle after counted (inl less) = inl (omega (arith, less, counted))
 rose_from before middle after counted (inr last) = inr last
 
--- what is so of an error is so by what follows from it
-pub err-by : {T E : Type 0} (r : Result T E) (P Q : E → Type 0) → ((e : E) → P e → Q e) → IfErr r P → IfErr r Q
-err-by (Ok x) P Q by is = tt
-err-by (Err e) P Q by is = by e is
-
-pub ok-by : {T E : Type 0} (r : Result T E) (P Q : Type 0) → (P → Q) → OnOk r P → OnOk r Q
-ok-by (Ok x) P Q by is = by is
-ok-by (Err e) P Q by is = tt
-
--- units of names, and of one more
-pub units-added : (holds : List ℕ → List ℕ → Type 0) (lacks : List ℕ → Type 0) (names : List (List ℕ)) (units : List CodeUnit) (name : List ℕ) (unit : CodeUnit)
-    → GiveUnits holds lacks names units → GivesUnit holds lacks name unit → GiveUnits holds lacks (names ++ name ∷ []) (units ++ unit ∷ [])
-units-added holds lacks [] [] name unit are is = (is, tt)
-units-added holds lacks [] (first ∷ units) name unit are is = absurd are
-units-added holds lacks (first ∷ names) [] name unit are is = absurd are
-units-added holds lacks (first ∷ names) (second ∷ units) name unit are is = (are.0, units-added holds lacks names units name unit are.1 is)
-
--- The name of a place among these, those before it and those after it.
-pub names-parted : (xs : List (Bor (List ℕ))) (i : ℕ) (d : Bor (List ℕ)) → i < length xs
-    → map (λ name. name.now) xs ≡ map (λ name. name.now) (take i xs) ++ (get_or xs i d).now ∷ map (λ name. name.now) (drop (i + 1) xs)
-names-parted xs i d below =
-    ap (map (λ name. name.now)) (sym (take-append-drop i xs) ∙ ap (λ (ys : List (Bor (List ℕ))). take i xs ++ ys) (drop_more xs i d below))
-    ∙ map-append (λ name. name.now) (take i xs) (get_or xs i d ∷ drop (i + 1) xs)
-
-pub names-more : (xs : List (Bor (List ℕ))) (i : ℕ) (d : Bor (List ℕ)) → i < length xs
-    → map (λ name. name.now) (take (i + 1) xs) ≡ map (λ name. name.now) (take i xs) ++ (get_or xs i d).now ∷ []
-names-more xs i d below = ap (map (λ name. name.now)) (take_more xs i d below) ∙ map-append (λ name. name.now) (take i xs) (get_or xs i d ∷ [])
-
--- so many inputs, and one more
-pub inputs-added : (input : List ℕ) (inputs : List (Vec ℕ Global)) (bytes : Vec ℕ Global) → AreInputs input inputs → bytes.items ≡ input → AreInputs input (inputs ++ bytes ∷ [])
-inputs-added input [] bytes are is = (is, tt)
-inputs-added input (first ∷ inputs) bytes are is = (are.0, inputs-added input inputs bytes are.1 is)
-
--- The units of some texts, over one shelf and over another that gives the same.
-module _ (holds holds' : List ℕ → List ℕ → Type 0) (lacks lacks' may_fail may_fail' : List ℕ → Type 0) (same : (q t : List ℕ) → holds q t ↔ holds' q t)
-    (also : (q : List ℕ) → lacks q ↔ lacks' q) (may_too : (q : List ℕ) → may_fail q ↔ may_fail' q) where
-  pub unit_on : (name : List ℕ) (unit : CodeUnit) → GivesUnit holds lacks name unit → GivesUnit holds' lacks' name unit
-  unit_on name unit g = record {
-    program = g.program;
-    runnable = g.runnable;
-    gives = record { text = g.gives.text; gives = gives_on holds holds' lacks lacks' may_fail may_fail' same also may_too name g.gives.text g.gives.gives; is = g.gives.is };
-  }
-
-  pub unready_on : (failed failed' : Type 0) → (failed → failed') → (name bytes : List ℕ) (status : ℕ) → UnreadyBy holds lacks may_fail failed name bytes status
-      → UnreadyBy holds' lacks' may_fail' failed' name bytes status
-  unready_on failed failed' so name bytes status (inside.not_read why) =
-      inside.not_read (unread_on holds holds' lacks lacks' may_fail may_fail' same also may_too failed failed' so name bytes status why)
-  unready_on failed failed' so name bytes status (inside.no_program {text = text} gives why) =
-      inside.no_program (gives_on holds holds' lacks lacks' may_fail may_fail' same also may_too name text gives) why
-
--- the programs of units that are given
-pub programs-given : (holds : List ℕ → List ℕ → Type 0) (lacks : List ℕ → Type 0) (names : List (List ℕ)) (units : List CodeUnit) → GiveUnits holds lacks names units
-    → (programs : List BodyNode) × GivePrograms holds lacks names programs × AreRunnable units programs
-programs-given holds lacks [] [] are = ([], tt, tt)
-programs-given holds lacks [] (unit ∷ units) are = absurd are
-programs-given holds lacks (name ∷ names) [] are = absurd are
-programs-given holds lacks (name ∷ names) (unit ∷ units) are =
-    let more = programs-given holds lacks names units are.1 in (are.0.program ∷ more.0, (are.0.gives, more.1), (are.0.runnable, more.2))
-
 -- Why a run isn't begun.
 module _ (run : RunOf) (holds : List ℕ → List ℕ → Type 0) (lacks may_fail : List ℕ → Type 0) (failed : Type 0) where
-  of-text : (name bytes : List ℕ) (status : ℕ) → IsNext holds lacks run name → UnreadyBy holds lacks may_fail failed name bytes status → Unready run holds lacks may_fail failed bytes status
-  of-text name bytes status next (inside.not_read (steps.unread is)) = Unready.no_text next is
-  of-text name bytes status next (inside.not_read steps.no_memory) = Unready.no_memory
-  of-text name bytes status next (inside.no_program gives (steps.fault is)) = Unready.refused next gives is
-  of-text name bytes status next (inside.no_program gives steps.no_memory) = Unready.no_memory
+  pub unready_by_text : (bytes : List ℕ) (status : ℕ) → UnreadWhy (holds run.file) (lacks run.file) (may_fail run.file) failed run.file bytes status → Unready run holds lacks may_fail failed bytes status
+  unready_by_text bytes status (steps.unread is) = Unready.no_text is
+  unready_by_text bytes status steps.no_memory = Unready.no_memory
 
-  -- for one of its texts
-  pub unready_by_text : (bytes : List ℕ) (status : ℕ) → UnreadyAmong holds lacks may_fail failed (files_of run) bytes status → Unready run holds lacks may_fail failed bytes status
-  unready_by_text bytes status is =
-      let programs = programs-given holds lacks is.before is.units is.are in
-      of-text is.name bytes status (record { before = is.before; behind = is.behind; files_are = is.names_are; programs = programs.0; are = programs.1 }) is.why
+  pub unready_by_fault : (text bytes : List ℕ) (status : ℕ) → Gives (holds run.file) (lacks run.file) text → RefusalWhy run.file text bytes status → Unready run holds lacks may_fail failed bytes status
+  unready_by_fault text bytes status gives (steps.fault is) = Unready.refused gives is
+  unready_by_fault text bytes status gives steps.no_memory = Unready.no_memory
 
-  of_input : (programs : List BodyNode) (input : Option (List ℕ)) (bytes : List ℕ) (status : ℕ) → GivePrograms holds lacks (files_of run) programs → run.input ≡ input
+  of_input : (program : BodyNode) (input : Option (List ℕ)) (bytes : List ℕ) (status : ℕ) → GivesProgram holds lacks run program → run.input ≡ input
       → IsInputUnread holds lacks may_fail failed input bytes status → Unready run holds lacks may_fail failed bytes status
-  of_input programs None bytes status gives named is = absurd is
-  of_input programs (Some name) bytes status gives named (steps.unread is) = Unready.no_input programs gives named is
-  of_input programs (Some name) bytes status gives named steps.no_memory = Unready.no_memory
+  of_input program None bytes status gives named is = absurd is
+  of_input program (Some name) bytes status gives named (steps.unread is) = Unready.no_input gives named is
+  of_input program (Some name) bytes status gives named steps.no_memory = Unready.no_memory
 
-  pub unready_by_input : (units : List CodeUnit) (bytes : List ℕ) (status : ℕ) → GiveUnits holds lacks (files_of run) units → IsInputUnread holds lacks may_fail failed run.input bytes status
+  pub unready_by_input : (program : BodyNode) (bytes : List ℕ) (status : ℕ) → GivesProgram holds lacks run program → IsInputUnread holds lacks may_fail failed run.input bytes status
       → Unready run holds lacks may_fail failed bytes status
-  unready_by_input units bytes status are is = let programs = programs-given holds lacks (files_of run) units are in of_input programs.0 run.input bytes status programs.1 refl is
-
--- each text has its unit
-pub as-many-units : (holds : List ℕ → List ℕ → Type 0) (lacks : List ℕ → Type 0) (names : List (List ℕ)) (units : List CodeUnit) → GiveUnits holds lacks names units → length units ≡ length names
-as-many-units holds lacks [] [] are = refl
-as-many-units holds lacks [] (unit ∷ units) are = absurd are
-as-many-units holds lacks (name ∷ names) [] are = absurd are
-as-many-units holds lacks (name ∷ names) (unit ∷ units) are = ap suc (as-many-units holds lacks names units are.1)
+  unready_by_input program bytes status gives is = of_input program run.input bytes status gives refl is
 
 -- calls of the output alone leave the device as any command does
 left_alone : (asked : Option CommandOf) (old new : Outside (List ℕ)) → LeavesDevice old new → LeavesAsAsked asked old new
@@ -245,6 +168,16 @@ left_alone (Some (a_volume pages)) old new is = (
   along_weaker is.images (λ image at. inl (record { from = image; was = at; by = torn_none 0 1 image })),
   not_shut (along_weaker is.images (λ image at. record { from = image; was = at; by = torn_none 0 1 image })),
 )
+
+-- a run of one text is carried out
+pub one_done : {A : Type 0} (run : RunOf) (name : A → List ℕ) (files : List A) → files ≡ [] → run_done run (map name files) ≡ Some (a_run run)
+one_done run name [] none = refl
+one_done run name (file ∷ files) none = cc
+
+-- a run of more than one text isn't carried out
+pub many_none : {A : Type 0} (run : RunOf) (name : A → List ℕ) (files : List A) → (files ≡ [] → ⊥) → run_done run (map name files) ≡ None
+many_none run name [] some = absurd (some refl)
+many_none run name (file ∷ files) some = refl
 
 -- Why a command ends as it does.
 module _ (holds : List ℕ → List ℕ → Type 0) (lacks may_fail : List ℕ → Type 0) (failed : Type 0) where
@@ -257,10 +190,10 @@ module _ (holds : List ℕ → List ℕ → Type 0) (lacks may_fail : List ℕ �
 
   -- the words weren't read
   pub ends_refused : (fault : ArgsFault) (asked : Option CommandOf) (old : Outside (List ℕ)) → ReadsAs command_in asked (Err fault)
-      → WhyEnds old old asked holds lacks may_fail failed (Err (report_of fault))
+      → WhyEnds old old (carried_out asked) holds lacks may_fail failed (Err (report_of fault))
   ends_refused words.Usage asked old is =
-      subst (λ (a : Option CommandOf). WhyEnds old old a holds lacks may_fail failed (Err reports.Usage)) (sym is) (ends_in_usage old)
-  ends_refused words.Memory asked old is = ends_without_memory asked old
+      subst (λ (a : Option CommandOf). WhyEnds old old a holds lacks may_fail failed (Err reports.Usage)) (sym (ap carried_out is)) (ends_in_usage old)
+  ends_refused words.Memory asked old is = ends_without_memory (carried_out asked) old
 
   -- a text that tells of the program
   pub ends_told : (old new : Outside (List ℕ)) (text : List ℕ) (status : Status) → Answers old new text 0 (number_of_status status) → LeavesDevice old new
@@ -278,18 +211,16 @@ module _ (holds : List ℕ → List ℕ → Type 0) (lacks may_fail : List ℕ �
   ends_not_made old new pages report is = steps.by_words (Due.making refl is.due) (reports_alone old new is.told is.calm report) (is.any_moment, is.gate)
 
   -- there was no volume
-  ends_unattached : (old new : Outside (List ℕ)) (run : RunOf) (input : List ℕ) (programs : List BodyNode) (report : Report) → GivePrograms holds lacks (files_of run) programs
-      → GivesInput holds lacks run.input input → IsUnattached old new report → WhyEnds old new (Some (a_run run)) holds lacks may_fail failed (Err report)
-  ends_unattached old new run input programs report gives given is =
-      subst (λ (r : Report). WhyEnds old new (Some (a_run run)) holds lacks may_fail failed (Err r)) (sym is.report_is)
-      (steps.by_words (Due.unattached programs input {cause = is.cause} refl gives given is.why is.keeps) (reports_alone old new is.told is.calm (report_for is.cause)) is.keeps)
+  ends_unattached : (old new : Outside (List ℕ)) (run : RunOf) (input : List ℕ) (program : BodyNode) (report : Report) → GivesProgram holds lacks run program → GivesInput holds lacks run.input input
+      → IsUnattached old new report → WhyEnds old new (Some (a_run run)) holds lacks may_fail failed (Err report)
+  ends_unattached old new run input program report gives given is =
+      subst (λ (r : Report). WhyEnds old new (Some (a_run run)) holds lacks may_fail failed (Err r)) (sym is.report_is) (steps.by_words (Due.unattached input {cause = is.cause} refl gives given is.why is.keeps) (reports_alone old new is.told is.calm (report_for is.cause)) is.keeps)
 
-  -- the programs were run, or there was no volume
-  pub ends_run : {H : Type 0} (outside : H → Outside (List ℕ)) (old new : H) (run : RunOf) (input : List ℕ) (programs : List BodyNode) (end : Result Status Report)
-      → GivePrograms holds lacks (files_of run) programs → GivesInput holds lacks run.input input → ProgramsWhy outside old new run input programs end
-      → WhyEnds (outside old) (outside new) (Some (a_run run)) holds lacks may_fail failed end
-  ends_run outside old new run input programs end gives given (steps.ran is) = steps.by_run refl gives given is
-  ends_run {H} outside old new run input programs end gives given (steps.no_memory same) =
+  -- the program was run, or there was no volume
+  pub ends_run : {H : Type 0} (outside : H → Outside (List ℕ)) (old new : H) (run : RunOf) (input : List ℕ) (program : BodyNode) (end : Result Status Report) → GivesProgram holds lacks run program
+      → GivesInput holds lacks run.input input → ProgramWhy outside old new run input program end → WhyEnds (outside old) (outside new) (Some (a_run run)) holds lacks may_fail failed end
+  ends_run outside old new run input program end gives given (steps.ran is) = steps.by_run refl gives given is
+  ends_run {H} outside old new run input program end gives given (steps.no_memory same) =
       subst (λ (h : H). WhyEnds (outside old) (outside h) (Some (a_run run)) holds lacks may_fail failed (Err reports.NoMemory)) (sym same) (ends_unready (outside old) run reports.NoMemory Unready.no_memory)
-  ends_run outside old new run input programs end gives given (steps.no_volume {report = report} is) =
-      ends_unattached (outside old) (outside new) run input programs report gives given is
+  ends_run outside old new run input program end gives given (steps.no_volume {report = report} is) =
+      ends_unattached (outside old) (outside new) run input program report gives given is

@@ -1,58 +1,55 @@
--- A series ends in an end.
-use Rattle.std.proofs.Common.{◌≡◌, ℕ, Bool, true, false, List, [], ◌∷◌, ◌++◌, refl, sym, ◌∙◌, ap, append_assoc}
-use Rattle.std.specs.Prelude.{◌≢◌, if◌then◌else◌}
-use Rattle.std.proofs.lemmas.List.{append-nil}
+-- The end among events: the last of them is that of the run.
+use Rattle.std.proofs.Common.{◌≡◌, ℕ, List, [], ◌∷◌, ◌++◌, Option, Some, None, refl, sym, ◌∙◌, ap}
 use Rattle.ps_causes.specs.ps_meaning.ps_heap.Ends.{End, Done}
-use Rattle.ps_causes.specs.ps_meaning.ps_heap.Events.{Event, Finish, heap_after, is_done, series_events}
-use Rattle.ps_causes.specs.ps_meaning.ps_heap.Held.{StoredHeap}
+use Rattle.ps_causes.specs.ps_meaning.ps_heap.Events.{Event, Out, Turn, Ask, Commit, Finish}
 use Rattle.ps_causes.specs.ps_meaning.Meaning.{Outcome, Value_is, Ends}
-use Rattle.ps_causes.specs.ps_meaning.Runs.{Given, events_with, run_events, outcome_of, all_events}
-use Rattle.session_meaning.specs.Series.{events_of, series_of}
+use Rattle.ps_causes.specs.ps_meaning.Runs.{Given, events_with, run_events, run_end, outcome_of, all_events, end_reached}
 use Rattle.ps_program.specs.Node.{BodyNode}
 
--- the last of these events is an end
-pub record HasEnd (events : List Event) : Type 0 where
-  pub before : List Event
-  pub end : End
-  pub counted : ℕ
-  pub are : events ≡ before ++ Finish end counted ∷ []
+-- the end that an event is
+abbrev end_in : Event → Option End
+end_in (Finish e count) = Some e
+end_in event = None
 
-after-more : (first more : List Event) → HasEnd more → HasEnd (first ++ more)
-after-more first more ends = record {
-  before = first ++ ends.before;
-  end = ends.end;
-  counted = ends.counted;
-  are = ap (λ (es : List Event). first ++ es) ends.are ∙ sym (append_assoc first ends.before (Finish ends.end ends.counted ∷ []));
-}
+-- that of the last of these events, or this where there is none
+abbrev ending : Option End → List Event → Option End
+ending here [] = here
+ending here (event ∷ events) = ending (end_in event) events
 
-all-end : (o : Outcome) → HasEnd (all_events o)
+ending-append : (here : Option End) (events : List Event) (e : End) (count : ℕ) → ending here (events ++ Finish e count ∷ []) ≡ Some e
+ending-append here [] e count = refl
+ending-append here (event ∷ events) e count = ending-append (end_in event) events e count
+
+ends_in_its_end : (o : Outcome) → ending None (all_events o) ≡ Some (end_reached o)
+unfolding all_events end_reached
+ends_in_its_end (Value_is v f s) = ending-append None s.events Done s.store.held.counted
+ends_in_its_end (Ends e s) = ending-append None s.events e s.store.held.counted
+
+run_ends : (given : Given) (program : BodyNode) → ending None (run_events given program) ≡ Some (run_end given program)
+unfolding events_with run_end
+run_ends given program = ends_in_its_end (outcome_of given program)
+
+-- a run's last event is its end
+pub end_is : (given : Given) (program : BodyNode) (before : List Event) (e : End) (count : ℕ) → run_events given program ≡ before ++ Finish e count ∷ [] → e ≡ run_end given program
+end_is given program before e count is =
+    let both : Some e ≡ Some (run_end given program) = sym (ending-append None before e count) ∙ sym (ap (ending None) is) ∙ run_ends given program in cc
+
+-- a first event
+pub record First (events : List Event) : Type 0 where
+  pub next : Event
+  pub rest : List Event
+  pub are : events ≡ next ∷ rest
+
+first-of : (events more : List Event) → First more → First (events ++ more)
+first-of [] more some = some
+first-of (event ∷ events) more some = record { next = event; rest = events ++ more; are = refl }
+
+first_all : (o : Outcome) → First (all_events o)
 unfolding all_events
-all-end (Value_is v f s) = record { before = s.events; end = Done; counted = _; are = refl }
-all-end (Ends e s) = record { before = s.events; end = e; counted = _; are = refl }
+first_all (Value_is v f s) = first-of s.events _ (record { next = _; rest = []; are = refl })
+first_all (Ends e s) = first-of s.events _ (record { next = _; rest = []; are = refl })
 
-run-end : (given : Given) (program : BodyNode) → HasEnd (run_events given program)
+-- each run has one
+pub some_event : (given : Given) (program : BodyNode) → First (run_events given program)
 unfolding events_with
-run-end given program = all-end (outcome_of given program)
-
-module _ (turns : ℕ) (input : List ℕ) where
-  pub series-end : (programs : List BodyNode) → programs ≢ [] → (heap : StoredHeap) → HasEnd (series_of turns input programs heap)
-  unfolding series_events
-  series-end [] some heap = absurd (some refl)
-  series-end (program ∷ []) some heap = by (is_done (events_of turns input program heap))
-    where
-      its : HasEnd (events_of turns input program heap)
-      its = run-end _ program
-
-      by : (b : Bool) → HasEnd (events_of turns input program heap ++ (if b then [] else []))
-      by true = record { before = its.before; end = its.end; counted = its.counted; are = append-nil (events_of turns input program heap) ∙ its.are }
-      by false = record { before = its.before; end = its.end; counted = its.counted; are = append-nil (events_of turns input program heap) ∙ its.are }
-  series-end (program ∷ next ∷ programs) some heap =
-      goes-on (is_done (events_of turns input program heap)) (series-end (next ∷ programs) (λ is. cc) (heap_after heap (events_of turns input program heap)))
-    where
-      its : HasEnd (events_of turns input program heap)
-      its = run-end _ program
-
-      goes-on : (b : Bool) → HasEnd (series_of turns input (next ∷ programs) (heap_after heap (events_of turns input program heap)))
-          → HasEnd (events_of turns input program heap ++ (if b then series_of turns input (next ∷ programs) (heap_after heap (events_of turns input program heap)) else []))
-      goes-on true later = after-more (events_of turns input program heap) (series_of turns input (next ∷ programs) (heap_after heap (events_of turns input program heap))) later
-      goes-on false later = record { before = its.before; end = its.end; counted = its.counted; are = append-nil (events_of turns input program heap) ∙ its.are }
+some_event given program = first_all (outcome_of given program)

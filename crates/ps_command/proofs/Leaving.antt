@@ -10,13 +10,13 @@ use Rattle.ps_causes.specs.ps_reports.declared.report.Report.{Report}
 use Rattle.obj_layout.specs.declared.vault.VaultFault.TheVariants as vault
 use Rattle.machine_core.specs.swizzle.declared.fault.SwizzleFault.{SwizzleFault}
 use Rattle.machine_core.specs.swizzle.declared.fault.SwizzleFault.TheVariants.{Vault}
+use Rattle.machine_core.specs.declared.machine.Machine.{Machine}
 use Rattle.machine_core.specs.declared.run_end.RunEnd.{RunEnd}
+use Rattle.machine_core.specs.Holding.{Holds}
+use Rattle.machine_core.specs.ps_stepping.Config.{Config}
+use Rattle.database_steps.specs.Databases.{IsAlone}
+use Rattle.session_run.specs.Ran as session
 use Rattle.session_run.specs.Ran.{GoesOn, IsCause}
-use Rattle.std.specs.declared.alloc.Global.{Global}
-use Rattle.std.specs.declared.vec.Vec.{Vec}
-use Rattle.ps_base.specs.declared.code_unit.CodeUnit.{CodeUnit}
-use Rattle.ps_program.specs.Node.{BodyNode}
-use Rattle.ps_series.specs.Programs.{AreInputs, AreUnitsOf, ShowsSeries}
 use Rattle.ps_command.specs.inside.Running.{Leaves, RanBy, Sends, end_for, report_for, status_for}
 use Rattle.ps_command.specs.inside.Running as running
 
@@ -51,19 +51,19 @@ pub leaves-cut : {H : Type 0} (outside : H → Outside (List ℕ)) (ran : Store 
     → fault ≡ Vault vault.Output → new ≡ ran.host → Leaves outside ran left result new (Ok status.Output)
 leaves-cut outside ran left result fault new is same host = running.cut (subst (λ (f : SwizzleFault). result ≡ Err f) same is) host
 
--- a series that began with nothing pending
-pub ran-by : {H : Type 0} (outside : H → Outside (List ℕ)) (attached ran : Store H) (size turns : ℕ) (units : List CodeUnit) (inputs : List (Vec ℕ Global)) (owed left : List ℕ)
-    (result : Result RunEnd SwizzleFault) (new : H) (answer : Result Status Report) → owed ≡ []
-    → ((input : List ℕ) (programs : List BodyNode) → AreInputs input inputs → AreUnitsOf turns input units programs
-    → ShowsSeries (outside_of outside) (outside_of outside attached) (outside_of outside ran) turns input size owed left programs result)
+-- a run that began with nothing pending
+pub ran-by : {H : Type 0} (outside : H → Outside (List ℕ)) (attached ran : Store H) (m : Machine) (owed left : List ℕ) (result : Result RunEnd SwizzleFault) (new : H)
+    (answer : Result Status Report) → owed ≡ []
+    → ((c : Config) → Holds (outside_of outside attached) m c → IsAlone c.store.held
+    → session.Ran (outside_of outside attached) (outside_of outside ran) owed left (outside_of outside) m.objects.size c result)
     → GoesOn (outside_of outside attached) (outside_of outside ran) → IfErr result (IsCause (outside_of outside attached) (outside_of outside ran) (access_of attached))
-    → Leaves outside ran left result new answer → RanBy outside attached size turns units inputs new answer
-ran-by outside attached ran size turns units inputs owed left result new answer none runs goes caused leaves = record {
+    → Leaves outside ran left result new answer → RanBy outside attached m new answer
+ran-by outside attached ran m owed left result new answer none runs goes caused leaves = record {
   ran = ran;
   left = left;
   result = result;
-  runs = λ input programs given are.
-      subst (λ (o : List ℕ). ShowsSeries (outside_of outside) (outside_of outside attached) (outside_of outside ran) turns input size o left programs result) none (runs input programs given are);
+  runs = λ c holds alone.
+      subst (λ (o : List ℕ). session.Ran (outside_of outside attached) (outside_of outside ran) o left (outside_of outside) m.objects.size c result) none (runs c holds alone);
   goes = goes;
   caused = caused;
   leaves = leaves;

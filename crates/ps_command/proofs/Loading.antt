@@ -1,7 +1,11 @@
--- The units of programs that can be run.
-use Rattle.std.proofs.Common.{◌≡◌, ℕ, ◌*◌, ◌≤◌, List, [], ◌∷◌, refl, sym, ap, subst, arith}
+-- The unit of a program that can be run is loaded itself, or there is no room for it.
+use Rattle.std.proofs.Common.{◌≡◌, ℕ, ◌+◌, ◌*◌, ◌≤◌, List, refl, sym, ap, subst, arith}
+use Rattle.std.specs.Prelude.{Result, Ok, Err}
 use Rattle.ps_base.specs.CodeUnit.{UnitView, unit_view}
 use Rattle.ps_base.specs.declared.code_unit.CodeUnit.{CodeUnit}
+use Rattle.ps_port.specs.ps_outside.Outside.{Outside}
+use Rattle.machine_run.specs.obj_layout.Stored.{Space}
+use Rattle.ps_unit_weights.specs.proc_values.Units.{unit_objects, unit_words}
 use Rattle.ps_unit_weights.proofs.Weighing.{unit_weighs}
 use Rattle.ps_unit_weights.proofs.UnitWords.{unit_is}
 use Rattle.ps_program.specs.Node.{BodyNode, body}
@@ -10,15 +14,13 @@ use Rattle.ps_causes.specs.ps_typing.WellTyped.{IsWellTyped}
 use Rattle.ps_code_laws.specs.ps_typing_laws.Counted.{IsCounted}
 use Rattle.ps_code_laws.proofs.of_ps_typing_laws.Tracked.{program_counted}
 use Rattle.ps_causes.specs.ps_heap.Weights.{code_weight}
-use Rattle.ps_unit_weights.specs.ps_gen.Units.{unit_of, frame_of, HasUnit}
+use Rattle.ps_unit_weights.specs.ps_gen.Units.{unit_of, frame_of}
 use Rattle.ps_code_laws.specs.ps_stepping.Config.{frame_in}
-use Rattle.machine_run.specs.Loaded.{IsFrame, loaded_weight}
-use Rattle.std.specs.List.{AllByRecursion}
-use Rattle.fit_soundness.specs.Laws.{IsChecked}
-use Rattle.ps_causes.specs.ps_typing.Program.{bodies}
-use Rattle.ps_series.specs.Programs.{AreUnitsOf}
-use Rattle.unit_meaning.specs.Programs.{RunsAsMeant}
-use Rattle.ps_command.specs.inside.Steps.{AreRunnable, IsRunnable}
+use Rattle.machine_run.specs.swizzle.declared.fault.SwizzleFault.{SwizzleFault}
+use Rattle.machine_run.specs.machine_core.declared.machine.Machine.{Machine}
+use Rattle.machine_run.specs.Loaded.{IsFrame, IsLoaded, EndsBefore, HasNoRoom, RunsAs, itself, LoadsUnit, Loads}
+use Rattle.machine_run.specs.Loaded as load
+use Rattle.ps_command.specs.inside.Steps.{IsRunnable}
 use Rattle.ps_command.proofs.Programs.{first_fits}
 
 -- the frame of a program that can be run is none that a machine refuses
@@ -35,17 +37,32 @@ has_frame : (unit : CodeUnit) (program : BodyNode) → IsRunnable unit program �
 has_frame unit program r =
     subst (λ (u : UnitView). IsFrame (frame_in u)) (sym r.unit_is) (subst IsFrame (sym (frame_in_unit program)) (frame_is program (first_counted program r.typed) (first_fits program r.simple)))
 
--- where there is no room for the unit its objects end within what is counted for the code
-pub within-code : (program : BodyNode) (end : ℕ) → 8 * end ≤ loaded_weight (unit_of program) → 8 * end ≤ code_weight program
-within-code program end within = let words = unit_is (unit_of program) in let most = unit_weighs program in omega (arith, words, most, within)
+-- a unit whose frame fits is loaded itself
+itself_run : (u run : UnitView) → IsFrame (frame_in u) → RunsAs u run → run ≡ u
+itself_run u run fits (itself is) = refl
+itself_run u run fits (load.damaged is_too_large) = absurd (is_too_large fits)
 
--- units of programs that can be run do what the programs mean
-pub units-of : (turns : ℕ) (input : List ℕ) → ((program : BodyNode) → IsChecked program → AllByRecursion HasUnit (bodies program) → RunsAsMeant turns input program)
-    → (units : List CodeUnit) (programs : List BodyNode) → AreRunnable units programs → AreUnitsOf turns input units programs
-units-of turns input law [] [] are = tt
-units-of turns input law [] (program ∷ programs) are = absurd are
-units-of turns input law (unit ∷ units) [] are = absurd are
-units-of turns input law (unit ∷ units) (program ∷ programs) are = (
-  record { unit_is = are.0.unit_is; frame = has_frame unit program are.0; means = law program are.0.checked are.0.units },
-  units-of turns input law units programs are.1,
-)
+loads_itself : (outside : Outside Space) (u : UnitView) (turns : ℕ) (input : List ℕ) (old new : Machine) (answer : Result (Unit {0}) SwizzleFault)
+    → IsFrame (frame_in u) → Loads outside u turns input old new answer → LoadsUnit outside u turns input old new answer
+loads_itself outside u turns input old new answer fits l =
+    subst (λ (run : UnitView). LoadsUnit outside run turns input old new answer) (itself_run u l.run fits l.chosen) l.loads
+
+loads-program : (outside : Outside Space) (unit : CodeUnit) (program : BodyNode) (turns : ℕ) (input : List ℕ) (old new : Machine) (answer : Result (Unit {0}) SwizzleFault)
+    → IsRunnable unit program → Loads outside (unit_view unit) turns input old new answer → LoadsUnit outside (unit_of program) turns input old new answer
+loads-program outside unit program turns input old new answer r l =
+    subst (λ (u : UnitView). LoadsUnit outside u turns input old new answer) r.unit_is
+    (loads_itself outside (unit_view unit) turns input old new answer (has_frame unit program r) l)
+
+-- where there is no room for the unit its objects end within what is counted for the code
+pub within-code : (program : BodyNode) (old new : Machine) (fault : SwizzleFault) (lacks : HasNoRoom (unit_of program) old new fault) → 8 * (lacks.top + lacks.wanted) ≤ code_weight program
+within-code program old new fault lacks = let words = unit_is (unit_of program) in let most = unit_weighs program in let within = lacks.within in omega (arith, words, most, within)
+
+pub loaded-ok : (outside : Outside Space) (unit : CodeUnit) (program : BodyNode) (turns : ℕ) (input : List ℕ) (old new : Machine) (answer : Result (Unit {0}) SwizzleFault) (done : Unit {0})
+    → IsRunnable unit program → Loads outside (unit_view unit) turns input old new answer → answer ≡ Ok done → IsLoaded outside (unit_of program) turns input old new
+loaded-ok outside unit program turns input old new answer done r l is =
+    subst (λ (a : Result (Unit {0}) SwizzleFault). LoadsUnit outside (unit_of program) turns input old new a) is (loads-program outside unit program turns input old new answer r l)
+
+pub loaded-err : (outside : Outside Space) (unit : CodeUnit) (program : BodyNode) (turns : ℕ) (input : List ℕ) (old new : Machine) (answer : Result (Unit {0}) SwizzleFault) (fault : SwizzleFault)
+    → IsRunnable unit program → Loads outside (unit_view unit) turns input old new answer → answer ≡ Err fault → HasNoRoom (unit_of program) old new fault
+loaded-err outside unit program turns input old new answer fault r l is =
+    subst (λ (a : Result (Unit {0}) SwizzleFault). LoadsUnit outside (unit_of program) turns input old new a) is (loads-program outside unit program turns input old new answer r l)

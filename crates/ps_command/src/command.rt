@@ -1,7 +1,7 @@
 ghost use Rattle.std.specs.Prelude.{◌≡◌, ◌≤◌, Option, Some, IfOk};
 ghost use Rattle.ps_port.specs.ps_outside.Outside.{Rose};
 ghost use Rattle.ps_port.specs.Telling.{LeavesDevice};
-ghost use Rattle.ps_causes.specs.Command.{Why};
+ghost use Rattle.ps_causes.specs.Command.{Why, carried_out, done_of};
 ghost use Rattle.ps_causes.specs.Steps.{WhyEnds};
 ghost use Rattle.ps_causes.specs.ps_reports.Answering.{Answers, Tells};
 ghost use Rattle.ps_causes.specs.ps_reports.Statuses.{number_of};
@@ -17,9 +17,9 @@ use ps_causes::ps_volumes::make_volume;
 use ps_port::{Host, Shelf, tell};
 use std::alloc::Global;
 
-/// Does all that the program does with what was read of its words: runs the texts that they name, one after the other, over the input that they name and the volume of the
+/// Does all that the program does with what was read of its words: runs the text that they name, over the input that they name and the volume of the
 /// host, or makes a volume there, or tells of the program; and outputs what is due by the host. Answers the status of `docs/language.md`, beside the host.
-/// All memory is taken before the first event.
+/// All memory is taken before the first event. A run of more than one text is a usage fault, since only one is run yet.
 pub fn psalgol<'a, H: Host, S: Shelf>(
     alloc: Global,
     read: Result<Command<'a>, ArgsFault>,
@@ -27,7 +27,7 @@ pub fn psalgol<'a, H: Host, S: Shelf>(
     shelf: &mut S,
 ) -> (u8, H)
     requires { IfOk read (λ command. IsWithin (command_in command)) }
-    ensures why { (asked : Option CommandOf) → ReadsAs command_in asked read.entry → Why (H.outside host) (H.outside result.1) asked (S.holds shelf.old) (S.lacks shelf.old) (S.may_fail shelf.old) (Rose (S.faults shelf.old) (S.faults shelf.new)) result.0 }
+    ensures why { (asked : Option CommandOf) → ReadsAs command_in asked read.entry → Why (H.outside host) (H.outside result.1) (carried_out asked) (S.holds shelf.old) (S.lacks shelf.old) (S.may_fail shelf.old) (Rose (S.faults shelf.old) (S.faults shelf.new)) result.0 }
     ensures shelf_counts { S.faults shelf.old ≤ S.faults shelf.new }
 {
     match read {
@@ -57,11 +57,17 @@ fn perform<'a, H: Host, S: Shelf>(
     shelf: &mut S,
 ) -> (Result<Status, Report<'a>>, H)
     requires { IsWithin (command_in command.now) }
-    ensures why { WhyEnds (H.outside host) (H.outside result.1) (Some (command_in command.now)) (S.holds shelf.old) (S.lacks shelf.old) (S.may_fail shelf.old) (Rose (S.faults shelf.old) (S.faults shelf.new)) result.0 }
+    ensures why { WhyEnds (H.outside host) (H.outside result.1) (done_of (command_in command.now)) (S.holds shelf.old) (S.lacks shelf.old) (S.may_fail shelf.old) (Rose (S.faults shelf.old) (S.faults shelf.new)) result.0 }
     ensures shelf_counts { S.faults shelf.old ≤ S.faults shelf.new }
 {
     match command {
-        Command::Run(run) => run_files(alloc, run, host, shelf),
+        Command::Run(run) => {
+            if run.further.is_empty() {
+                run_file(alloc, run, host, shelf)
+            } else {
+                (Err(Report::Usage), host)
+            }
+        }
         Command::Format { pages } => {
             let mut host = host;
             match make_volume(&mut host, *pages) {
@@ -89,7 +95,7 @@ fn tell_text<H: Host>(text: &str, host: H) -> (Status, H)
 }
 
 // A run: of what its words name, where that can be run.
-fn run_files<'a, H: Host, S: Shelf>(
+fn run_file<'a, H: Host, S: Shelf>(
     alloc: Global,
     run: &RunWords<'a>,
     host: H,

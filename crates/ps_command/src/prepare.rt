@@ -1,5 +1,5 @@
-//! What a run is of: its programs, and their input.
-ghost use Rattle.std.specs.Prelude.{◌≡◌, ◌≤◌, ◌↔◌, ◌∷◌, ◌++◌, [], ℕ, List, IfOk, IfErr, IfSome, OnOk, length, map, option_map};
+//! What a run is of: its program, and its input.
+ghost use Rattle.std.specs.Prelude.{◌≡◌, ◌≤◌, ◌↔◌, ℕ, List, IfOk, IfErr, length, option_map};
 ghost use Rattle.ps_base.specs.Limits.{most_text_bytes};
 ghost use Rattle.ps_port.specs.ps_outside.Outside.{Rose};
 ghost use Rattle.ps_program.specs.Node.{BodyNode};
@@ -10,9 +10,7 @@ ghost use Rattle.ps_causes.specs.ps_reports.Reporting.{line_of, status_of};
 ghost use Rattle.ps_causes.specs.ps_reports.Statuses.{number_of};
 ghost use Rattle.ps_causes.specs.ps_args.Reading.{run_in};
 ghost use Rattle.ps_command.specs.inside.Refusal.{Refuses};
-ghost use Rattle.ps_causes.specs.ps_reports.declared.report.Report.TheVariants.{NoMemory};
-ghost use Rattle.ps_series.specs.Programs.{AreInputs};
-ghost use Rattle.ps_command.specs.inside.Steps.{AddsUnit, GivesUnit, GiveUnits, IsInputUnread, IsPrepared, IsRunnable, UnreadyAmong, UnreadyBy};
+ghost use Rattle.ps_command.specs.inside.Steps.{IsInputUnread, IsPrepared, IsRunnable};
 
 use crate::compile::compile;
 use crate::source_fault::SourceFault;
@@ -22,130 +20,27 @@ use ps_causes::ps_reports::Report;
 use ps_port::{Shelf, ShelfFault};
 use std::alloc::Global;
 
-/// What a run is of: the code of its programs, in order, and for each of them the input.
+/// What a run is of: the code of its program, and its input.
 #[derive(Drop)]
 pub(crate) struct Prepared {
-    pub units: Vec<CodeUnit>,
-    pub inputs: Vec<Vec<u8>>,
+    pub unit: CodeUnit,
+    pub input: Vec<u8>,
 }
 
-/// Reads and compiles the texts that a run names, one after the other, and reads its input, where it names one. The device isn't called.
+/// Reads and compiles the text that a run names, and reads its input, where it names one. The device isn't called.
 pub(crate) fn prepare<'a, S: Shelf>(
     alloc: Global,
     run: &RunWords<'a>,
     shelf: &mut S,
 ) -> Result<Prepared, Report<'a>>
-    ensures prepared { IfOk result (λ prepared. IsPrepared (S.holds shelf.old) (S.lacks shelf.old) (run_in run.now) prepared.units.items prepared.inputs.items) }
+    ensures prepared { IfOk result (λ prepared. IsPrepared (S.holds shelf.old) (S.lacks shelf.old) (run_in run.now) prepared.unit prepared.input.items) }
     ensures unready { IfErr result (λ report. Unready (run_in run.now) (S.holds shelf.old) (S.lacks shelf.old) (S.may_fail shelf.old) (Rose (S.faults shelf.old) (S.faults shelf.new)) (line_of report) (number_of (status_of report))) }
     ensures counts { S.faults shelf.old ≤ S.faults shelf.new }
 {
-    let units = match read_programs(alloc, run.file, &run.further, shelf) {
-        Ok(units) => units,
-        Err(report) => return Err(report),
-    };
-    let input = match read_input(alloc, run.input, shelf) {
-        Ok(input) => input,
-        Err(report) => return Err(report),
-    };
-    match copies(alloc, &input, units.len()) {
-        Some(inputs) => Ok(Prepared { units, inputs }),
-        None => Err(Report::NoMemory),
-    }
-}
-
-// The code of the texts of these names, in order.
-fn read_programs<'a, S: Shelf>(
-    alloc: Global,
-    file: &'a str,
-    further: &[&'a str],
-    shelf: &mut S,
-) -> Result<Vec<CodeUnit>, Report<'a>>
-    ensures given { IfOk result (λ units. GiveUnits (S.holds shelf.old) (S.lacks shelf.old) (file.now ∷ map (λ name. name.now) further.now) units.items) }
-    ensures unread { IfErr result (λ report. UnreadyAmong (S.holds shelf.old) (S.lacks shelf.old) (S.may_fail shelf.old) (Rose (S.faults shelf.old) (S.faults shelf.new)) (file.now ∷ map (λ name. name.now) further.now) (line_of report) (number_of (status_of report))) }
-    ensures counts { S.faults shelf.old ≤ S.faults shelf.new }
-    ensures holds_on { (q t : List ℕ) → S.holds shelf.new q t ↔ S.holds shelf.old q t }
-    ensures lacks_on { (q : List ℕ) → S.lacks shelf.new q ↔ S.lacks shelf.old q }
-    ensures may_fail_on { (q : List ℕ) → S.may_fail shelf.new q ↔ S.may_fail shelf.old q }
-{
-    let mut units = Vec::new(alloc);
-    match add(alloc, &mut units, file, shelf) {
-        Ok(()) => {}
-        Err(report) => return Err(report),
-    }
-    for name in further {
-        match add(alloc, &mut units, name, shelf) {
-            Ok(()) => {}
-            Err(report) => return Err(report),
-        }
-    }
-    Ok(units)
-}
-
-// The code of the text of a name, after that of others.
-fn add<'a, S: Shelf>(
-    alloc: Global,
-    units: &mut Vec<CodeUnit>,
-    name: &'a str,
-    shelf: &mut S,
-) -> Result<(), Report<'a>>
-    ensures added { OnOk result (AddsUnit (S.holds shelf.old) (S.lacks shelf.old) name.now units.old.items units.new.items) }
-    ensures unread { IfErr result (λ report. UnreadyBy (S.holds shelf.old) (S.lacks shelf.old) (S.may_fail shelf.old) (Rose (S.faults shelf.old) (S.faults shelf.new)) name.now (line_of report) (number_of (status_of report))) }
-    ensures counts { S.faults shelf.old ≤ S.faults shelf.new }
-    ensures holds_on { (q t : List ℕ) → S.holds shelf.new q t ↔ S.holds shelf.old q t }
-    ensures lacks_on { (q : List ℕ) → S.lacks shelf.new q ↔ S.lacks shelf.old q }
-    ensures may_fail_on { (q : List ℕ) → S.may_fail shelf.new q ↔ S.may_fail shelf.old q }
-{
-    match read_program(alloc, name, shelf) {
-        Ok(unit) => keep(units, unit),
-        Err(report) => Err(report),
-    }
-}
-
-// One more unit after these.
-fn keep<'a>(units: &mut Vec<CodeUnit>, unit: CodeUnit) -> Result<(), Report<'a>>
-    ensures kept { OnOk result (units.new.items ≡ units.old.items ++ unit ∷ []) }
-    ensures memory { IfErr result (λ report. report ≡ NoMemory) }
-{
-    match units.push(unit) {
-        Ok(()) => Ok(()),
-        Err(_) => Err(Report::NoMemory),
-    }
-}
-
-// The code of the text of a name.
-fn read_program<'a, S: Shelf>(
-    alloc: Global,
-    name: &'a str,
-    shelf: &mut S,
-) -> Result<CodeUnit, Report<'a>>
-    ensures given { IfOk result (λ unit. GivesUnit (S.holds shelf.old) (S.lacks shelf.old) name.now unit) }
-    ensures unread { IfErr result (λ report. UnreadyBy (S.holds shelf.old) (S.lacks shelf.old) (S.may_fail shelf.old) (Rose (S.faults shelf.old) (S.faults shelf.new)) name.now (line_of report) (number_of (status_of report))) }
-    ensures counts { S.faults shelf.old ≤ S.faults shelf.new }
-    ensures holds_on { (q t : List ℕ) → S.holds shelf.new q t ↔ S.holds shelf.old q t }
-    ensures lacks_on { (q : List ℕ) → S.lacks shelf.new q ↔ S.lacks shelf.old q }
-    ensures may_fail_on { (q : List ℕ) → S.may_fail shelf.new q ↔ S.may_fail shelf.old q }
-{
-    match read(alloc, name, shelf) {
-        Ok(text) => compiled(alloc, name, &text),
-        Err(report) => Err(report),
-    }
-}
-
-// So many copies of an input, where there is memory for them.
-fn copies(alloc: Global, input: &[u8], count: usize) -> Option<Vec<Vec<u8>>>
-    ensures { IfSome result (λ inputs. AreInputs input.now inputs.items × (length inputs.items ≡ count)) }
-{
-    let mut inputs = Vec::new(alloc);
-    for _number in 0..count {
-        match Vec::from_slice(alloc, input) {
-            Ok(copy) => match inputs.push(copy) {
-                Ok(()) => {}
-                Err(_) => return None,
-            },
-            Err(_) => return None,
-        }
-    }
-    Some(inputs)
+    let text = read(alloc, run.file, shelf)?;
+    let unit = compiled(alloc, run.file, &text)?;
+    let input = read_input(alloc, run.input, shelf)?;
+    Ok(Prepared { unit, input })
 }
 
 // The text of a name.

@@ -1,6 +1,6 @@
 -- A run of a program over what stands for a heap shows the program's events over it.
 use Rattle.std.proofs.Common.{◌≡◌, ℕ, List, [], ◌∷◌, refl, sym, subst}
-use Rattle.std.specs.Prelude.{OnOk, Result}
+use Rattle.std.specs.Prelude.{Result}
 use Rattle.ps_outside.specs.Outside.{Outside}
 use Rattle.obj_layout.specs.Stored.{Space, without_file}
 use Rattle.machine_core.specs.swizzle.declared.fault.SwizzleFault.{SwizzleFault}
@@ -33,7 +33,7 @@ use Rattle.joint_begun.proofs.CompactLaws.{has-compact}
 use Rattle.joint_begun.proofs.BeginLaws.{begins-over}
 use Rattle.space_meaning.specs.Stands.{SpaceStands}
 use Rattle.space_meaning.proofs.SameHeaps.{stands-same}
-use Rattle.session_run.specs.Ran.{HasContent, Ran, ended, broke, broke_in, cut, report_cut}
+use Rattle.session_run.specs.Ran.{Ran}
 use Rattle.session_meaning.specs.Meant.{Stands, IsSeenAs, AreSeenAs}
 use Rattle.unit_meaning.specs.Programs.{given_over, unit_events, begin_over, RunsAsMeant}
 use Rattle.session_meaning.specs.Shows.{BrokeFor, Shows}
@@ -79,15 +79,6 @@ seen-as [] (y ∷ ys) (z ∷ zs) same less = absurd same
 seen-as (x ∷ xs) [] [] same less = absurd same
 seen-as (x ∷ xs) (y ∷ ys) (z ∷ zs) same less = (one-seen x y z same.0 less.0, seen-as xs ys zs same.1 less.1)
 
--- a run that ended leaves what a read gives
-held-at-end : {V : Type 0} (outside : V → Outside Space) (old new : Outside Space) (owed left : List ℕ) (size : ℕ) (c : Config) (result : Result RunEnd SwizzleFault)
-    → Ran old new owed left outside size c result → OnOk result (HasContent new)
-held-at-end outside old new owed left size c result (ended way stops done held) = held
-held-at-end outside old new owed left size c result (broke vault way step by done) = tt
-held-at-end outside old new owed left size c result (broke_in way step breaks vaults) = tt
-held-at-end outside old new owed left size c result (cut way is) = tt
-held-at-end outside old new owed left size c result (report_cut e way stops is) = tt
-
 module _ {V : Type 0} (outside : V → Outside Space) (old new : Outside Space) (one : IsOneStore old) (turns : ℕ) (input : List ℕ) (program : BodyNode) (owed left : List ℕ)
     (space : Space) (heap : StoredHeap) (at : old.contents space) (stands : SpaceStands (without_file space) heap)
     (images : (image : Space) → old.images old.clock image → Stands image heap) (means : RunsAsMeant turns input program) where
@@ -126,7 +117,6 @@ module _ {V : Type 0} (outside : V → Outside Space) (old new : Outside Space) 
     pub shows-events : (result : Result RunEnd SwizzleFault) → ((c : Config) → Holds old m c → IsAlone c.store.held → Ran old new owed left outside m.objects.size c result)
         → (like : StoredHeap) × IsSame heap like
         × Shows Stands old new owed left heap (BrokeFor outside new m.objects.size (begin_over turns input program like)) (run_events (given_over turns input heap) program) result
-        × OnOk result (HasContent new)
     shows-events result ran =
         let c = begin_over turns input program compact.compact in (
           compact.compact,
@@ -134,5 +124,4 @@ module _ {V : Type 0} (outside : V → Outside Space) (old new : Outside Space) 
           shows outside old new owed left m.objects.size c heap (unit_events turns input program compact.compact) (run_events (given_over turns input heap) program)
               images same-read (means.runs (without_file space) compact.compact stands-there compact.all) (means.keeps (without_file space) compact.compact stands-there compact.all)
               seen result (ran c holds-start is-alone),
-          held-at-end outside old new owed left m.objects.size c result (ran c holds-start is-alone),
         )

@@ -23,7 +23,7 @@ module _ {X : Type 0} (stands : X → StoredHeap → Type 0) (a b c : Outside X)
   parts : (es : List Event) → steps_meant (events ++ es) ≡ steps_meant events ++ steps_meant es
   parts es = map-append step_meant events es
 
-  pub done-then : (es : List Event) → HasDone stands b c left rest between es → HasDone stands a c owed rest heap (events ++ es)
+  done-then : (es : List Event) → HasDone stands b c left rest between es → HasDone stands a c owed rest heap (events ++ es)
   done-then es next = record {
     so_far = subst (λ (ms : List (Step StoredHeap)). SoFar stands heap a c (owing owed ∷ ms) rest) (sym (parts es))
         (so_far_then stands heap a b c (owing owed ∷ steps_meant events) (steps_meant es) left first.so_far rest next.so_far);
@@ -51,12 +51,12 @@ module _ {X : Type 0} (stands : X → StoredHeap → Type 0) (a b c : Outside X)
   }
 
   -- what the second shows comes after what the first did
-  pub shows-then : (Broke BrokeIn : List Event → SwizzleFault → Type 0) → ((before : List Event) (fault : SwizzleFault) → BrokeIn before fault → Broke (events ++ before) fault)
-      → (more : List Event) (result : Result RunEnd SwizzleFault) → Shows stands b c left rest between BrokeIn more result → Shows stands a c owed rest heap Broke (events ++ more) result
-  shows-then Broke BrokeIn so more result (form.whole {e = e} before counted are done) =
+  pub shows-then : (Broke : SwizzleFault → Type 0) (more : List Event) (result : Result RunEnd SwizzleFault) → Shows stands b c left rest between Broke more result
+      → Shows stands a c owed rest heap Broke (events ++ more) result
+  shows-then Broke more result (form.whole {e = e} before counted are done) =
       form.whole (events ++ before) counted (ap (λ (es : List Event). events ++ es) are ∙ sym (append_assoc events before (Finish (end_of e) counted ∷ []))) (done-then more done)
-  shows-then Broke BrokeIn so more result (form.broke {fault = fault} before after next are by done) =
-      form.broke (events ++ before) after next (ap (λ (es : List Event). events ++ es) are ∙ sym (append_assoc events before (next ∷ after))) (so before fault by) (done-then before done)
-  shows-then Broke BrokeIn so more result (form.broke_in before after saved counted are breaks vaults) =
+  shows-then Broke more result (form.broke before after next are by done) =
+      form.broke (events ++ before) after next (ap (λ (es : List Event). events ++ es) are ∙ sym (append_assoc events before (next ∷ after))) by (done-then before done)
+  shows-then Broke more result (form.broke_in before after saved counted are breaks vaults) =
       form.broke_in (events ++ before) after saved counted (ap (λ (es : List Event). events ++ es) are ∙ sym (append_assoc events before (Commit saved counted ∷ after))) (breaks-then before saved breaks) vaults
-  shows-then Broke BrokeIn so more result (form.cut is) = form.cut (cut-then more is)
+  shows-then Broke more result (form.cut is) = form.cut (cut-then more is)

@@ -102,7 +102,7 @@ module _ {V : Type 0} (outside : V → Outside Space) (old new : Outside Space) 
           sym (append-nil d.front) ∙ ap (λ (fs : List Event). d.front ++ fs) (sym (none-left d.behind d.rest d.compiled_is d.seen)) ∙ sym d.are
 
   pub shows : (result : Result RunEnd SwizzleFault) → Ran old new owed left outside size c result → Shows Stands old new owed left heap (BrokeFor outside new size c) events result
-  shows result (ended {events = es} {last = last} {e = e} {touched = touched} way stops did held) =
+  shows result (ended {events = es} {last = last} {e = e} {touched = touched} way stops did) =
       let end = at-the-end es last e touched way stops in
       let d = done heap total events es (Finish (end_of e) end.0 ∷ []) end.1 fit seen in
       let its = an-end heap d.behind d.rest (end_of e) end.0 d.compiled_is d.seen in

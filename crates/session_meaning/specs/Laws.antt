@@ -1,5 +1,5 @@
 -- What is so of what runs show.
-use Rattle.std.specs.Prelude.{ℕ, List, [], OnOk, Result}
+use Rattle.std.specs.Prelude.{ℕ, List, [], Result}
 use Rattle.ps_outside.specs.Outside.{Outside}
 use Rattle.obj_layout.specs.Stored.{Space, without_file}
 use Rattle.machine_core.specs.swizzle.declared.fault.SwizzleFault.{SwizzleFault}
@@ -18,7 +18,7 @@ use Rattle.ps_gen.specs.Units.{unit_of}
 use Rattle.ps_meaning.specs.Runs.{run_events}
 use Rattle.space_meaning.specs.Stands.{SpaceStands}
 use Rattle.ps_code_laws.specs.Compiled.{compiled_events}
-use Rattle.session_run.specs.Ran.{HasContent, Ran}
+use Rattle.session_run.specs.Ran.{Ran}
 use Rattle.session_meaning.specs.Meant.{Stands, AreSeenAs}
 use Rattle.unit_meaning.specs.Keeping.{KeepFitHeaps}
 use Rattle.unit_meaning.specs.Programs.{given_over, begin_over, RunsAsMeant}
@@ -33,7 +33,7 @@ module _ {V : Type 0} (outside : V → Outside Space) (old new : Outside Space) 
       → Ran old new owed left outside size c result → Shows Stands old new owed left heap (BrokeFor outside new size c) events result
 
   -- Where what the vault held and what a crash left stood for a heap when the unit of a program was loaded, which runs as it means, then what was returned of a run
-  -- from there shows the events of the program over that heap: it began over one that is the same but for ids. Where it ended, a read gives something.
+  -- from there shows the events of the program over that heap: it began over one that is the same but for ids.
   abbrev pub ProgramsShowTheirEvents : Type 0
   ProgramsShowTheirEvents = (turns : ℕ) (input : List ℕ) (program : BodyNode) (owed left : List ℕ) (space : Space) (heap : StoredHeap) (empty m : Machine)
       (result : Result RunEnd SwizzleFault) → old.contents space → SpaceStands (without_file space) heap → ((image : Space) → old.images old.clock image → Stands image heap)
@@ -41,4 +41,3 @@ module _ {V : Type 0} (outside : V → Outside Space) (old new : Outside Space) 
       → ((c : Config) → Holds old m c → IsAlone c.store.held → Ran old new owed left outside m.objects.size c result)
       → (like : StoredHeap) × IsSame heap like
       × Shows Stands old new owed left heap (BrokeFor outside new m.objects.size (begin_over turns input program like)) (run_events (given_over turns input heap) program) result
-      × OnOk result (HasContent new)

@@ -1,6 +1,5 @@
 pub mod Meant
 pub mod Shows
-pub mod Series
 pub mod Laws
 pub use Rattle.session_run.specs as session_run
 pub use Rattle.space_meaning.specs as space_meaning

@@ -18,8 +18,8 @@ use Rattle.session_run.specs.Ran.{BreaksFor}
 use Rattle.session_run.specs.machine_commits.Committing.{IsOfVault}
 use Rattle.session_meaning.specs.Meant.{steps_meant}
 
--- Why a run from a configuration, in an area of this size, broke off after some events: the step that it came to, at which its vault was seen so.
-pub record BrokeFor {V : Type 0} (outside : V → Outside Space) (new : Outside Space) (size : ℕ) (c : Config) (before : List Event) (fault : SwizzleFault) : Type 0 where
+-- Why a run from a configuration, in an area of this size, broke off: the step that it came to, at which its vault was seen so.
+pub record BrokeFor {V : Type 0} (outside : V → Outside Space) (new : Outside Space) (size : ℕ) (c : Config) (fault : SwizzleFault) : Type 0 where
   pub vault : V
   pub events : List Event
   pub last : Config
@@ -51,12 +51,12 @@ module _ {X : Type 0} (stands : X → StoredHeap → Type 0) (old new : Outside 
     pub none : left ≡ []
     pub calm : new.output_faults ≡ old.output_faults
 
-  -- Of these events a run has done what its result says; where a step broke off after some of them, for such a cause.
-  pub data Shows (Broke : List Event → SwizzleFault → Type 0) (events : List Event) : Result RunEnd SwizzleFault → Type 0 where
+  -- Of these events a run has done what its result says; where a step broke off, for such a cause.
+  pub data Shows (Broke : SwizzleFault → Type 0) (events : List Event) : Result RunEnd SwizzleFault → Type 0 where
     -- all of them, of which the last is the end
     whole : {e : RunEnd} (before : List Event) (counted : ℕ) → events ≡ before ++ Finish (end_of e) counted ∷ [] → HasDone events → Shows Broke events (Ok e)
     -- those before one that it broke off in
-    broke : {fault : SwizzleFault} (before rest : List Event) (next : Event) → events ≡ before ++ next ∷ rest → Broke before fault → HasDone before → Shows Broke events (Err fault)
+    broke : {fault : SwizzleFault} (before rest : List Event) (next : Event) → events ≡ before ++ next ∷ rest → Broke fault → HasDone before → Shows Broke events (Err fault)
     -- those before a commit in which the vault failed
     broke_in : {fault : SwizzleFault} (before rest : List Event) (next : StoredHeap) (counted : ℕ) → events ≡ before ++ Commit next counted ∷ rest
         → BreaksIn before next → IsOfVault fault → Shows Broke events (Err fault)

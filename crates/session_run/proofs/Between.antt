@@ -28,7 +28,7 @@ use Rattle.machine_core.specs.ps_stepping.Plain.{is_plain, is_plain_call, at_pla
 use Rattle.machine_core.specs.ps_stepping.Path.{Reaches, no_step, more}
 use Rattle.machine_core.specs.declared.machine.Machine.{Machine}
 use Rattle.machine_core.specs.declared.run_end.RunEnd.{RunEnd}
-use Rattle.machine_core.specs.Holding.{Holds, IsSound, run_in}
+use Rattle.machine_core.specs.Holding.{Holds, IsSound}
 use Rattle.machine_core.specs.Stepped.{end_of}
 use Rattle.machine_run.specs.Ran.{TellsBut, FailsAfter}
 use Rattle.machine_run.specs.inside.Advancing.{Reports}
@@ -38,7 +38,7 @@ use Rattle.machine_run.proofs.Telling.{but-none}
 use Rattle.database_steps.specs.Databases.{IsAlone}
 use Rattle.database_steps.proofs.Steps.{step_alone}
 use Rattle.session_run.specs.Kept.{Kept, steps_of, reporting}
-use Rattle.session_run.specs.Ran.{BreaksFor, BreaksIn, GoesOn, HasDone, IsCut, HasContent, Ran, ended, broke, broke_in, cut, report_cut}
+use Rattle.session_run.specs.Ran.{BreaksFor, BreaksIn, GoesOn, HasDone, IsCut, Ran, ended, broke, broke_in, cut, report_cut}
 use Rattle.session_run.specs.inside.Advancing.{Advances, ComesTo}
 use Rattle.session_run.specs.declared.advanced.Advanced.TheVariants.{On, Ended, Broke, Failed}
 use Rattle.session_run.proofs.Moments.{steps-append, done-quietly, cut-quietly, done-then, cut-then, breaks-then, events-then, events-cut}
@@ -190,23 +190,20 @@ module _ (old now new : Outside Space) (owed left rest : List ℕ) (m m' next : 
     between_ends final most r goes a report c h alone =
         let w = b.way c h alone in
         let by = a.by w.last w.holds w.alone in
-        let told = (run_in w.holds.held.run).current.told in
         ends w (subst (λ (x : Step). Steps w.last x) by.2.1 by.1)
-        (plus-none (λ (ms : List (Moment Kept)). HasDone old new owed rest ms) (steps_of w.events) (done-then old now new owed left rest (steps_of w.events) w.done [] tt by.2.3))
-        (told.content, by.2.2.kept told.content told.is) r report
+        (plus-none (λ (ms : List (Moment Kept)). HasDone old new owed rest ms) (steps_of w.events) (done-then old now new owed left rest (steps_of w.events) w.done [] tt by.2.2)) r report
       where
         due : rest ++ report_of (end_of next.end) ≡ rest ++ (report_of (end_of next.end) ++ [])
         due = ap (λ (bs : List ℕ). rest ++ bs) (sym (append-nil (report_of (end_of next.end))))
 
-        ends : (w : IsAway old now owed left c m' turns steps) {touched : ℕ} → Steps w.last (Stops (end_of next.end) touched) → HasDone old new owed rest (steps_of w.events) → HasContent new
+        ends : (w : IsAway old now owed left c m' turns steps) {touched : ℕ} → Steps w.last (Stops (end_of next.end) touched) → HasDone old new owed rest (steps_of w.events)
             → (r : Result RunEnd SwizzleFault) → Reports new final rest most next.end r → Ran old final owed most outside m.objects.size c r
-        ends w stops done held (Ok answer) told =
+        ends w stops done (Ok answer) told =
             subst (λ (x : RunEnd). Ran old final owed most outside m.objects.size c (Ok x)) (sym told.0)
             (ended w.way stops
             (done-then old new final owed rest most (steps_of w.events) done (reporting next.end ∷ []) (refl, tt, tt)
-            (done-quietly new final rest most (reporting next.end ∷ []) (refl, tt) (subst (λ (bs : List ℕ). TellsBut new final bs most) due told.1)))
-            (held.0, told.1.tells.first.leaves.contents.kept held.0 held.1))
-        ends w stops done held (Err f) told =
+            (done-quietly new final rest most (reporting next.end ∷ []) (refl, tt) (subst (λ (bs : List ℕ). TellsBut new final bs most) due told.1))))
+        ends w stops done (Err f) told =
             subst (λ (x : SwizzleFault). Ran old final owed most outside m.objects.size c (Err x)) (sym told.0)
             (report_cut next.end w.way stops
             (cut-then old new final owed rest most (steps_of w.events) done (reporting next.end ∷ []) (refl, tt, tt) goes.output

@@ -75,7 +75,7 @@ module _ (old new : Outside Space) (owed : List ℕ) (i : Instr) (own : ℕ) (pl
 
   pub plain-halts : Took stepped.Halts → Plainly old new owed owed (acts i own) m m' Ended
   plain-halts t = record {
-    size = t.size;
+    size = tt;
     cleared = tt;
     by = λ c h. let d = t.does c h in (d.0, sym (plain-is i own c plain) ∙ d.1, but-leaves old new owed quiet);
   }
@@ -217,7 +217,7 @@ module _ (old new : Outside Space) (owed left : List ℕ) (m m' : Machine) (heap
         let quiet = quietly c i p.0 p.1 at plain p.2 in
         (p.0, p.1, p.2, p.3, done-quietly old new owed left (steps_of p.0) quiet (subst (λ (bs : List ℕ). TellsBut old new (owed ++ bs) left) (sym (told-steps p.0)) p.4))
     plain-comes Ended c at plain size p none =
-        (p.0, p.1, p.2.tells.first.leaves.contents, done-quietly old new owed left [] tt (subst (λ (bs : List ℕ). TellsBut old new bs left) (sym (append-nil owed)) p.2))
+        (p.0, p.1, done-quietly old new owed left [] tt (subst (λ (bs : List ℕ). TellsBut old new bs left) (sym (append-nil owed)) p.2))
     plain-comes Broke c at plain size p none =
         inl (inl p.0, done-quietly old new owed left [] tt (subst (λ (bs : List ℕ). TellsBut old new bs left) (sym (append-nil owed)) p.1))
     plain-comes Failed c at plain size p none =

@@ -29,10 +29,6 @@ pub record GoesOn (old new : Outside Space) : Type 0 where
   pub device : old.device_faults ≤ new.device_faults
   pub output : old.output_faults ≤ new.output_faults
 
--- the vault holds something
-abbrev pub HasContent : Outside Space → Type 0
-HasContent outside = (space : Space) × outside.contents space
-
 -- Who else uses the vault, and the most words that it may use, stay.
 abbrev pub SameLimits : {V L : Type 0} → (V → ℕ) → (V → Access L) → V → V → Type 0
 SameLimits most access old new = (most new ≡ most old) × SameUsers (access old) (access new)
@@ -74,9 +70,9 @@ module _ (old new : Outside Space) where
     -- From this configuration on a run had some events up to a last configuration, in an area of this size.
     module _ {V : Type 0} (outside : V → Outside Space) where
       pub data Ran (size : ℕ) (c : Config) : Result RunEnd SwizzleFault → Type 0 where
-        -- the run stopped there: all that the events output, and the report of the end; and a read gives something
+        -- the run stopped there: all that the events output, and the report of the end
         ended : {events : List Event} {last : Config} {e : RunEnd} {touched : ℕ} → Reaches c events last → Steps last (Stops (end_of e) touched)
-            → HasDone (steps_of events ++ reporting e ∷ []) → HasContent new → Ran size c (Ok e)
+            → HasDone (steps_of events ++ reporting e ∷ []) → Ran size c (Ok e)
         -- the next step broke off, at which the vault was seen so
         broke : {events : List Event} {last : Config} {s : machine.Step} {fault : SwizzleFault} (vault : V) → Reaches c events last → Steps last s
             → BreaksFor (outside vault) new size s fault → HasDone (steps_of events) → Ran size c (Err fault)

@@ -4,7 +4,7 @@ ghost use Rattle.machine_core.specs.ps_stepping.Machine.{acts};
 ghost use Rattle.machine_core.specs.Holding.{IsSound};
 ghost use Rattle.machine_core.specs.Naming.{NamesObjects};
 ghost use Rattle.session_run.specs.Ran.{GoesOn, SameLimits};
-ghost use Rattle.session_run.specs.inside.Advancing.{Advances, CausedBy, Does, Unbroken};
+ghost use Rattle.session_run.specs.inside.Advancing.{Advances, CausedBy, Does, StaysAlive, WhereOn};
 
 use crate::advanced::Advanced;
 use crate::calls::{DatabaseCall, database_call};
@@ -30,13 +30,13 @@ pub fn advance<V: Vault>(
     requires writes { (V.access vault.old).writes ≡ true }
     requires room { m.old.objects.size ≤ vec_capacity images.old + 1 }
     ensures advances { Advances (V.outside vault.old) (V.outside vault.new) output.old output.new m.old m.new result }
-    ensures sound { Unbroken result (IsSound m.new) }
-    ensures names { Unbroken result (NamesObjects m.new) }
+    ensures sound { WhereOn result (IsSound m.new) }
+    ensures names { WhereOn result (NamesObjects m.new) }
     ensures seen { GoesOn (V.outside vault.old) (V.outside vault.new) }
     ensures caused { CausedBy (V.outside vault.old) (V.outside vault.new) (V.access vault.old) m.new result }
     ensures limits { SameLimits V.most_words V.access vault.old vault.new }
     ensures room { vec_capacity images.new ≡ vec_capacity images.old }
-    ensures alive { Unbroken result (V.alive vault.new) }
+    ensures alive { StaysAlive result (V.alive vault.new) }
 {
     let own = m.at;
     m.objects.sound();
@@ -68,13 +68,13 @@ fn go<V: Vault>(
     requires writes { (V.access vault.old).writes ≡ true }
     requires room { m.old.objects.size ≤ vec_capacity images.old + 1 }
     ensures does { Does (V.outside vault.old) (V.outside vault.new) output.old output.new instr own m.old m.new result }
-    ensures sound { Unbroken result (IsSound m.new) }
-    ensures names { Unbroken result (NamesObjects m.new) }
+    ensures sound { WhereOn result (IsSound m.new) }
+    ensures names { WhereOn result (NamesObjects m.new) }
     ensures seen { GoesOn (V.outside vault.old) (V.outside vault.new) }
     ensures caused { CausedBy (V.outside vault.old) (V.outside vault.new) (V.access vault.old) m.new result }
     ensures limits { SameLimits V.most_words V.access vault.old vault.new }
     ensures room { vec_capacity images.new ≡ vec_capacity images.old }
-    ensures alive { Unbroken result (V.alive vault.new) }
+    ensures alive { StaysAlive result (V.alive vault.new) }
 {
     match database_call(instr) {
         None => plain(m, vault, output, own, instr),

@@ -8,7 +8,7 @@ ghost use Rattle.machine_core.specs.Naming.{NamesObjects};
 ghost use Rattle.machine_commits.specs.Committing.{commits};
 ghost use Rattle.ps_base.specs.declared.line.Line.{Line};
 ghost use Rattle.session_run.specs.Ran.{GoesOn, SameLimits};
-ghost use Rattle.session_run.specs.inside.Advancing.{CausedBy, Comes, Unbroken};
+ghost use Rattle.session_run.specs.inside.Advancing.{CausedBy, Comes, StaysAlive, WhereOn};
 
 use crate::advanced::Advanced;
 use machine_commits::commits::commit;
@@ -25,12 +25,12 @@ pub fn creates<V: Vault>(m: &mut Machine, vault: &mut V, own: u32) -> Advanced
     requires names { NamesObjects m.old }
     requires alive { V.alive vault.old }
     ensures comes { (output : List ℕ) (line : Line) → Comes (V.outside vault.old) (V.outside vault.new) output output (call_on_heap CreateDatabase line) m.old m.new result }
-    ensures sound { Unbroken result (IsSound m.new) }
-    ensures names { Unbroken result (NamesObjects m.new) }
+    ensures sound { WhereOn result (IsSound m.new) }
+    ensures names { WhereOn result (NamesObjects m.new) }
     ensures seen { GoesOn (V.outside vault.old) (V.outside vault.new) }
     ensures caused { CausedBy (V.outside vault.old) (V.outside vault.new) (V.access vault.old) m.new result }
     ensures numbers { SameNumbers V.used_words V.directory_at V.most_words V.access vault.old vault.new }
-    ensures alive { Unbroken result (V.alive vault.new) }
+    ensures alive { StaysAlive result (V.alive vault.new) }
 {
     match create_database(m, vault) {
         Stepped::Quiet => Advanced::On,
@@ -49,12 +49,12 @@ pub fn opens<V: Vault>(m: &mut Machine, vault: &mut V, own: u32) -> Advanced
     requires names { NamesObjects m.old }
     requires alive { V.alive vault.old }
     ensures comes { (output : List ℕ) (line : Line) → Comes (V.outside vault.old) (V.outside vault.new) output output (call_on_heap OpenDatabase line) m.old m.new result }
-    ensures sound { Unbroken result (IsSound m.new) }
-    ensures names { Unbroken result (NamesObjects m.new) }
+    ensures sound { WhereOn result (IsSound m.new) }
+    ensures names { WhereOn result (NamesObjects m.new) }
     ensures seen { GoesOn (V.outside vault.old) (V.outside vault.new) }
     ensures caused { CausedBy (V.outside vault.old) (V.outside vault.new) (V.access vault.old) m.new result }
     ensures numbers { SameNumbers V.used_words V.directory_at V.most_words V.access vault.old vault.new }
-    ensures alive { Unbroken result (V.alive vault.new) }
+    ensures alive { StaysAlive result (V.alive vault.new) }
 {
     match open_database(m, vault) {
         Stepped::Quiet => Advanced::On,
@@ -81,13 +81,13 @@ pub fn commits<V: Vault>(
     requires writes { (V.access vault.old).writes ≡ true }
     requires room { m.old.objects.size ≤ vec_capacity images.old + 1 }
     ensures comes { Comes (V.outside vault.old) (V.outside vault.new) output.old output.new commits m.old m.new result }
-    ensures sound { Unbroken result (IsSound m.new) }
-    ensures names { Unbroken result (NamesObjects m.new) }
+    ensures sound { WhereOn result (IsSound m.new) }
+    ensures names { WhereOn result (NamesObjects m.new) }
     ensures seen { GoesOn (V.outside vault.old) (V.outside vault.new) }
     ensures caused { CausedBy (V.outside vault.old) (V.outside vault.new) (V.access vault.old) m.new result }
     ensures limits { SameLimits V.most_words V.access vault.old vault.new }
     ensures room { vec_capacity images.new ≡ vec_capacity images.old }
-    ensures alive { Unbroken result (V.alive vault.new) }
+    ensures alive { StaysAlive result (V.alive vault.new) }
 {
     m.objects.sound();
     match output.flush(vault) {

@@ -6,7 +6,7 @@ ghost use Rattle.machine_core.specs.ps_stepping.Plain.{is_plain};
 ghost use Rattle.machine_core.specs.Holding.{IsSound};
 ghost use Rattle.machine_core.specs.Naming.{NamesObjects};
 ghost use Rattle.session_run.specs.Ran.{GoesOn};
-ghost use Rattle.session_run.specs.inside.Advancing.{CausedBy, Plainly, Unbroken};
+ghost use Rattle.session_run.specs.inside.Advancing.{CausedBy, Plainly, StaysAlive, WhereOn};
 
 use crate::advanced::{Advanced, on_where};
 use machine_core::obj_layout::vault::Vault;
@@ -30,12 +30,12 @@ pub fn plain<V: Vault>(
     requires alive { V.alive vault.old }
     requires plain { is_plain instr ≡ true }
     ensures goes { Plainly (V.outside vault.old) (V.outside vault.new) output.old output.new (acts instr own) m.old m.new result }
-    ensures sound { Unbroken result (IsSound m.new) }
-    ensures names { Unbroken result (NamesObjects m.new) }
+    ensures sound { WhereOn result (IsSound m.new) }
+    ensures names { WhereOn result (NamesObjects m.new) }
     ensures seen { GoesOn (V.outside vault.old) (V.outside vault.new) }
     ensures caused { CausedBy (V.outside vault.old) (V.outside vault.new) (V.access vault.old) m.new result }
     ensures numbers { SameNumbers V.used_words V.directory_at V.most_words V.access vault.old vault.new }
-    ensures alive { Unbroken result (V.alive vault.new) }
+    ensures alive { StaysAlive result (V.alive vault.new) }
 {
     match act(m, vault, own, instr) {
         Stepped::Quiet => Advanced::On,

@@ -22,7 +22,7 @@ const STEPS_IN_A_TURN: u64 = 1 << 43;
 /// buffer of the output is full, and the rest is pending after the run. It takes no memory; the images of a commit are made in the buffer, which grows within
 /// what is reserved. Where the run breaks off, the fault says why: the area has no room for an object, the device failed, the vault is full or lacks pages, an object
 /// that was to be fetched or the code is damaged, or the output failed; where the output or a commit failed nothing is pending. It always ends. After a fault the
-/// machine is of no use until a unit is loaded, and after one of the vault that isn't alive. Where it ended, the machine takes another unit, and what it left is held.
+/// machine is of no use until a unit is loaded, and after one of the vault that isn't alive.
 pub fn run<V: Vault>(
     m: &mut Machine,
     vault: &mut V,
@@ -41,9 +41,6 @@ pub fn run<V: Vault>(
     ensures limits { SameLimits V.most_words V.access vault.old vault.new }
     ensures room { vec_capacity images.new ≡ vec_capacity images.old }
     ensures alive { OnOk result (V.alive vault.new) }
-    ensures sound { OnOk result (IsSound m.new) }
-    ensures names { OnOk result (NamesObjects m.new) }
-    ensures size { OnOk result (m.new.objects.size ≡ m.old.objects.size) }
 {
     let mut turns = m.turns;
     let mut steps = STEPS_IN_A_TURN;

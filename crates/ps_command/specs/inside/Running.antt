@@ -1,4 +1,4 @@
--- A series over the store of a volume, and what was done then with what was pending.
+-- A run over the store of a volume, and what was done then with what was pending.
 use Rattle.std.specs.Prelude.{◌≡◌, ◌≢◌, ◌⊎◌, ℕ, ◌≤◌, Bool, true, List, [], Result, Ok, Err, IfErr}
 use Rattle.ps_port.specs.ps_outside.Outside.{Outside}
 use Rattle.ps_port.specs.Telling.{TellsAll, FailsAfter, LeavesDevice}
@@ -6,14 +6,14 @@ use Rattle.ps_causes.specs.obj_store.Store.{Store, access_of, outside_of}
 use Rattle.session_run.specs.machine_core.obj_layout.declared.vault.VaultFault.TheVariants.{Device, Output, Full, NoPages, Damaged}
 use Rattle.session_run.specs.machine_core.swizzle.declared.fault.SwizzleFault.{SwizzleFault}
 use Rattle.session_run.specs.machine_core.swizzle.declared.fault.SwizzleFault.TheVariants.{AreaFull, Vault}
+use Rattle.session_run.specs.machine_core.declared.machine.Machine.{Machine}
 use Rattle.session_run.specs.machine_core.declared.run_end.RunEnd.{RunEnd}
 use Rattle.session_run.specs.machine_core.declared.run_end.RunEnd.TheVariants.{Done, Trapped, OutOfTurns}
+use Rattle.session_run.specs.machine_core.Holding.{Holds}
+use Rattle.session_run.specs.machine_core.ps_stepping.Config.{Config}
+use Rattle.session_run.specs.Ran as session
 use Rattle.session_run.specs.Ran.{GoesOn, IsCause}
-use Rattle.ps_base.specs.declared.code_unit.CodeUnit.{CodeUnit}
-use Rattle.ps_program.specs.Node.{BodyNode}
-use Rattle.ps_series.specs.Programs.{AreInputs, AreUnitsOf, ShowsSeries}
-use Rattle.std.specs.declared.alloc.Global.{Global}
-use Rattle.std.specs.declared.vec.Vec.{Vec}
+use Rattle.database_steps.specs.Databases.{IsAlone}
 use Rattle.ps_causes.specs.ps_reports.declared.status.Status.{Status}
 use Rattle.ps_causes.specs.ps_reports.declared.status.Status.TheVariants as status
 use Rattle.ps_causes.specs.ps_reports.declared.report.Report.{Report}
@@ -56,13 +56,13 @@ pub data Leaves {H : Type 0} (outside : H → Outside (List ℕ)) (ran : Store H
       → Leaves outside ran left result new (Ok status.Output)
   cut : result ≡ Err (Vault Output) → new ≡ ran.host → Leaves outside ran left result new (Ok status.Output)
 
--- Of each programs of which these are the units the series went on so, in an area of this size, with each of these inputs; and this was its end.
-pub record RanBy {H : Type 0} (outside : H → Outside (List ℕ)) (attached : Store H) (size turns : ℕ) (units : List CodeUnit) (inputs : List (Vec ℕ Global)) (new : H) (answer : Result Status Report) : Type 0 where
+-- From each configuration that the machine holds beside the store, of a run that is alone, the run went on so; and this was its end.
+pub record RanBy {H : Type 0} (outside : H → Outside (List ℕ)) (attached : Store H) (m : Machine) (new : H) (answer : Result Status Report) : Type 0 where
   pub ran : Store H
   pub left : List ℕ
   pub result : Result RunEnd SwizzleFault
-  pub runs : (input : List ℕ) (programs : List BodyNode) → AreInputs input inputs → AreUnitsOf turns input units programs
-      → ShowsSeries (outside_of outside) (outside_of outside attached) (outside_of outside ran) turns input size [] left programs result
+  pub runs : (c : Config) → Holds (outside_of outside attached) m c → IsAlone c.store.held
+      → session.Ran (outside_of outside attached) (outside_of outside ran) [] left (outside_of outside) m.objects.size c result
   pub goes : GoesOn (outside_of outside attached) (outside_of outside ran)
   pub caused : IfErr result (IsCause (outside_of outside attached) (outside_of outside ran) (access_of attached))
   pub leaves : Leaves outside ran left result new answer

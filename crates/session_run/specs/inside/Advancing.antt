@@ -1,7 +1,7 @@
 -- What one step of a run does and outputs, or how far it came where it broke off.
 use Rattle.std.specs.Prelude.{◌≡◌, ◌⊎◌, ℕ, Bool, true, false, List, [], ◌∷◌, ◌++◌}
 use Rattle.ps_base.specs.declared.instr.Instr.{Instr}
-use Rattle.machine_core.specs.ps_outside.Outside.{Outside, SameContents, Rose}
+use Rattle.machine_core.specs.ps_outside.Outside.{Outside, Rose}
 use Rattle.machine_core.specs.obj_layout.Stored.{Space}
 use Rattle.machine_core.specs.obj_layout.Storing.{Access}
 use Rattle.machine_core.specs.swizzle.declared.fault.SwizzleFault.{SwizzleFault}
@@ -22,16 +22,21 @@ use Rattle.session_run.specs.Ran.{IsCause, BreaksFor, HasDone, IsCut, BreaksIn}
 use Rattle.session_run.specs.declared.advanced.Advanced.{Advanced}
 use Rattle.session_run.specs.declared.advanced.Advanced.TheVariants.{On, Ended, Broke, Failed}
 
+-- what is so where a run goes on
+abbrev pub WhereOn : Advanced → Type 0 → Type 0
+WhereOn On so = so
+WhereOn _ so = Unit {0}
+
 -- and where the output failed
 abbrev pub WhereFailed : Advanced → Type 0 → Type 0
 WhereFailed Failed so = so
 WhereFailed _ so = Unit {0}
 
--- what is so where a run goes on or ends
-abbrev pub Unbroken : Advanced → Type 0 → Type 0
-Unbroken On so = so
-Unbroken Ended so = so
-Unbroken _ so = Unit {0}
+-- the vault is alive where a run goes on or ends
+abbrev pub StaysAlive : Advanced → Type 0 → Type 0
+StaysAlive On so = so
+StaysAlive Ended so = so
+StaysAlive _ so = Unit {0}
 
 -- how far a step came that sent what was due, or failed to
 abbrev pub advanced_where : Bool → Advanced
@@ -56,7 +61,7 @@ module _ (old new : Outside Space) where
 
     -- From each configuration that the machine holds, after the instruction, that is what came of it.
     pub record Plainly (of : Config → Step) (m m' : Machine) (answer : Advanced) : Type 0 where
-      pub size : Unbroken answer (m'.objects.size ≡ m.objects.size)
+      pub size : WhereOn answer (m'.objects.size ≡ m.objects.size)
       pub cleared : WhereFailed answer (left ≡ [])
       pub by : (c : Config) → Holds old m c → PlainlyTo m.objects.size (of c) m' answer
 
@@ -69,13 +74,13 @@ module _ (old new : Outside Space) where
     -- step outputs.
     abbrev pub ComesTo : ℕ → Step → Machine → Advanced → Type 0
     ComesTo size s m On = (events : List Event) × (next : Config) × (s ≡ Goes events next) × Holds new m next × HasDone old new owed left (steps_of events)
-    ComesTo size s m Ended = (touched : ℕ) × (s ≡ Stops (end_of m.end) touched) × SameContents old new × HasDone old new owed left []
+    ComesTo size s m Ended = (touched : ℕ) × (s ≡ Stops (end_of m.end) touched) × HasDone old new owed left []
     ComesTo size s m Broke = (BreaksFor old new size s m.fault × HasDone old new owed left []) ⊎ CommitBreaks s m.fault
     ComesTo size s m Failed = IsCut old new owed left [] ⊎ ((events : List Event) × (next : Config) × (s ≡ Goes events next) × IsCut old new owed left (steps_of events))
 
     -- From each configuration that the machine holds, after the instruction, of a run that is alone.
     pub record Comes (of : Config → Step) (m m' : Machine) (answer : Advanced) : Type 0 where
-      pub size : Unbroken answer (m'.objects.size ≡ m.objects.size)
+      pub size : WhereOn answer (m'.objects.size ≡ m.objects.size)
       pub by : (c : Config) → Holds old m c → IsAlone c.store.held → ComesTo m.objects.size (of c) m' answer
 
     -- What came of an instruction, whose own offset this is: one that isn't of databases, or one that is.
@@ -85,5 +90,5 @@ module _ (old new : Outside Space) where
 
     -- From each configuration that the machine holds, of a run that is alone, that is what came of its step.
     pub record Advances (m m' : Machine) (answer : Advanced) : Type 0 where
-      pub size : Unbroken answer (m'.objects.size ≡ m.objects.size)
+      pub size : WhereOn answer (m'.objects.size ≡ m.objects.size)
       pub by : (c : Config) → Holds old m c → IsAlone c.store.held → (s : Step) × Steps c s × ComesTo m.objects.size s m' answer

@@ -1,9 +1,8 @@
 use Rattle.std.proofs.Common.{Some, refl}
 use Rattle.ps_port.specs.ps_outside.Outside.{Rose}
 use Rattle.ps_args.specs.Words.{a_run}
-use Rattle.ps_causes.proofs.Converse.{first_fault_is_told as lemma}
+use Rattle.ps_causes.proofs.Converse.{first_fault_is_told}
 use Rattle.ps_causes.proofs.laws.first_fault_is_told.Goals as goal
 
 pub returns : goal.returns
-returns g c before after answered run names behind programs name files has text stage number line held short fault why =
-    lemma (Some (a_run run)) (g.S.Shelf.holds c.args.shelf.now) (g.S.Shelf.lacks c.args.shelf.now) (g.S.Shelf.may_fail c.args.shelf.now) (Rose before after) (g.H.Host.outside c.args.host.now) (g.H.Host.outside c.args.back.now) run refl names behind programs name files has text held stage number line answered short fault why
+returns g c before after answered text stage run number line held short fault why = first_fault_is_told (Some (a_run run)) (g.S.Shelf.holds c.args.shelf.now) (g.S.Shelf.lacks c.args.shelf.now) (g.S.Shelf.may_fail c.args.shelf.now) (Rose before after) (g.H.Host.outside c.args.host.now) (g.H.Host.outside c.args.back.now) run text refl held stage number line answered short fault why

@@ -5,5 +5,5 @@ use Rattle.ps_causes.proofs.Converse.{lacked_input as lemma}
 use Rattle.ps_causes.proofs.laws.lacked_input_is_unreadable.Goals as goal
 
 pub returns : goal.returns
-returns g c before after answered run programs name has named lacking why =
-    lemma (Some (a_run run)) (g.S.Shelf.holds c.args.shelf.now) (g.S.Shelf.lacks c.args.shelf.now) (g.S.Shelf.may_fail c.args.shelf.now) (Rose before after) (g.H.Host.outside c.args.host.now) (g.H.Host.outside c.args.back.now) run refl programs has name named answered lacking why
+returns g c before after answered text name run program held short prog named lacking why =
+    lemma (Some (a_run run)) (g.S.Shelf.holds c.args.shelf.now) (g.S.Shelf.lacks c.args.shelf.now) (g.S.Shelf.may_fail c.args.shelf.now) (Rose before after) (g.H.Host.outside c.args.host.now) (g.H.Host.outside c.args.back.now) run text refl held program short prog name named answered lacking why

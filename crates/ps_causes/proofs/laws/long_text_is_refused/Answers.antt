@@ -1,9 +1,8 @@
 use Rattle.std.proofs.Common.{Some, refl}
 use Rattle.ps_port.specs.ps_outside.Outside.{Rose}
 use Rattle.ps_args.specs.Words.{a_run}
-use Rattle.ps_causes.proofs.Converse.{long_text as lemma}
+use Rattle.ps_causes.proofs.Converse.{long_text}
 use Rattle.ps_causes.proofs.laws.long_text_is_refused.Goals as goal
 
 pub returns : goal.returns
-returns g c before after answered run names behind programs name files has text held long why =
-    lemma (Some (a_run run)) (g.S.Shelf.holds c.args.shelf.now) (g.S.Shelf.lacks c.args.shelf.now) (g.S.Shelf.may_fail c.args.shelf.now) (Rose before after) (g.H.Host.outside c.args.host.now) (g.H.Host.outside c.args.back.now) run refl names behind programs name files has text held answered long why
+returns g c before after answered text run held long why = long_text (Some (a_run run)) (g.S.Shelf.holds c.args.shelf.now) (g.S.Shelf.lacks c.args.shelf.now) (g.S.Shelf.may_fail c.args.shelf.now) (Rose before after) (g.H.Host.outside c.args.host.now) (g.H.Host.outside c.args.back.now) run text refl held answered long why

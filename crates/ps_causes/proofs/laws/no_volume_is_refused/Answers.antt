@@ -1,9 +1,9 @@
 use Rattle.std.proofs.Common.{Some, refl}
 use Rattle.ps_port.specs.ps_outside.Outside.{Rose}
 use Rattle.ps_args.specs.Words.{a_run}
-use Rattle.ps_causes.proofs.Converse.{no_volume_refused as lemma}
+use Rattle.ps_causes.proofs.Converse.{no_volume_refused}
 use Rattle.ps_causes.proofs.laws.no_volume_is_refused.Goals as goal
 
 pub returns : goal.returns
-returns g c before after answered run programs input has held content size gate told found why =
-    lemma (Some (a_run run)) (g.S.Shelf.holds c.args.shelf.now) (g.S.Shelf.lacks c.args.shelf.now) (g.S.Shelf.may_fail c.args.shelf.now) (Rose before after) (g.H.Host.outside c.args.host.now) (g.H.Host.outside c.args.back.now) run refl programs has input content held told size gate answered found why
+returns g c before after answered text input run program held short prog has content size gate told found why =
+    no_volume_refused (Some (a_run run)) (g.S.Shelf.holds c.args.shelf.now) (g.S.Shelf.lacks c.args.shelf.now) (g.S.Shelf.may_fail c.args.shelf.now) (Rose before after) (g.H.Host.outside c.args.host.now) (g.H.Host.outside c.args.back.now) run text refl held program short prog input content has told size gate answered found why

@@ -1,9 +1,0 @@
-use Rattle.std.proofs.Common.{Some, refl}
-use Rattle.ps_port.specs.ps_outside.Outside.{Rose}
-use Rattle.ps_args.specs.Words.{a_run}
-use Rattle.ps_causes.proofs.Converse.{programs_are_run as lemma}
-use Rattle.ps_causes.proofs.laws.programs_are_run.Goals as goal
-
-pub returns : goal.returns
-returns g c before after answered run programs input has held content told has_one why =
-    lemma (Some (a_run run)) (g.S.Shelf.holds c.args.shelf.now) (g.S.Shelf.lacks c.args.shelf.now) (g.S.Shelf.may_fail c.args.shelf.now) (Rose before after) (g.H.Host.outside c.args.host.now) (g.H.Host.outside c.args.back.now) run refl programs has input content answered held told has_one why
